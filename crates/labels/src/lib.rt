@@ -1,0 +1,182 @@
+// A set of labels 0 to 255, held in four words by value.
+ghost use mathlib.Core.Path.{_≡_};
+ghost use mathlib.Core.List.{_++_};
+ghost use Prim.Native.Nat.{ℕ, _+_, _≤_};
+ghost use lib.ListN.{length, drop};
+ghost use lib.Seq.{sets};
+ghost use Rattle.labels.specs.Sets.{noLabels, oneLabel, _∪_, wordOf, has};
+ghost use Rattle.labels.specs.Search.{countOf, nextFrom};
+ghost use Rattle.labels.specs.Bytes.{lowBytes, numberAt, labelBytes, labelsFrom};
+
+pub struct Labels {
+    pub w0: u64,
+    pub w1: u64,
+    pub w2: u64,
+    pub w3: u64,
+}
+
+// What a search for the next label finds.
+pub enum NextLabel {
+    At(u8),
+    Nothing,
+}
+
+impl Labels {
+    pub const EMPTY: Labels = Labels {
+        w0: 0,
+        w1: 0,
+        w2: 0,
+        w3: 0,
+    };
+
+    // The set of one label.
+    pub fn one(label: u8) -> Labels
+        ensures { λ r. ⌜ r ≡ oneLabel label ⌝ }
+    {
+        let bit = 1u64 << (label % 64);
+        if label < 64 {
+            return Labels {
+                w0: bit,
+                w1: 0,
+                w2: 0,
+                w3: 0,
+            };
+        }
+        if label < 128 {
+            return Labels {
+                w0: 0,
+                w1: bit,
+                w2: 0,
+                w3: 0,
+            };
+        }
+        if label < 192 {
+            return Labels {
+                w0: 0,
+                w1: 0,
+                w2: bit,
+                w3: 0,
+            };
+        }
+        Labels {
+            w0: 0,
+            w1: 0,
+            w2: 0,
+            w3: bit,
+        }
+    }
+
+    pub fn union(self, other: Labels) -> Labels
+        ensures { λ r. ⌜ r ≡ self ∪ other ⌝ }
+    {
+        Labels {
+            w0: self.w0 | other.w0,
+            w1: self.w1 | other.w1,
+            w2: self.w2 | other.w2,
+            w3: self.w3 | other.w3,
+        }
+    }
+
+    // The word that a label stands in.
+    fn word(self, label: u8) -> u64
+        ensures { λ r. ⌜ r ≡ wordOf self label ⌝ }
+    {
+        if label < 64 {
+            return self.w0;
+        }
+        if label < 128 {
+            return self.w1;
+        }
+        if label < 192 {
+            return self.w2;
+        }
+        self.w3
+    }
+
+    pub fn contains(self, label: u8) -> bool
+        ensures { λ r. ⌜ r ≡ has self label ⌝ }
+    {
+        (self.word(label) >> (label % 64)) % 2 == 1
+    }
+
+    pub fn count(self) -> u16
+        ensures { λ r. ⌜ r ≡ countOf self ⌝ }
+    {
+        let low = u64::count_ones(self.w0) + u64::count_ones(self.w1);
+        let high = u64::count_ones(self.w2) + u64::count_ones(self.w3);
+        (low + high) as u16
+    }
+
+    // The least label of the set at or above `from`: each turn looks at the rest of one word.
+    pub fn next(self, from: u16) -> NextLabel
+        ensures { λ r. ⌜ r ≡ nextFrom self from ⌝ }
+    {
+        let mut at = from;
+        while at < 256 {
+            let rest = self.word(at as u8) >> (at % 64);
+            if rest != 0 {
+                return NextLabel::At((at + u64::trailing_zeros(rest) as u16) as u8);
+            }
+            at = at / 64 * 64 + 64;
+        }
+        NextLabel::Nothing
+    }
+
+    // Writes the 32 bytes at the start of `out`.
+    pub fn to_slice(self, out: &mut [u8])
+        requires { ⌜ 32 ≤ length (now out) ⌝ }
+        ensures { λ _. ⌜ now (out .exit) ≡ labelBytes self ++ drop 32 (now (out .entry)) ⌝ }
+    {
+        put_word(out, 0, self.w0);
+        put_word(out, 8, self.w1);
+        put_word(out, 16, self.w2);
+        put_word(out, 24, self.w3);
+    }
+
+    // Reads the first 32 bytes.
+    pub fn from_slice(b: &[u8]) -> Labels
+        requires { ⌜ 32 ≤ length (now b) ⌝ }
+        ensures { λ r. ⌜ r ≡ labelsFrom (now (b .entry)) ⌝ }
+    {
+        Labels {
+            w0: read_word(b, 0),
+            w1: read_word(b, 8),
+            w2: read_word(b, 16),
+            w3: read_word(b, 24),
+        }
+    }
+}
+
+fn wide(b: u8) -> u64
+    ensures { λ r. ⌜ r ≡ b ⌝ }
+{
+    b as u64
+}
+
+// Lowest byte first.
+fn put_word(out: &mut [u8], at: usize, word: u64)
+    requires { ⌜ at + 8 ≤ length (now out) ⌝ }
+    ensures { λ _. ⌜ now (out .exit) ≡ sets (now (out .entry)) at (lowBytes 8 word) ⌝ }
+{
+    let mut left = word;
+    let mut i = 0;
+    while i < 8 {
+        out[at + i] = (left % 256) as u8;
+        left /= 256;
+        i += 1;
+    }
+}
+
+// Goes down from the highest byte, which comes last.
+fn read_word(b: &[u8], at: usize) -> u64
+    requires { ⌜ at + 8 ≤ length (now b) ⌝ }
+    ensures { λ r. ⌜ r ≡ numberAt (now (b .entry)) at 8 ⌝ }
+{
+    let mut word: u64 = 0;
+    let mut i = 8;
+    while 0 < i {
+        i -= 1;
+        word = word * 256 + wide(b[at + i]);
+    }
+    word
+}

@@ -1,0 +1,38 @@
+-- A whole compile and a whole schedule with every definition opened, so that the cases compute.
+use Prim.Native.Nat.{ℕ}
+use mathlib.Core.List.{List}
+use Rattle.values.specs.Numbers.{Said}
+use Rattle.rules.specs.Compile.{Effect}
+use Rattle.labels.specs.Sets.{noLabels, bitOf, oneLabel, _∪_, wordOf, has}
+use Rattle.labels.specs.Bytes.{lowBytes, numberAt, labelBytes, labelsFrom}
+use Rattle.labels.specs.Search.{tally, countBelow, countOf, firstOf, nextFrom}
+use Rattle.values.specs.Numbers.{numberOf, said}
+use Rattle.rules.specs.Bytes.{two, fieldsUp, fieldsIn}
+use Rattle.rules.specs.Format.{allowed, forms, formIn, formOf, size, headSize, take, follow, partMayEnd, mayEnd, restRight, lengthRight, pieceRight, bytesRight, nameRight, namesRight}
+use Rattle.rules.specs.Check.{header, walk, rest, body, inside, shape, ascends, text, risingFrom, rising, stride, placesUp, placesIn, namesKnown, stringPlaces, check}
+use Rattle.rules.specs.Fields.{readEach, readBody, readField, readAll, wrap, write, writeAll, headOf, tagOf, inner, first, others}
+use Rattle.rules.specs.Tree.{placeOf}
+use Rattle.rules.specs.Read.{entryFor, number, signed64, valueFrom, constantFrom, operators, operatorFrom, isDefault, expressionTags, armFrom, armsFrom, expressionBy, expressionIn, expressionFrom, attributeFrom, attributesFrom, statementTags, branchFrom, branchesFrom, statementBy, statementIn, statementsFrom, blockIn, blockFrom, defaultFrom, parameterFrom, parametersFrom, lastOf, lastBlock, parentFrom, afterParent, namesFrom, devicesFrom, itemTags, itemBy, itemFrom, itemsFrom, stringsFrom, manifestFrom, manifestOf}
+use Rattle.rules.specs.Outcome.{_>>=_, refuseIf, orRefuse, at, joining, _▷_}
+use Rattle.rules.specs.Arithmetic.{integerIn, stringIn, booleanIn, fits64, inRange, isZero, floorDivide, sum, difference, quotient, isGreater, sameInteger, sameValue}
+use Rattle.rules.specs.State.{sameScope, baseScopes, noCell, valueInto, markInto, freed, count, newCells, isDeclared, takeStep, cellsFor, isSome, oneIf, assign, trailWith, tested, declared, free, withEntry}
+use Rattle.rules.specs.Evaluate.{any, firstWith, isEntry, isAttribute, findType, findClass, isType, isClass, orElse, readIn, readAttribute, integers, booleans, operate, ofConstant, evaluate, select}
+use Rattle.rules.specs.Catalog.{highBytes, fieldBytes, word64, booleanByte, valueBytes, attributeBytes, attributesBytes, entryBytes, catalogBytes, bodiesUp, bodies, valueOf, attributeOf, attributesOf, entryOf, entriesOf, readCatalog}
+use Rattle.rules.specs.Run.{assigns, assignsIn, assignsAny, declares, declaresIn, declaresAny, storedLabels, conditionLabels, inBranch, stored, store, isGiven, evaluateAll, namedOnce, isParameter, parametersKnown, defaultOf, givenOr, parameterValues, storeAll, storeTitle, attributesUnder, entryFrom, addEntry, addResource, triedLabels, afterTest, statementPlace, run, runBlock, runBranch, underBase, underParent, classAbove, inClass, inBody, parentFirst, enterClass, declarationPlace, declaration, runAtTop, topContext, nodeContext, definedName, definedPlace, isDefinition, isTaken, withDefinition, runItems}
+use Rattle.rules.specs.Compile.{sameBytes, stringAt, stringNumber, builtInTypes, titleText, isBuiltIn, knownFirst, names, isDefaultNode, withoutNodes, withNode, isNode, itemsFor, roomIn, start, runManifest, checked, finalState, onto, entriesInOrder, compiledFrom, compiled, answerOf, outputAfter, memoryAfter, compile}
+use Rattle.rules.specs.Schedule.{digits, decimal, signedDecimal, booleanText, valueText, labelsUp, withCommas, labelsText, lineStart, attributeLine, attributeLines, entryLinesBy, entryLines, stepsLine, refusalLine, textOf, beforeFeed, afterFeed, schedule}
+
+-- an answer in document 01's numbers, and all bytes of the output
+pub record Seen : Type 0 where
+  pub answer : Said
+  pub output : List ℕ
+
+unfoldable pub seen : (manifest device : List ℕ) → (limit output memory : ℕ) → Seen
+unfolding noLabels bitOf oneLabel _∪_ wordOf has lowBytes numberAt labelBytes labelsFrom tally countBelow countOf firstOf nextFrom numberOf said two fieldsUp fieldsIn allowed forms formIn formOf size headSize take follow partMayEnd mayEnd restRight lengthRight pieceRight bytesRight nameRight namesRight header walk rest body inside shape ascends text risingFrom rising stride placesUp placesIn namesKnown stringPlaces check readEach readBody readField readAll wrap write writeAll headOf tagOf inner first others placeOf entryFor number signed64 valueFrom constantFrom operators operatorFrom isDefault expressionTags armFrom armsFrom expressionBy expressionIn expressionFrom attributeFrom attributesFrom statementTags branchFrom branchesFrom statementBy statementIn statementsFrom blockIn blockFrom defaultFrom parameterFrom parametersFrom lastOf lastBlock parentFrom afterParent namesFrom devicesFrom itemTags itemBy itemFrom itemsFrom stringsFrom manifestFrom manifestOf _>>=_ refuseIf orRefuse at joining _▷_ integerIn stringIn booleanIn fits64 inRange isZero floorDivide sum difference quotient isGreater sameInteger sameValue sameScope baseScopes noCell valueInto markInto freed count newCells isDeclared takeStep cellsFor isSome oneIf assign trailWith tested declared free withEntry any firstWith isEntry isAttribute findType findClass isType isClass orElse readIn readAttribute integers booleans operate ofConstant evaluate select highBytes fieldBytes word64 booleanByte valueBytes attributeBytes attributesBytes entryBytes catalogBytes bodiesUp bodies valueOf attributeOf attributesOf entryOf entriesOf readCatalog assigns assignsIn assignsAny declares declaresIn declaresAny storedLabels conditionLabels inBranch stored store isGiven evaluateAll namedOnce isParameter parametersKnown defaultOf givenOr parameterValues storeAll storeTitle attributesUnder entryFrom addEntry addResource triedLabels afterTest statementPlace run runBlock runBranch underBase underParent classAbove inClass inBody parentFirst enterClass declarationPlace declaration runAtTop topContext nodeContext definedName definedPlace isDefinition isTaken withDefinition runItems sameBytes stringAt stringNumber builtInTypes titleText isBuiltIn knownFirst names isDefaultNode withoutNodes withNode isNode itemsFor roomIn start runManifest checked finalState onto entriesInOrder compiledFrom compiled answerOf outputAfter memoryAfter compile digits decimal signedDecimal booleanText valueText labelsUp withCommas labelsText lineStart attributeLine attributeLines entryLinesBy entryLines stepsLine refusalLine textOf beforeFeed afterFeed schedule
+seen m device limit output memory =
+    let e : Effect = compile m device limit output memory in
+    record { answer = said (e .answer); output = e .output }
+
+unfoldable pub printed : List ℕ → List ℕ
+unfolding noLabels bitOf oneLabel _∪_ wordOf has lowBytes numberAt labelBytes labelsFrom tally countBelow countOf firstOf nextFrom numberOf said two fieldsUp fieldsIn allowed forms formIn formOf size headSize take follow partMayEnd mayEnd restRight lengthRight pieceRight bytesRight nameRight namesRight header walk rest body inside shape ascends text risingFrom rising stride placesUp placesIn namesKnown stringPlaces check readEach readBody readField readAll wrap write writeAll headOf tagOf inner first others placeOf entryFor number signed64 valueFrom constantFrom operators operatorFrom isDefault expressionTags armFrom armsFrom expressionBy expressionIn expressionFrom attributeFrom attributesFrom statementTags branchFrom branchesFrom statementBy statementIn statementsFrom blockIn blockFrom defaultFrom parameterFrom parametersFrom lastOf lastBlock parentFrom afterParent namesFrom devicesFrom itemTags itemBy itemFrom itemsFrom stringsFrom manifestFrom manifestOf _>>=_ refuseIf orRefuse at joining _▷_ integerIn stringIn booleanIn fits64 inRange isZero floorDivide sum difference quotient isGreater sameInteger sameValue sameScope baseScopes noCell valueInto markInto freed count newCells isDeclared takeStep cellsFor isSome oneIf assign trailWith tested declared free withEntry any firstWith isEntry isAttribute findType findClass isType isClass orElse readIn readAttribute integers booleans operate ofConstant evaluate select highBytes fieldBytes word64 booleanByte valueBytes attributeBytes attributesBytes entryBytes catalogBytes bodiesUp bodies valueOf attributeOf attributesOf entryOf entriesOf readCatalog assigns assignsIn assignsAny declares declaresIn declaresAny storedLabels conditionLabels inBranch stored store isGiven evaluateAll namedOnce isParameter parametersKnown defaultOf givenOr parameterValues storeAll storeTitle attributesUnder entryFrom addEntry addResource triedLabels afterTest statementPlace run runBlock runBranch underBase underParent classAbove inClass inBody parentFirst enterClass declarationPlace declaration runAtTop topContext nodeContext definedName definedPlace isDefinition isTaken withDefinition runItems sameBytes stringAt stringNumber builtInTypes titleText isBuiltIn knownFirst names isDefaultNode withoutNodes withNode isNode itemsFor roomIn start runManifest checked finalState onto entriesInOrder compiledFrom compiled answerOf outputAfter memoryAfter compile digits decimal signedDecimal booleanText valueText labelsUp withCommas labelsText lineStart attributeLine attributeLines entryLinesBy entryLines stepsLine refusalLine textOf beforeFeed afterFeed schedule
+printed input = schedule input

@@ -1,0 +1,4 @@
+pub mod Computing
+pub mod Rows
+pub mod Cases
+pub mod Same

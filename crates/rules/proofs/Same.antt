@@ -1,0 +1,102 @@
+-- Two trees that are one tree: the same but for places, and for constants whose labels are in D, the labels of differing constants.
+use Prim.Native.Nat.{ℕ}
+use mathlib.Core.Path.{_≡_}
+use mathlib.Core.Logic.{_⊎_}
+use mathlib.Core.List.{List, [], _∷_}
+use mathlib.Core.Option.{Option, none, some}
+use Rattle.labels.specs.declared.Labels.{Labels}
+use Rattle.labels.specs.Sets.{has}
+use Rattle.values.specs.declared.Value.{Value}
+use mathlib.Core.Bool.{true}
+use Rattle.rules.specs.Tree.{Constant, Operator, Expression, constant, variable, topVariable, classVariable, operation, negation, attributeRead, selector, Arms, noArm, arm, defaultArm, AttributeField, Statement, assignment, conditional, choice, resource, defined, class, include, Block, end, next, Branches, noBranch, branch, defaultBranch, Parameter, Parent, TypeDefinition, ClassDefinition, Definition, typeDefinition, classDefinition, Devices, Item, statement, node, definition}
+use Rattle.rules.specs.Tree
+
+-- the elements of two lists, pairwise
+pub data Pairwise {A : Type 0} (R : A → A → Type 0) : List A → List A → Type 0 where
+  nonePaired : Pairwise R [] []
+  paired : {x y : A} {xs ys : List A} → R x y → Pairwise R xs ys → Pairwise R (x ∷ xs) (y ∷ ys)
+
+-- what may be missing, on both sides or on none
+pub data Optional {A : Type 0} (R : A → A → Type 0) : Option A → Option A → Type 0 where
+  bothNone : Optional R none none
+  bothSome : {x y : A} → R x y → Optional R (some x) (some y)
+
+module _ (D : ℕ → Type 0) where
+  -- a set that holds a label of a differing constant
+  pub record High (s : Labels) : Type 0 where
+    pub label : ℕ
+    pub differs : D label
+    pub within : has s label ≡ true
+
+  pub data SameConstant : Constant → Constant → Type 0 where
+    sameConstant : {l : ℕ} {v w : Value} → D l ⊎ (v ≡ w) → SameConstant (record { label = l; value = v }) (record { label = l; value = w })
+
+  mutual
+    pub data SameExpression : Expression → Expression → Type 0 where
+      sameConstants : {p q : ℕ} {v w : Constant} → SameConstant v w → SameExpression (constant p v) (constant q w)
+      sameVariable : {p q n : ℕ} → SameExpression (variable p n) (variable q n)
+      sameTopVariable : {p q n : ℕ} → SameExpression (topVariable p n) (topVariable q n)
+      sameClassVariable : {p q c n : ℕ} → SameExpression (classVariable p c n) (classVariable q c n)
+      sameOperation : {p q : ℕ} {o : Operator} {a b a′ b′ : Expression} → SameExpression a a′ → SameExpression b b′ → SameExpression (operation p o a b) (operation q o a′ b′)
+      sameNegation : {p q : ℕ} {a a′ : Expression} → SameExpression a a′ → SameExpression (negation p a) (negation q a′)
+      sameAttributeRead : {p q t n : ℕ} {a a′ : Expression} → SameExpression a a′ → SameExpression (attributeRead p t n a) (attributeRead q t n a′)
+      sameSelector : {p q : ℕ} {a a′ : Expression} {s s′ : Arms} → SameExpression a a′ → SameArms s s′ → SameExpression (selector p a s) (selector q a′ s′)
+      sameUnreadable : {p q : ℕ} → SameExpression (Expression.unreadable p) (Expression.unreadable q)
+
+    pub data SameArms : Arms → Arms → Type 0 where
+      sameNoArm : SameArms noArm noArm
+      sameArm : {v w : Constant} {a a′ : Expression} {s s′ : Arms} → SameConstant v w → SameExpression a a′ → SameArms s s′ → SameArms (arm v a s) (arm w a′ s′)
+      sameDefaultArm : {a a′ : Expression} {s s′ : Arms} → SameExpression a a′ → SameArms s s′ → SameArms (defaultArm a s) (defaultArm a′ s′)
+
+  pub data SameAttributeField : AttributeField → AttributeField → Type 0 where
+    sameAttributeField : {p q n : ℕ} {a a′ : Expression} → SameExpression a a′ → SameAttributeField (record { place = p; name = n; expression = a }) (record { place = q; name = n; expression = a′ })
+
+  abbrev pub SameAttributeFields : List AttributeField → List AttributeField → Type 0
+  SameAttributeFields = Pairwise SameAttributeField
+
+  mutual
+    pub data SameStatement : Statement → Statement → Type 0 where
+      sameAssignment : {p q n : ℕ} {a a′ : Expression} → SameExpression a a′ → SameStatement (assignment p n a) (assignment q n a′)
+      sameConditional : {p q : ℕ} {a a′ : Expression} {b d b′ d′ : Block} → SameExpression a a′ → SameBlock b b′ → SameBlock d d′ → SameStatement (conditional p a b d) (conditional q a′ b′ d′)
+      sameChoice : {p q : ℕ} {a a′ : Expression} {bs bs′ : Branches} → SameExpression a a′ → SameBranches bs bs′ → SameStatement (choice p a bs) (choice q a′ bs′)
+      sameResource : {p q t : ℕ} {a a′ : Expression} {f f′ : List AttributeField} → SameExpression a a′ → SameAttributeFields f f′ → SameStatement (resource p t a f) (resource q t a′ f′)
+      sameDefined : {p q t : ℕ} {a a′ : Expression} {f f′ : List AttributeField} → SameExpression a a′ → SameAttributeFields f f′ → SameStatement (defined p t a f) (defined q t a′ f′)
+      sameClass : {p q c : ℕ} {f f′ : List AttributeField} → SameAttributeFields f f′ → SameStatement (class p c f) (class q c f′)
+      sameInclude : {p q c : ℕ} → SameStatement (include p c) (include q c)
+      sameUnreadableStatement : {p q : ℕ} → SameStatement (Statement.unreadable p) (Statement.unreadable q)
+
+    pub data SameBlock : Block → Block → Type 0 where
+      sameEnd : SameBlock end end
+      sameNext : {s s′ : Statement} {b b′ : Block} → SameStatement s s′ → SameBlock b b′ → SameBlock (next s b) (next s′ b′)
+
+    pub data SameBranches : Branches → Branches → Type 0 where
+      sameNoBranch : SameBranches noBranch noBranch
+      sameBranch : {v w : Constant} {b b′ : Block} {bs bs′ : Branches} → SameConstant v w → SameBlock b b′ → SameBranches bs bs′ → SameBranches (branch v b bs) (branch w b′ bs′)
+      sameDefaultBranch : {b b′ : Block} {bs bs′ : Branches} → SameBlock b b′ → SameBranches bs bs′ → SameBranches (defaultBranch b bs) (defaultBranch b′ bs′)
+
+  pub data SameParameter : Parameter → Parameter → Type 0 where
+    sameParameter : {p q n : ℕ} {d d′ : Option Constant} → Optional SameConstant d d′ → SameParameter (record { place = p; name = n; default = d }) (record { place = q; name = n; default = d′ })
+
+  pub data SameParent : Parent → Parent → Type 0 where
+    sameParent : {p q n : ℕ} → SameParent (record { place = p; name = n }) (record { place = q; name = n })
+
+  abbrev pub SameParameters : List Parameter → List Parameter → Type 0
+  SameParameters = Pairwise SameParameter
+
+  pub data SameType : TypeDefinition → TypeDefinition → Type 0 where
+    sameType : {p q n : ℕ} {qs qs′ : List Parameter} {b b′ : Block} → SameParameters qs qs′ → SameBlock b b′ → SameType (record { place = p; name = n; parameters = qs; body = b }) (record { place = q; name = n; parameters = qs′; body = b′ })
+
+  pub data SameClassDefinition : ClassDefinition → ClassDefinition → Type 0 where
+    sameClassDefinition : {p q n : ℕ} {u u′ : Option Parent} {qs qs′ : List Parameter} {b b′ : Block} → Optional SameParent u u′ → SameParameters qs qs′ → SameBlock b b′ → SameClassDefinition (record { place = p; name = n; parent = u; parameters = qs; body = b }) (record { place = q; name = n; parent = u′; parameters = qs′; body = b′ })
+
+  pub data SameDefinition : Definition → Definition → Type 0 where
+    sameTypeDefinition : {d d′ : TypeDefinition} → SameType d d′ → SameDefinition (typeDefinition d) (typeDefinition d′)
+    sameClassDefinitions : {d d′ : ClassDefinition} → SameClassDefinition d d′ → SameDefinition (classDefinition d) (classDefinition d′)
+
+  pub data SameItem : Item → Item → Type 0 where
+    sameStatementItem : {s s′ : Statement} → SameStatement s s′ → SameItem (statement s) (statement s′)
+    sameNode : {ds : Devices} {b b′ : Block} → SameBlock b b′ → SameItem (node ds b) (node ds b′)
+    sameDefinitionItem : {d d′ : Definition} → SameDefinition d d′ → SameItem (definition d) (definition d′)
+
+  abbrev pub SameItems : List Item → List Item → Type 0
+  SameItems = Pairwise SameItem

@@ -1,0 +1,15 @@
+pub mod Bytes
+pub mod Format
+pub mod Check
+pub mod Fields
+pub mod Tree
+pub mod Read
+pub mod Outcome
+pub mod Arithmetic
+pub mod State
+pub mod Evaluate
+pub mod Catalog
+pub mod Run
+pub mod Compile
+pub mod Schedule
+pub mod EditRule

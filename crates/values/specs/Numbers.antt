@@ -1,0 +1,41 @@
+-- Document 01's number for each reason, and what each answer says in its numbers.
+use Prim.Native.Nat.{ℕ}
+use Rattle.values.specs.declared.Reason.{Reason}
+use Rattle.values.specs.declared.Reason.the-variants.{MemoryTooShort, ManifestLength, Malformed, TooDeep, StringOrder, StepLimit, LevelLimit, DefinedAgain, Unknown, DeclaredAgain, UnknownParameter, MissingParameter, NoValue, AssignedAgain, WrongKind, Overflow, DivisionByZero, NoMatch, NotInCatalog, ResourceAgain, AttributeAgain, CellLimit, OutputFull}
+use Rattle.values.specs.declared.Answer.{Answer}
+use Rattle.values.specs.declared.Answer.the-variants.{Catalog, Refused}
+
+-- "Reasons for refusing, in checking order"
+unfoldable pub numberOf : Reason → ℕ
+numberOf MemoryTooShort = 1  -- the working memory is shorter than 65,536 bytes
+numberOf ManifestLength = 2  -- the manifest's length is outside 1 to 65,535
+numberOf Malformed = 3  -- a field's tag, length or parts are not as listed
+numberOf TooDeep = 4  -- a field is deeper than 32
+numberOf StringOrder = 5  -- the strings don't rise strictly, or a name is past the table
+numberOf StepLimit = 6  -- a further step would pass the limit
+numberOf LevelLimit = 7  -- a declaration would go below level 16
+numberOf DefinedAgain = 8  -- a defined name is defined again, or is a built-in type
+numberOf Unknown = 9  -- the class or type is unknown, or a 25 names no built-in type
+numberOf DeclaredAgain = 10  -- a 28 names a declared class
+numberOf UnknownParameter = 11  -- a parameter is unknown
+numberOf MissingParameter = 12  -- a parameter has neither value nor default
+numberOf NoValue = 13  -- the variable has no value in any scope tried
+numberOf AssignedAgain = 14  -- the variable has a value in this scope
+numberOf WrongKind = 15  -- an operand, condition or title is of the wrong kind
+numberOf Overflow = 16  -- the result is outside 64 bits
+numberOf DivisionByZero = 17  -- the divisor is zero
+numberOf NoMatch = 18  -- no pattern of a selector matches
+numberOf NotInCatalog = 19  -- the resource or attribute read is not in the catalog
+numberOf ResourceAgain = 20  -- type and title are already in the catalog
+numberOf AttributeAgain = 21  -- an attribute is named twice in one body
+numberOf CellLimit = 22  -- a 513th cell is needed
+numberOf OutputFull = 23  -- the finished entry passes the output's end or 65,535 bytes in all
+
+-- an answer in document 01's numbers: length and steps, or number and place
+pub data Said : Type 0 where
+  accepted : (length steps : ℕ) → Said
+  refused : (number place : ℕ) → Said
+
+unfoldable pub said : Answer → Said
+said (Catalog n s) = accepted n s
+said (Refused r p) = refused (numberOf r) p
