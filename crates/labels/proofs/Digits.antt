@@ -1,8 +1,7 @@
 -- The binary digits of a number, by division: what the laws of label sets rest on. Assumes nothing.
 use mathlib.Core.Path.{_≡_, refl, sym, ap, _∙_}
-use mathlib.Core.Bool.{Bool, true, false}
 use Prim.Native.Nat.{ℕ, zero, suc, _+_, _*_, _/_, _%_, _^_, _≤_, _<_}
-use native.Mathlib.Nat.{div-one, zero-div, zero-mod, div-eq-of-lt, lt-of-lt-of-le, pow-suc, zero-lt-suc, mul-div-cancel, mul-mod-left}
+use native.Mathlib.Nat.{div-one, zero-div, div-eq-of-lt, lt-of-lt-of-le, pow-suc, zero-lt-suc, mul-div-cancel, mul-mod-left}
 use native.Mathlib.Numerals.{one-add}
 use native.Mathlib.Omega.{arith}
 use lib.Arith.{lt-one}

@@ -2,19 +2,19 @@
 use mathlib.Core.Path.{_≡_, refl, sym, ap, _∙_}
 use mathlib.Core.Bool.{Bool, true, false, _||_}
 use mathlib.Core.List.{List, [], _∷_, _++_, append-assoc}
-use Prim.Native.Nat.{ℕ, zero, suc, _+_, _*_, _/_, _%_, _^_, _≤_, _<_}
+use Prim.Native.Nat.{ℕ, zero, suc, _+_, _-_, _*_, _/_, _%_, _^_, _≤_, _<_}
 use native.Mathlib.Nat.{mod-lt, zero-lt-suc, zero-div, div-self, pow-suc, add-zero, add-suc, suc-add, one-mul}
 use native.Mathlib.Omega.{arith}
 use borrow.Author.Tests.{ltb-true, ltb-false, lt-ltb, le-ltb, eqb-true, eqb-false, ne-eqb, eq-eqb}
 use lib.Bits.{bitOr, or-shr, or-mod, or-lt}
 use lib.Dec.{eqb, ltb, lit<}
-use lib.ListN.{length, getD, set, drop, length-append}
-use lib.Pow.{pow-pos, pow-lt, shl-exact}
-use lib.Seq.{sets, sets-eq}
+use lib.ListN.{length, getD, set, drop, length-append, List·getD-append}
+use lib.Pow.{pow-pos, pow-lt, shl-exact, field, mod-mod-pow}
+use lib.Seq.{sets, sets-eq, getD-append-add}
 use Rattle.labels.specs.declared.Labels.{Labels}
 use Rattle.labels.specs.Sets.{noLabels, bitOf, oneLabel, _∪_, wordOf, has, Words64}
 use Rattle.labels.specs.Bytes.{lowBytes, numberAt, labelBytes, labelsFrom}
-use Rattle.labels.proofs.Digits.{digit, digit-pow, same-digits}
+use Rattle.labels.proofs.Digits.{digit, digit-shift, digit-pow, same-digits}
 
 -- ---- which word a label stands in
 
@@ -278,6 +278,10 @@ unfolding numberAt
 number-lt m at zero b = lit< tt
 number-lt m at (suc k) b = let p : 256 ^ suc k ≡ 256 ^ k * 256 = pow-suc 256 k in omega (arith, number-lt m (suc at) k b, b at)
 
+pub words-from : (m : List ℕ) → ((i : ℕ) → getD m i 0 < 256) → Words64 (labelsFrom m)
+unfolding labelsFrom
+words-from m b = record { small0 = number-lt m 0 8 b; small1 = number-lt m 8 8 b; small2 = number-lt m 16 8 b; small3 = number-lt m 24 8 b }
+
 number-next : (v : ℕ) (m : List ℕ) (at : ℕ) → numberAt (lowBytes 8 v ++ m) (8 + at) 8 ≡ numberAt m at 8
 number-next v m at = ap (λ (n : ℕ). numberAt (lowBytes 8 v ++ m) (n + at) 8) (sym (low-length 8 v)) ∙ number-skip (lowBytes 8 v) m at 8
 
@@ -314,3 +318,44 @@ label-sets s m h =
   where
     next : (d : List ℕ) (at v : ℕ) (b : List ℕ) → sets d at (lowBytes 8 v ++ b) ≡ sets (sets d at (lowBytes 8 v)) (at + 8) b
     next d at v b = sets-append d at (lowBytes 8 v) b ∙ ap (λ (k : ℕ). sets (sets d at (lowBytes 8 v)) (at + k) b) (low-length 8 v)
+
+-- "Label n is bit n mod 8, lowest first, of byte n / 8"
+low-digit : (v r : ℕ) → r < 8 → digit (v % 256) r ≡ digit v r
+low-digit v r h =
+    let j : ℕ = 7 - r in
+    let e : 8 ≡ (j + 1) + r = omega arith in
+    ap (λ (k : ℕ). v % 2 ^ k / 2 ^ r % 2) e ∙ ap (λ (x : ℕ). x % 2) (field v (j + 1) r) ∙ mod-mod-pow (v / 2 ^ r) j 1
+
+byte-digit : (k v i r : ℕ) → i < k → r < 8 → digit (getD (lowBytes k v) i 0) r ≡ digit v (i * 8 + r)
+unfolding lowBytes
+byte-digit zero v i r p q = absurd (omega arith)
+byte-digit (suc k) v zero r p q = low-digit v r q ∙ ap (digit v) (omega arith)
+byte-digit (suc k) v (suc i) r p q =
+    byte-digit k (v / 256) i r (omega arith) q ∙ digit-shift v 8 (i * 8 + r) ∙ ap (digit v) (omega arith)
+
+pub label-bit : (s : Labels) (n : ℕ) → n < 256 → has s n ≡ eqb (digit (getD (labelBytes s) (n / 8) 0) (n % 8)) 1
+unfolding has bitOf labelBytes
+label-bit s n h =
+    let m2 : List ℕ = lowBytes 8 (s .w2) ++ lowBytes 8 (s .w3) in
+    let m1 : List ℕ = lowBytes 8 (s .w1) ++ m2 in
+    ap (λ (d : ℕ). eqb d 1)
+    (word-of (λ w. digit w (n % 64) ≡ digit (getD (labelBytes s) (n / 8) 0) (n % 8)) s n
+    (λ a. own (s .w0) i (omega arith) (inside (s .w0) m1 i (omega arith)))
+    (λ a b. own (s .w1) (8 + i) (omega arith) (past (s .w0) m1 i ∙ inside (s .w1) m2 i (omega arith)))
+    (λ a b. own (s .w2) (8 + (8 + i)) (omega arith) (past (s .w0) m1 (8 + i) ∙ past (s .w1) m2 i ∙ inside (s .w2) (lowBytes 8 (s .w3)) i (omega arith)))
+    (λ a. own (s .w3) (8 + (8 + (8 + i))) (omega arith) (past (s .w0) m1 (8 + (8 + i)) ∙ past (s .w1) m2 (8 + i) ∙ past (s .w2) (lowBytes 8 (s .w3)) i)))
+  where
+    i : ℕ
+    i = n % 64 / 8
+
+    inside : (v : ℕ) (m : List ℕ) (j : ℕ) → j < 8 → getD (lowBytes 8 v ++ m) j 0 ≡ getD (lowBytes 8 v) j 0
+    inside v m j l = List·getD-append (lowBytes 8 v) m 0 j (omega (arith, low-length 8 v))
+
+    past : (v : ℕ) (m : List ℕ) (j : ℕ) → getD (lowBytes 8 v ++ m) (8 + j) 0 ≡ getD m j 0
+    past v m j = ap (λ (k : ℕ). getD (lowBytes 8 v ++ m) (k + j) 0) (sym (low-length 8 v)) ∙ getD-append-add (lowBytes 8 v) m j 0
+
+    own : (v j : ℕ) → n / 8 ≡ j → getD (labelBytes s) j 0 ≡ getD (lowBytes 8 v) i 0 → digit v (n % 64) ≡ digit (getD (labelBytes s) (n / 8) 0) (n % 8)
+    own v j at e =
+        let k : i * 8 + n % 8 ≡ n % 64 = omega arith in
+        ap (digit v) (sym k) ∙ sym (byte-digit 8 v i (n % 8) (omega arith) (mod-lt n (zero-lt-suc 7)))
+        ∙ ap (λ (b : ℕ). digit b (n % 8)) (sym (ap (λ (k : ℕ). getD (labelBytes s) k 0) at ∙ e))

@@ -4,12 +4,10 @@ use mathlib.Core.Bool.{Bool, true, false}
 use Prim.Native.Nat.{ℕ, zero, suc, _+_, _-_, _*_, _/_, _%_, _^_, _≤_, _<_}
 use native.Mathlib.Nat.{mod-lt, zero-lt-suc, zero-add, add-zero, add-suc, suc-add, zero-div, lt-of-not-le, lt-of-le-of-lt}
 use native.Mathlib.Omega.{arith}
-use borrow.Author.Tests.{eq-eqb, ne-eqb}
 use lib.Count.{ones, trailingZeros}
 use lib.Dec.{eqb}
 use lib.Pow.{shr-le}
 use Rattle.labels.specs.declared.Labels.{Labels}
-use Rattle.labels.specs.declared.NextLabel.{NextLabel}
 use Rattle.labels.specs.declared.NextLabel.the-variants.{At, Nothing}
 use Rattle.labels.specs.Sets.{wordOf, has, Words64}
 use Rattle.labels.specs.Search.{tally, countBelow, countOf, firstOf, nextFrom}

@@ -1,10 +1,10 @@
 // A set of labels 0 to 255, held in four words by value.
 ghost use mathlib.Core.Path.{_≡_};
 ghost use mathlib.Core.List.{_++_};
-ghost use Prim.Native.Nat.{ℕ, _+_, _≤_};
+ghost use Prim.Native.Nat.{_+_, _≤_};
 ghost use lib.ListN.{length, drop};
 ghost use lib.Seq.{sets};
-ghost use Rattle.labels.specs.Sets.{noLabels, oneLabel, _∪_, wordOf, has};
+ghost use Rattle.labels.specs.Sets.{oneLabel, _∪_, wordOf, has};
 ghost use Rattle.labels.specs.Search.{countOf, nextFrom};
 ghost use Rattle.labels.specs.Bytes.{lowBytes, numberAt, labelBytes, labelsFrom};
 
@@ -22,6 +22,7 @@ pub enum NextLabel {
 }
 
 impl Labels {
+    // `noLabels` of the definitions.
     pub const EMPTY: Labels = Labels {
         w0: 0,
         w1: 0,

@@ -2,3 +2,8 @@ pub mod Computing
 pub mod Rows
 pub mod Cases
 pub mod Same
+pub mod Outcome
+pub mod Unique
+pub mod Evaluation
+pub mod OneTree
+pub mod OneTreeTests
