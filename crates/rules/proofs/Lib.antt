@@ -7,3 +7,6 @@ pub mod Unique
 pub mod Evaluation
 pub mod OneTree
 pub mod OneTreeTests
+pub mod Quiet
+pub mod Frame
+pub mod Lockstep
