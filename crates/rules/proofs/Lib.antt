@@ -10,3 +10,4 @@ pub mod OneTreeTests
 pub mod Quiet
 pub mod Frame
 pub mod Lockstep
+pub mod Declarations
