@@ -111,24 +111,24 @@ module _ (D : ℕ → Type 0) where
 
     -- the three declarations, once the definition is found
     type-low : (n : ℕ) {d d′ : TypeDefinition} → SameType D d d′ → (o : Option ℕ) (p q : ℕ) {x y : Labelled} → SameLabelled D x y → {gs gs′ : List Given} → SameGivens D gs gs′ → (c : Context) {st st′ : State} → Low D st st′
-      → Two (Related D) (parametersKnown (d .parameters) gs >>= λ _. parameterValues (d .parameters) gs >>= λ vs. namedOnce [] gs >>= λ _. storeTitle o (inBody n c) p x st >>= λ st₁. storeAll (inBody n c) vs st₁ >>= λ st₂. runBlock k declare (d .body) (inBody n c) st₂ >>= λ st₃. done (free (bodyScope n) st₃))
-                        (parametersKnown (d′ .parameters) gs′ >>= λ _. parameterValues (d′ .parameters) gs′ >>= λ vs. namedOnce [] gs′ >>= λ _. storeTitle o (inBody n c) q y st′ >>= λ st₁. storeAll (inBody n c) vs st₁ >>= λ st₂. runBlock k′ declare′ (d′ .body) (inBody n c) st₂ >>= λ st₃. done (free (bodyScope n) st₃))
+        → Two (Related D) (parametersKnown (d .parameters) gs >>= λ _. parameterValues (d .parameters) gs >>= λ vs. namedOnce [] gs >>= λ _. storeTitle o (inBody n c) p x st >>= λ st₁. storeAll (inBody n c) vs st₁ >>= λ st₂. runBlock k declare (d .body) (inBody n c) st₂ >>= λ st₃. done (free (bodyScope n) st₃))
+        (parametersKnown (d′ .parameters) gs′ >>= λ _. parameterValues (d′ .parameters) gs′ >>= λ vs. namedOnce [] gs′ >>= λ _. storeTitle o (inBody n c) q y st′ >>= λ st₁. storeAll (inBody n c) vs st₁ >>= λ st₂. runBlock k′ declare′ (d′ .body) (inBody n c) st₂ >>= λ st₃. done (free (bodyScope n) st₃))
     type-low n (sameType ps b) o p q w g c l = twoAny _ _ λ _ _. twoBind (values-same ps g) λ vs vs′ v. twoAny _ _ λ _ _.
-      twoBind (store-title-related o (inBody n c) p q w (relatedLow l)) λ st₁ st₁′ h₁. twoBind (store-all-related (inBody n c) v h₁) λ st₂ st₂′ h₂.
-      twoBind (block-related D k k′ declare declare′ quietly quietly′ alike b (inBody n c) h₂) λ st₃ st₃′ h₃. bothDone (free-related (bodyScope n) h₃)
+        twoBind (store-title-related o (inBody n c) p q w (relatedLow l)) λ st₁ st₁′ h₁. twoBind (store-all-related (inBody n c) v h₁) λ st₂ st₂′ h₂.
+        twoBind (block-related D k k′ declare declare′ quietly quietly′ alike b (inBody n c) h₂) λ st₃ st₃′ h₃. bothDone (free-related (bodyScope n) h₃)
 
     class-low : (n p q : ℕ) {d d′ : ClassDefinition} → SameClassDefinition D d d′ → {gs gs′ : List Given} → SameGivens D gs gs′ → (c : Context) {st st′ : State} → Low D st st′
-      → Two (Related D) (refuseIf (isDeclared n st) Reason.DeclaredAgain p >>= λ _. parametersKnown (d .parameters) gs >>= λ _. parameterValues (d .parameters) gs >>= λ vs. namedOnce [] gs >>= λ _. parentFirst k declare (d .parent) c st >>= λ st₁. refuseIf (isDeclared n st₁) Reason.DeclaredAgain p >>= λ _. enterClass k declare d vs c st₁)
-                        (refuseIf (isDeclared n st′) Reason.DeclaredAgain q >>= λ _. parametersKnown (d′ .parameters) gs′ >>= λ _. parameterValues (d′ .parameters) gs′ >>= λ vs. namedOnce [] gs′ >>= λ _. parentFirst k′ declare′ (d′ .parent) c st′ >>= λ st₁. refuseIf (isDeclared n st₁) Reason.DeclaredAgain q >>= λ _. enterClass k′ declare′ d′ vs c st₁)
+        → Two (Related D) (refuseIf (isDeclared n st) Reason.DeclaredAgain p >>= λ _. parametersKnown (d .parameters) gs >>= λ _. parameterValues (d .parameters) gs >>= λ vs. namedOnce [] gs >>= λ _. parentFirst k declare (d .parent) c st >>= λ st₁. refuseIf (isDeclared n st₁) Reason.DeclaredAgain p >>= λ _. enterClass k declare d vs c st₁)
+        (refuseIf (isDeclared n st′) Reason.DeclaredAgain q >>= λ _. parametersKnown (d′ .parameters) gs′ >>= λ _. parameterValues (d′ .parameters) gs′ >>= λ vs. namedOnce [] gs′ >>= λ _. parentFirst k′ declare′ (d′ .parent) c st′ >>= λ st₁. refuseIf (isDeclared n st₁) Reason.DeclaredAgain q >>= λ _. enterClass k′ declare′ d′ vs c st₁)
     class-low n p q {d} {d′} (sameClassDefinition o ps b) g c l = twoAny _ _ λ _ _. twoAny _ _ λ _ _. twoBind (values-same ps g) λ vs vs′ v. twoAny _ _ λ _ _.
-      twoBind (parent-low o c l) λ st₁ st₁′ h₁.
-      go-on D (λ st h. allAny (refuseIf (isDeclared n st) Reason.DeclaredAgain p) λ _. enter-quiet D k declare quietly d vs c st (inr h)) (λ st h. allAny (refuseIf (isDeclared n st) Reason.DeclaredAgain q) λ _. enter-quiet D k′ declare′ quietly′ d′ vs′ c st (inr h)) (λ st st′ l. twoAny _ _ λ _ _. enter-low (sameClassDefinition o ps b) v c l) h₁
+        twoBind (parent-low o c l) λ st₁ st₁′ h₁.
+        go-on D (λ st h. allAny (refuseIf (isDeclared n st) Reason.DeclaredAgain p) λ _. enter-quiet D k declare quietly d vs c st (inr h)) (λ st h. allAny (refuseIf (isDeclared n st) Reason.DeclaredAgain q) λ _. enter-quiet D k′ declare′ quietly′ d′ vs′ c st (inr h)) (λ st st′ l. twoAny _ _ λ _ _. enter-low (sameClassDefinition o ps b) v c l) h₁
 
     include-low : (n : ℕ) {d d′ : ClassDefinition} → SameClassDefinition D d d′ → (c : Context) {st st′ : State} → Low D st st′
-      → Two (Related D) (parameterValues (d .parameters) [] >>= λ vs. parentFirst k declare (d .parent) c st >>= λ st₁. elim (isDeclared n st₁) [ true ↦ done st₁ | false ↦ enterClass k declare d vs c st₁ ])
-                        (parameterValues (d′ .parameters) [] >>= λ vs. parentFirst k′ declare′ (d′ .parent) c st′ >>= λ st₁. elim (isDeclared n st₁) [ true ↦ done st₁ | false ↦ enterClass k′ declare′ d′ vs c st₁ ])
+        → Two (Related D) (parameterValues (d .parameters) [] >>= λ vs. parentFirst k declare (d .parent) c st >>= λ st₁. elim (isDeclared n st₁) [ true ↦ done st₁ | false ↦ enterClass k declare d vs c st₁ ])
+        (parameterValues (d′ .parameters) [] >>= λ vs. parentFirst k′ declare′ (d′ .parent) c st′ >>= λ st₁. elim (isDeclared n st₁) [ true ↦ done st₁ | false ↦ enterClass k′ declare′ d′ vs c st₁ ])
     include-low n {d} {d′} (sameClassDefinition o ps b) c l = twoBind (values-same ps nonePaired) λ vs vs′ v. twoBind (parent-low o c l) λ st₁ st₁′ h₁.
-      go-on D (again-quiet k declare quietly n d vs c) (again-quiet k′ declare′ quietly′ n d′ vs′ c)
+        go-on D (again-quiet k declare quietly n d vs c) (again-quiet k′ declare′ quietly′ n d′ vs′ c)
         (λ st st′ l. again-low n (sameClassDefinition o ps b) v c l) h₁
 
   -- ---- The levels

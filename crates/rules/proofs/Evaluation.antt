@@ -21,7 +21,8 @@ use Rattle.rules.specs.State.{Scope, topScope, classScope, Cell, Cells, 
 use Rattle.rules.specs.Evaluate.{any, firstWith, isEntry, isAttribute, isType, isClass, orElse, readIn, readAttribute, integers, booleans, operate, ofConstant, evaluate, select}
 use Rattle.rules.proofs.Same.{High, Pairwise, nonePaired, paired, Optional, bothNone, bothSome, SameConstant, sameConstant, SameExpression, sameConstants, sameVariable, sameTopVariable, sameClassVariable, sameOperation, sameNegation, sameAttributeRead, sameSelector, sameUnreadable, SameArms, sameNoArm, sameArm, sameDefaultArm}
 use Rattle.rules.proofs.Outcome.{All, allRefused, allDone, allBind, allAny, Two, leftRefused, rightRefused, bothDone, apart, twoBind, twoAny, twoAt, twoIf, twoOr}
-use Rattle.rules.proofs.Unique.{either-left, either-right, or-true-left, or-true-right, Every, everyNone, every, UniqueEntries, UniqueNames, unique, Key, keyOf, hasKey, only-key}
+use Rattle.rules.proofs.Lists.{either-right, or-true-left, or-true-right, Perhaps, notThere, there, Each, noneLeft, also, found}
+use Rattle.rules.proofs.Unique.{UniqueEntries, UniqueNames, unique, Key, keyOf, hasKey, only-key}
 
 module _ (D : ℕ → Type 0) where
   -- ---- Sets: the three laws that are used from here on
@@ -106,7 +107,7 @@ module _ (D : ℕ → Type 0) where
 
   pub record HighEntry (e : Entry) : Type 0 where
     pub own : High D (e .labels)
-    pub all : Every HighAttribute (e .attributes)
+    pub all : Each HighAttribute (e .attributes)
 
   -- the low entries are the same, in the same order; between them each catalog may have high ones of its own
   pub data SameCatalog : List Entry → List Entry → Type 0 where
@@ -134,11 +135,7 @@ module _ (D : ℕ → Type 0) where
 
   -- ---- Searching catalogs
 
-  -- what is found, if anything; and in two searches
-  pub data IfSome {A : Type 0} (P : A → Type 0) : Option A → Type 0 where
-    ifNone : IfSome P none
-    ifSome : {a : A} → P a → IfSome P (some a)
-
+  -- what is found in two searches, if both find something
   pub data IfBoth {A : Type 0} (R : A → A → Type 0) : Option A → Option A → Type 0 where
     leftNone : {o : Option A} → IfBoth R none o
     rightNone : {o : Option A} → IfBoth R o none
@@ -151,11 +148,11 @@ module _ (D : ℕ → Type 0) where
   or-both r p q (ifBoth h) k = k _ _ h
 
   -- a search that tries one more element
-  found-if : {A : Type 0} {P : A → Type 0} (b : Bool) (a : A) {o : Option A} → P a → IfSome P o → IfSome P (elim b [ true ↦ some a | false ↦ o ])
-  found-if true a h g = ifSome h
+  found-if : {A : Type 0} {P : A → Type 0} (b : Bool) (a : A) {o : Option A} → P a → Perhaps P o → Perhaps P (elim b [ true ↦ some a | false ↦ o ])
+  found-if true a h g = there h
   found-if false a h g = g
 
-  not-found-if : {A : Type 0} {P : A → Type 0} (b x : Bool) (a : A) {o : Option A} → (b || x) ≡ false → (x ≡ false → IfSome P o) → IfSome P (elim b [ true ↦ some a | false ↦ o ])
+  not-found-if : {A : Type 0} {P : A → Type 0} (b x : Bool) (a : A) {o : Option A} → (b || x) ≡ false → (x ≡ false → Perhaps P o) → Perhaps P (elim b [ true ↦ some a | false ↦ o ])
   not-found-if true x a h g = absurd (true≢false h)
   not-found-if false x a h g = g h
 
@@ -164,9 +161,9 @@ module _ (D : ℕ → Type 0) where
   both-if false x y h g = g
 
   -- a title that the one catalog lacks is found in the other at a high entry only
-  only-high : {c d : List Entry} (k : Key) → SameCatalog c d → any (hasKey k) c ≡ false → IfSome HighEntry (firstWith (hasKey k) d)
+  only-high : {c d : List Entry} (k : Key) → SameCatalog c d → any (hasKey k) c ≡ false → Perhaps HighEntry (firstWith (hasKey k) d)
   unfolding any firstWith isEntry
-  only-high k emptyBoth h = ifNone
+  only-high k emptyBoth h = notThere
   only-high k (entryBoth (sameEntry {t = t} {m = m} {k = s} {l = l} a u u′) q) h = not-found-if (hasKey k (record { type = t; title = m; labels = s; attributes = l })) _ _ h λ h′. only-high k q h′
   only-high k (entryLeft {e = e} g q) h = only-high k q (either-right (hasKey k e) _ h)
   only-high k (entryRight {f = f} g q) h = found-if (hasKey k f) f g (only-high k q h)
@@ -175,19 +172,19 @@ module _ (D : ℕ → Type 0) where
     foundSame : SameEntry e f → Found e f
     foundHigh : HighEntry e → HighEntry f → Found e f
 
-  high-both : {e : Entry} {o : Option Entry} → HighEntry e → IfSome HighEntry o → IfBoth Found (some e) o
-  high-both h ifNone = rightNone
-  high-both h (ifSome g) = ifBoth (foundHigh h g)
+  high-both : {e : Entry} {o : Option Entry} → HighEntry e → Perhaps HighEntry o → IfBoth Found (some e) o
+  high-both h notThere = rightNone
+  high-both h (there g) = ifBoth (foundHigh h g)
 
-  both-high : {f : Entry} {o : Option Entry} → HighEntry f → IfSome HighEntry o → IfBoth Found o (some f)
-  both-high h ifNone = leftNone
-  both-high h (ifSome g) = ifBoth (foundHigh g h)
+  both-high : {f : Entry} {o : Option Entry} → HighEntry f → Perhaps HighEntry o → IfBoth Found o (some f)
+  both-high h notThere = leftNone
+  both-high h (there g) = ifBoth (foundHigh g h)
 
-  found-left : (b : Bool) (e : Entry) {o o′ : Option Entry} → HighEntry e → (b ≡ true → IfSome HighEntry o′) → IfBoth Found o o′ → IfBoth Found (elim b [ true ↦ some e | false ↦ o ]) o′
+  found-left : (b : Bool) (e : Entry) {o o′ : Option Entry} → HighEntry e → (b ≡ true → Perhaps HighEntry o′) → IfBoth Found o o′ → IfBoth Found (elim b [ true ↦ some e | false ↦ o ]) o′
   found-left true e h k g = high-both h (k refl)
   found-left false e h k g = g
 
-  found-right : (b : Bool) (f : Entry) {o o′ : Option Entry} → HighEntry f → (b ≡ true → IfSome HighEntry o) → IfBoth Found o o′ → IfBoth Found o (elim b [ true ↦ some f | false ↦ o′ ])
+  found-right : (b : Bool) (f : Entry) {o o′ : Option Entry} → HighEntry f → (b ≡ true → Perhaps HighEntry o) → IfBoth Found o o′ → IfBoth Found o (elim b [ true ↦ some f | false ↦ o′ ])
   found-right true f h k g = both-high h (k refl)
   found-right false f h k g = g
 
@@ -206,15 +203,10 @@ module _ (D : ℕ → Type 0) where
   attribute-same n nonePaired = leftNone
   attribute-same n (paired (sameAttribute {n = m} h) r) = both-if (eqb m n) _ _ (sameAttribute h) (attribute-same n r)
 
-  attribute-high : {l : List Attribute} (n : ℕ) → Every HighAttribute l → IfSome HighAttribute (firstWith (isAttribute n) l)
-  unfolding firstWith isAttribute
-  attribute-high n everyNone = ifNone
-  attribute-high n (every {x = a} h g) = found-if (eqb (a .name) n) a h (attribute-high n g)
-
-  some-both : {A : Type 0} {P : A → Type 0} {R : A → A → Type 0} {o o′ : Option A} → IfSome P o → IfSome P o′ → ((x y : A) → P x → P y → R x y) → IfBoth R o o′
-  some-both ifNone g k = leftNone
-  some-both (ifSome h) ifNone k = rightNone
-  some-both (ifSome h) (ifSome g) k = ifBoth (k _ _ h g)
+  some-both : {A : Type 0} {P : A → Type 0} {R : A → A → Type 0} {o o′ : Option A} → Perhaps P o → Perhaps P o′ → ((x y : A) → P x → P y → R x y) → IfBoth R o o′
+  some-both notThere g k = leftNone
+  some-both (there h) notThere k = rightNone
+  some-both (there h) (there g) k = ifBoth (k _ _ h g)
 
   map-both : {A : Type 0} {R S : A → A → Type 0} {o o′ : Option A} → IfBoth R o o′ → ((x y : A) → R x y → S x y) → IfBoth S o o′
   map-both leftNone k = leftNone
@@ -226,7 +218,7 @@ module _ (D : ℕ → Type 0) where
 
   found-attribute : {e f : Entry} (n : ℕ) → Found e f → IfBoth (λ (x y : Attribute). SameLabelled (x .content) (y .content)) (firstWith (isAttribute n) (e .attributes)) (firstWith (isAttribute n) (f .attributes))
   found-attribute n (foundSame (sameEntry a w w′)) = map-both (attribute-same n a) λ x y h. content-same h
-  found-attribute n (foundHigh h g) = some-both (attribute-high n (h .all)) (attribute-high n (g .all)) λ x y p q. bothHigh p q
+  found-attribute n (foundHigh h g) = some-both (found (isAttribute n) (h .all)) (found (isAttribute n) (g .all)) λ x y p q. bothHigh p q
 
   read-attribute-same : {c d : List Entry} (p q t m n : ℕ) → SameCatalog c d → UniqueEntries c → UniqueEntries d → Two SameLabelled (readAttribute p t m n c) (readAttribute q t m n d)
   unfolding readAttribute

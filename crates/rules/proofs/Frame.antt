@@ -17,7 +17,7 @@ use Rattle.rules.specs.State.{Scope, topScope, nodeScope, classScope, bo
 use Rattle.rules.specs.Run.{assigns, assignsIn, assignsAny, declares, declaresIn, declaresAny, inBranch, store, addEntry, addResource, afterTest, Declare, run, runBlock, runBranch}
 use Rattle.rules.proofs.Same.{High}
 use Rattle.rules.proofs.Outcome.{All, allRefused, allDone, allBind, allAny, allThen, allMap, allIf, allStep, withSteps}
-use Rattle.rules.proofs.Unique.{either-left, either-right, or-true-left, or-true-right, both-left, both-right, eqb-true, eqb-same}
+use Rattle.rules.proofs.Lists.{either-left, either-right, or-true-left, or-true-right, both-left, both-right, eqb-true, eqb-same}
 use Rattle.rules.proofs.Evaluation.{high-left, high-right}
 
 -- ---- Scopes
@@ -108,17 +108,18 @@ module _ (D : ℕ → Type 0) where
   module _ (k : Known) (declare : Declare) where
     mutual
       unfolding run assigns declares inBranch afterTest addResource addEntry withEntry
+
       pub run-frame : (s : Statement) (c : Context) (st : State) → High D (c .path) → declares s ≡ false → Marked (c .scope) (assigns s) (st .cells) → All (FrameFrom st) (run k declare s c st)
       run-frame (assignment p n e) c st h i m = allAny _ λ x. store-frame c p n x st m
       run-frame (conditional p e a b) c st h i m = allAny _ λ x. allAny _ λ t.
-        allThen _ _ _
+          allThen _ _ _
           (let f = tested-frame (c .scope) (assigns (conditional p e a b)) (declaresIn a || declaresIn b) _ st i m in
           let m′ = frame-marked (c .scope) (assigns (conditional p e a b)) f m in
           allIf t
-            (allMap (block-frame a _ _ (high-right D _ h) (either-left (declaresIn a) (declaresIn b) i) (λ n e. m′ n (or-true-left (assignsIn a n) (assignsIn b n) e))) λ st′ g. frame-trans f g)
-            (allMap (block-frame b _ _ (high-right D _ h) (either-right (declaresIn a) (declaresIn b) i) (λ n e. m′ n (or-true-right (assignsIn a n) (assignsIn b n) e))) λ st′ g. frame-trans f g))
+          (allMap (block-frame a _ _ (high-right D _ h) (either-left (declaresIn a) (declaresIn b) i) (λ n e. m′ n (or-true-left (assignsIn a n) (assignsIn b n) e))) λ st′ g. frame-trans f g)
+          (allMap (block-frame b _ _ (high-right D _ h) (either-right (declaresIn a) (declaresIn b) i) (λ n e. m′ n (or-true-right (assignsIn a n) (assignsIn b n) e))) λ st′ g. frame-trans f g))
       run-frame (choice p e bs) c st h i m = allAny _ λ x.
-        allThen _ _ _
+          allThen _ _ _
           (let f = tested-frame (c .scope) (assignsAny bs) (declaresAny bs) _ st i m in
           allMap (branch-frame bs (x .value) _ _ (high-right D _ h) i (frame-marked (c .scope) (assignsAny bs) f m)) λ st′ g. frame-trans f g)
       run-frame (resource p t e fs) c st h i m = allAny _ λ x. allAny _ λ l. allAny _ λ gs. allAny _ λ _. allAny _ λ _. allAny _ λ _. allAny _ λ _. allDone (frame λ s n. keptCell)
@@ -130,12 +131,12 @@ module _ (D : ℕ → Type 0) where
       pub block-frame : (b : Block) (c : Context) (st : State) → High D (c .path) → declaresIn b ≡ false → Marked (c .scope) (assignsIn b) (st .cells) → All (FrameFrom st) (runBlock k declare b c st)
       block-frame end c st h i m = allDone (frame λ s n. keptCell)
       block-frame (next s b) c st h i m = allStep _ st _ λ l.
-        allBind (run-frame s c (withSteps l st) h (either-left (declares s) (declaresIn b) i) (λ n e. m n (or-true-left (assigns s n) (assignsIn b n) e))) λ st′ f.
-        allMap (block-frame b c st′ h (either-right (declares s) (declaresIn b) i) (frame-marked (c .scope) (assignsIn b) f (λ n e. m n (or-true-right (assigns s n) (assignsIn b n) e)))) λ st″ g. frame-trans f g
+          allBind (run-frame s c (withSteps l st) h (either-left (declares s) (declaresIn b) i) (λ n e. m n (or-true-left (assigns s n) (assignsIn b n) e))) λ st′ f.
+          allMap (block-frame b c st′ h (either-right (declares s) (declaresIn b) i) (frame-marked (c .scope) (assignsIn b) f (λ n e. m n (or-true-right (assigns s n) (assignsIn b n) e)))) λ st″ g. frame-trans f g
 
       pub branch-frame : (bs : Branches) (x : Value) (c : Context) (st : State) → High D (c .path) → declaresAny bs ≡ false → Marked (c .scope) (assignsAny bs) (st .cells) → All (FrameFrom st) (runBranch k declare bs x c st)
       branch-frame noBranch x c st h i m = allDone (frame λ s n. keptCell)
       branch-frame (branch v b bs) x c st h i m = allIf (sameValue x (v .value))
-        (block-frame b c st h (either-left (declaresIn b) (declaresAny bs) i) (λ n e. m n (or-true-left (assignsIn b n) (assignsAny bs n) e)))
-        (branch-frame bs x c st h (either-right (declaresIn b) (declaresAny bs) i) (λ n e. m n (or-true-right (assignsIn b n) (assignsAny bs n) e)))
+          (block-frame b c st h (either-left (declaresIn b) (declaresAny bs) i) (λ n e. m n (or-true-left (assignsIn b n) (assignsAny bs n) e)))
+          (branch-frame bs x c st h (either-right (declaresIn b) (declaresAny bs) i) (λ n e. m n (or-true-right (assignsIn b n) (assignsAny bs n) e)))
       branch-frame (defaultBranch b bs) x c st h i m = block-frame b c st h (either-left (declaresIn b) (declaresAny bs) i) (λ n e. m n (or-true-left (assignsIn b n) (assignsAny bs n) e))

@@ -21,7 +21,8 @@ use Rattle.rules.specs.Evaluate.{evaluate, isEntry}
 use Rattle.rules.specs.Run.{assigns, assignsIn, assignsAny, declares, declaresIn, declaresAny, storedLabels, conditionLabels, inBranch, stored, store, Given, evaluateAll, namedOnce, attributesUnder, entryFrom, addEntry, addResource, triedLabels, afterTest, Declaration, ofType, ofClass, included, Declare, run, runBlock, runBranch}
 use Rattle.rules.proofs.Same.{High, Pairwise, nonePaired, paired, Optional, bothNone, bothSome, SameConstant, sameConstant, SameExpression, SameAttributeField, sameAttributeField, SameStatement, sameAssignment, sameConditional, sameChoice, sameResource, sameDefined, sameClass, sameInclude, sameUnreadableStatement, SameBlock, sameEnd, sameNext, SameBranches, sameNoBranch, sameBranch, sameDefaultBranch}
 use Rattle.rules.proofs.Outcome.{All, allDone, allAny, allThen, allMap, allBoth, allIf, allPassed, Two, leftRefused, rightRefused, bothDone, apart, twoBind, twoAny, twoAll, twoThen, twoAt, twoIf, twoStep, withSteps}
-use Rattle.rules.proofs.Unique.{or-true-left, or-true-right, either-left, either-right, both-true, UniqueEntries, UniqueNames, unique, Distinct, named-once, unique-under}
+use Rattle.rules.proofs.Lists.{or-true-left, or-true-right, either-left, either-right, both-true}
+use Rattle.rules.proofs.Unique.{UniqueEntries, UniqueNames, unique, Distinct, named-once, unique-under}
 use Rattle.rules.proofs.Evaluation.{high-one, high-left, high-right, SameLabelled, bothHigh, equals, SameCell, highCell, lowCell, SameCells, SameAttribute, sameAttribute, SameEntry, sameEntry, HighEntry, SameCatalog, entryBoth, entryLeft, entryRight, SameView, evaluate-same}
 use Rattle.rules.proofs.Quiet.{Growth, noGrowth, growth-left, growth-right, growth-unique, Quiet, QuietFrom, QuietDeclare, entry-high, run-quiet, block-quiet, branch-quiet}
 use Rattle.rules.proofs.Frame.{scope-same, mk, Keeps, keptCell, markedCell, keeps-high, Frame, frame, FrameFrom, block-frame, branch-frame}
@@ -52,6 +53,7 @@ module _ (D : ℕ → Type 0) where
 
   mutual
     unfolding assigns
+
     assigns-same : {s s′ : Statement} → SameStatement D s s′ → (n : ℕ) → assigns s n ≡ assigns s′ n
     assigns-same (sameAssignment e) n = refl
     assigns-same (sameConditional e a b) n = ap₂ _||_ (assigns-same-in a n) (assigns-same-in b n)
@@ -73,6 +75,7 @@ module _ (D : ℕ → Type 0) where
 
   mutual
     unfolding declares
+
     declares-same : {s s′ : Statement} → SameStatement D s s′ → declares s ≡ declares s′
     declares-same (sameAssignment e) = refl
     declares-same (sameConditional e a b) = ap₂ _||_ (declares-same-in a) (declares-same-in b)
@@ -160,12 +163,12 @@ module _ (D : ℕ → Type 0) where
   add-high : (k k′ : Known) (p q t m m′ : ℕ) (s s′ : Labels) (gs gs′ : List Given) (c : Context) {st st′ : State} → Low st st′ → High D s → High D s′ → Two Related (addResource k p t m s gs c st) (addResource k′ q t m′ s′ gs′ c st′)
   unfolding addResource addEntry withEntry entryFrom storedLabels
   add-high k k′ p q t m m′ s s′ gs gs′ c {st} {st′} (low hc hk u u′) h h′ = twoAny _ _ λ _ _. passed _ _ _ _ _ _ λ _ _ f f′. twoAny _ _ λ _ _. twoAny _ _ λ _ _.
-    bothDone (relatedLow (low hc (entryLeft (entry-high D t m s c st gs (high-left D _ h)) (entryRight (entry-high D t m′ s′ c st′ gs′ (high-left D _ h′)) hk)) (unique f u) (unique f′ u′)))
+      bothDone (relatedLow (low hc (entryLeft (entry-high D t m s c st gs (high-left D _ h)) (entryRight (entry-high D t m′ s′ c st′ gs′ (high-left D _ h′)) hk)) (unique f u) (unique f′ u′)))
 
   add-low : (k k′ : Known) (p q t m : ℕ) (s : Labels) {gs gs′ : List Given} (c : Context) {st st′ : State} → Low st st′ → SameGivens gs gs′ → Two Related (addResource k p t m s gs c st) (addResource k′ q t m s gs′ c st′)
   unfolding addResource addEntry withEntry entryFrom storedLabels
   add-low k k′ p q t m s {gs} {gs′} c {st} {st′} (low {t = w} hc hk u u′) g = twoAny _ _ λ _ _. passed _ _ _ _ _ _ λ _ _ f f′. twoAll (named-once gs) (named-once gs′) λ _ _ d d′. twoAny _ _ λ _ _.
-    bothDone (relatedLow (low hc (entryBoth (sameEntry (under-same (s ∪ (c .path ∪ w)) s c (low hc hk u u′) g) (unique-under _ c st d) (unique-under _ c st′ d′)) hk) (unique f u) (unique f′ u′)))
+      bothDone (relatedLow (low hc (entryBoth (sameEntry (under-same (s ∪ (c .path ∪ w)) s c (low hc hk u u′) g) (unique-under _ c st d) (unique-under _ c st′ d′)) hk) (unique f u) (unique f′ u′)))
 
   -- ---- What a condition with a high set does to one run, whatever branch is taken
 
@@ -216,15 +219,15 @@ module _ (D : ℕ → Type 0) where
     if-condition : (p : ℕ) (a b : Block) (t : Bool) (s : Labels) (c : Context) (st : State) → High D s → All (Cond (c .scope) (λ n. assignsIn a n || assignsIn b n) (declaresIn a || declaresIn b) st) (afterTest p c (λ n. assignsIn a n || assignsIn b n) (declaresIn a || declaresIn b) s st >>= λ st′. elim t [ true ↦ runBlock k declare a (inBranch s c) st′ | false ↦ runBlock k declare b (inBranch s c) st′ ])
     unfolding afterTest
     if-condition p a b t s c st h = allThen _ _ _ (allIf t
-      (block-condition a (λ n. assignsIn a n || assignsIn b n) (declaresIn a || declaresIn b) s c st h (λ n g. or-true-left (assignsIn a n) (assignsIn b n) g) (λ z. either-left (declaresIn a) (declaresIn b) z))
-      (block-condition b (λ n. assignsIn a n || assignsIn b n) (declaresIn a || declaresIn b) s c st h (λ n g. or-true-right (assignsIn a n) (assignsIn b n) g) (λ z. either-right (declaresIn a) (declaresIn b) z)))
+        (block-condition a (λ n. assignsIn a n || assignsIn b n) (declaresIn a || declaresIn b) s c st h (λ n g. or-true-left (assignsIn a n) (assignsIn b n) g) (λ z. either-left (declaresIn a) (declaresIn b) z))
+        (block-condition b (λ n. assignsIn a n || assignsIn b n) (declaresIn a || declaresIn b) s c st h (λ n g. or-true-right (assignsIn a n) (assignsIn b n) g) (λ z. either-right (declaresIn a) (declaresIn b) z)))
 
     case-condition : (p : ℕ) (bs : Branches) (x : Value) (s : Labels) (c : Context) (st : State) → High D s → All (Cond (c .scope) (assignsAny bs) (declaresAny bs) st) (afterTest p c (assignsAny bs) (declaresAny bs) s st >>= λ st′. runBranch k declare bs x (inBranch s c) st′)
     unfolding afterTest inBranch tested
     case-condition p bs x s c st h = allThen _ _ _ (condition (c .scope) (assignsAny bs) (declaresAny bs) s st h (branch-quiet D k declare quietly bs x _ _ (inl (high-left D _ h))) λ z. branch-frame D k declare bs x _ _ (high-left D _ h) z λ n g. mark-high _ s _ h (both-true (sameScope (c .scope) (c .scope)) (assignsAny bs n) (scope-same (c .scope)) g))
 
   effect-two : (s : Scope) (names names′ : ℕ → Bool) {i i′ : Bool} {st st′ sa sb : State} → i ≡ i′ → ((n : ℕ) → names n ≡ names′ n) → Low st st′ → Growth D (st .entries) (sa .entries) → Growth D (st′ .entries) (sb .entries)
-    → Effect s names i (st .cells) (st .classes) (st .trail) sa → Effect s names′ i′ (st′ .cells) (st′ .classes) (st′ .trail) sb → Related sa sb
+      → Effect s names i (st .cells) (st .classes) (st .trail) sa → Effect s names′ i′ (st′ .cells) (st′ .classes) (st′ .trail) sb → Related sa sb
   effect-two s f f′ e g (low hc hk u u′) x x′ (highTrail j h) (highTrail j′ h′) = relatedHigh h h′ (growth-left D x (growth-right D x′ hk)) (growth-unique D x u) (growth-unique D x′ u′)
   effect-two s f f′ e g (low hc hk u u′) x x′ (highTrail j h) (onlyMarks j′ b′) = absurd (true≢false (sym j ∙ e ∙ j′))
   effect-two s f f′ e g (low hc hk u u′) x x′ (onlyMarks j b) (highTrail j′ h′) = absurd (false≢true (sym j ∙ e ∙ j′))
@@ -317,37 +320,38 @@ module _ (D : ℕ → Type 0) where
 
     -- a case whose scrutinee is the same on both sides; `inside` runs its branches where the patterns agree
     choice-low : (p q : ℕ) {bs bs′ : Branches} → SameBranches D bs bs′ → (c : Context) (x : Value) (s : Labels) {st st′ : State} → Low st st′
-      → ((a : Agree x bs bs′) (c : Context) (st st′ : State) → Low st st′ → Two Related (runBranch k declare bs x c st) (runBranch k′ declare′ bs′ x c st′)) → Tried x bs bs′
-      → Two Related (afterTest p c (assignsAny bs) (declaresAny bs) (conditionLabels c st (s ∪ triedLabels bs x)) st >>= λ st₁. runBranch k declare bs x (inBranch (conditionLabels c st (s ∪ triedLabels bs x)) c) st₁)
-                    (afterTest q c (assignsAny bs′) (declaresAny bs′) (conditionLabels c st′ (s ∪ triedLabels bs′ x)) st′ >>= λ st₁. runBranch k′ declare′ bs′ x (inBranch (conditionLabels c st′ (s ∪ triedLabels bs′ x)) c) st₁)
+        → ((a : Agree x bs bs′) (c : Context) (st st′ : State) → Low st st′ → Two Related (runBranch k declare bs x c st) (runBranch k′ declare′ bs′ x c st′)) → Tried x bs bs′
+        → Two Related (afterTest p c (assignsAny bs) (declaresAny bs) (conditionLabels c st (s ∪ triedLabels bs x)) st >>= λ st₁. runBranch k declare bs x (inBranch (conditionLabels c st (s ∪ triedLabels bs x)) c) st₁)
+        (afterTest q c (assignsAny bs′) (declaresAny bs′) (conditionLabels c st′ (s ∪ triedLabels bs′ x)) st′ >>= λ st₁. runBranch k′ declare′ bs′ x (inBranch (conditionLabels c st′ (s ∪ triedLabels bs′ x)) c) st₁)
     unfolding conditionLabels afterTest
     choice-low p q {bs} {bs′} rs c x s l inside (highTried h h′) = condition-two (c .scope) (assignsAny bs) (assignsAny bs′) (declaresAny bs) (declaresAny bs′) (declares-same-any rs) (assigns-same-any rs) l
-      (case-condition k declare quietly p bs x _ c _ (high-left D _ (high-right D _ h))) (case-condition k′ declare′ quietly′ q bs′ x _ c _ (high-left D _ (high-right D _ h′)))
+        (case-condition k declare quietly p bs x _ c _ (high-left D _ (high-right D _ h))) (case-condition k′ declare′ quietly′ q bs′ x _ c _ (high-left D _ (high-right D _ h′)))
     choice-low p q {bs} {bs′} rs c x s (low {t = t} hc hk u u′) inside (sameTried e a) =
-      let k : Labels = (s ∪ triedLabels bs′ x) ∪ (c .path ∪ t) in
-      rw e (twoThen _ _ _ _ _ _ (go-on (quiet-branch bs x (inBranch k c)) (quiet-branch′ bs′ x (inBranch k c)) (λ st st′ l. inside a (inBranch k c) st st′ l)
+        let k : Labels = (s ∪ triedLabels bs′ x) ∪ (c .path ∪ t) in
+        rw e (twoThen _ _ _ _ _ _ (go-on (quiet-branch bs x (inBranch k c)) (quiet-branch′ bs′ x (inBranch k c)) (λ st st′ l. inside a (inBranch k c) st st′ l)
         (tested-same (c .scope) (assignsAny bs) (assignsAny bs′) _ _ k (assigns-same-any rs) (declares-same-any rs) (low hc hk u u′))))
 
     mutual
       unfolding run conditionLabels afterTest isDeclared
+
       run-low : {s s′ : Statement} → SameStatement D s s′ → (c : Context) {st st′ : State} → Low st st′ → Two Related (run k declare s c st) (run k′ declare′ s′ c st′)
       run-low (sameAssignment {p = p} {q = q} {n = n} e) c l = twoBind (evaluate-same D k k′ c (low-view l) e) λ x y w. store-low c p q n w l
       run-low (sameConditional {p = p} {q = q} {b = a} {d = b} {b′ = a′} {d′ = b′} e ra rb) c (low {t = t} hc hk u u′) = by-value (evaluate-same D k k′ c (low-view (low hc hk u u′)) e)
-        (λ x y h h′. twoAny _ _ λ z z′. condition-two (c .scope) (λ n. assignsIn a n || assignsIn b n) (λ n. assignsIn a′ n || assignsIn b′ n) (declaresIn a || declaresIn b) (declaresIn a′ || declaresIn b′) (ap₂ _||_ (declares-same-in ra) (declares-same-in rb)) (λ n. ap₂ _||_ (assigns-same-in ra n) (assigns-same-in rb n)) (low hc hk u u′)
+          (λ x y h h′. twoAny _ _ λ z z′. condition-two (c .scope) (λ n. assignsIn a n || assignsIn b n) (λ n. assignsIn a′ n || assignsIn b′ n) (declaresIn a || declaresIn b) (declaresIn a′ || declaresIn b′) (ap₂ _||_ (declares-same-in ra) (declares-same-in rb)) (λ n. ap₂ _||_ (assigns-same-in ra n) (assigns-same-in rb n)) (low hc hk u u′)
           (if-condition k declare quietly p a b z _ c _ (high-left D _ h)) (if-condition k′ declare′ quietly′ q a′ b′ z′ _ c _ (high-left D _ h′)))
-        (λ x. twoAt _ _ _ λ z.
+          (λ x. twoAt _ _ _ λ z.
           let s : Labels = x .labels ∪ (c .path ∪ t) in
           let h = tested-same (c .scope) (λ n. assignsIn a n || assignsIn b n) (λ n. assignsIn a′ n || assignsIn b′ n) _ _ s (λ n. ap₂ _||_ (assigns-same-in ra n) (assigns-same-in rb n)) (ap₂ _||_ (declares-same-in ra) (declares-same-in rb)) (low hc hk u u′) in
           twoThen _ _ _ _ _ _ (twoIf z
-            (go-on (quiet-block a (inBranch s c)) (quiet-block′ a′ (inBranch s c)) (λ st st′ l. block-low ra (inBranch s c) l) h)
-            (go-on (quiet-block b (inBranch s c)) (quiet-block′ b′ (inBranch s c)) (λ st st′ l. block-low rb (inBranch s c) l) h)))
+          (go-on (quiet-block a (inBranch s c)) (quiet-block′ a′ (inBranch s c)) (λ st st′ l. block-low ra (inBranch s c) l) h)
+          (go-on (quiet-block b (inBranch s c)) (quiet-block′ b′ (inBranch s c)) (λ st st′ l. block-low rb (inBranch s c) l) h)))
       run-low (sameChoice {p = p} {q = q} {bs = bs} {bs′ = bs′} e rs) c (low {t = t} hc hk u u′) = by-value (evaluate-same D k k′ c (low-view (low hc hk u u′)) e)
-        (λ x y h h′. condition-two (c .scope) (assignsAny bs) (assignsAny bs′) (declaresAny bs) (declaresAny bs′) (declares-same-any rs) (assigns-same-any rs) (low hc hk u u′)
+          (λ x y h h′. condition-two (c .scope) (assignsAny bs) (assignsAny bs′) (declaresAny bs) (declaresAny bs′) (declares-same-any rs) (assigns-same-any rs) (low hc hk u u′)
           (case-condition k declare quietly p bs (x .value) _ c _ (high-left D _ (high-left D _ h))) (case-condition k′ declare′ quietly′ q bs′ (y .value) _ c _ (high-left D _ (high-left D _ h′))))
-        (λ x. choice-low p q rs c (x .value) (x .labels) (low hc hk u u′) (λ a c st st′ l. branch-low rs (x .value) a c l) (tried-same (x .value) rs))
+          (λ x. choice-low p q rs c (x .value) (x .labels) (low hc hk u u′) (λ a c st st′ l. branch-low rs (x .value) a c l) (tried-same (x .value) rs))
       run-low (sameResource {p = p} {q = q} {t = t} e fs) c l = by-value (evaluate-same D k k′ c (low-view l) e)
-        (λ x y h h′. twoAny _ _ λ m m′. twoAny _ _ λ gs gs′. add-high k k′ p q t m m′ (x .labels) (y .labels) gs gs′ c l h h′)
-        (λ x. twoAt _ _ _ λ m. twoBind (evaluate-all-same k k′ c (low-view l) fs) λ gs gs′ g. add-low k k′ p q t m (x .labels) c l g)
+          (λ x y h h′. twoAny _ _ λ m m′. twoAny _ _ λ gs gs′. add-high k k′ p q t m m′ (x .labels) (y .labels) gs gs′ c l h h′)
+          (λ x. twoAt _ _ _ λ m. twoBind (evaluate-all-same k k′ c (low-view l) fs) λ gs gs′ g. add-low k k′ p q t m (x .labels) c l g)
       run-low (sameDefined e fs) c l = twoBind (evaluate-same D k k′ c (low-view l) e) λ x y w. twoAny _ _ λ m m′. twoBind (evaluate-all-same k k′ c (low-view l) fs) λ gs gs′ g. alike _ _ (sameOfType w g) c _ _ (relatedLow l)
       run-low (sameClass fs) c l = twoBind (evaluate-all-same k k′ c (low-view l) fs) λ gs gs′ g. alike _ _ (sameOfClass g) c _ _ (relatedLow l)
       run-low (sameInclude {c = n}) c (low {q = q} hc hk u u′) = twoIf (declaredIn q n) (bothDone (relatedLow (low hc hk u u′))) (alike _ _ sameIncluded c _ _ (relatedLow (low hc hk u u′)))

@@ -7,6 +7,7 @@ use mathlib.Core.Option.{Option, none, some}
 use Rattle.values.specs.declared.Reason.{Reason}
 use Rattle.rules.specs.Outcome.{Outcome, refused, done, _>>=_, refuseIf, orRefuse, Result, fails, gives, at}
 use Rattle.rules.specs.State.{State, takeStep}
+use Rattle.rules.proofs.Lists.{Perhaps, notThere, there}
 use Rattle.rules.proofs.Same.{Optional, bothNone, bothSome}
 
 -- of the result, if there is one
@@ -67,6 +68,29 @@ allStep {Q} p st f h = go (st .stepsLeft)
     go : (n : ℕ) → All Q (_>>=_ {A = State} (elim n [ zero ↦ refused Reason.StepLimit p | suc m ↦ done (withSteps m st) ]) f)
     go zero = allRefused
     go (suc n) = h n
+
+pub allFound : {A : Type 0} {P : A → Type 0} {o : Option A} (r : Reason) (p : ℕ) → Perhaps P o → All P (orRefuse o r p)
+unfolding orRefuse
+allFound r p notThere = allRefused
+allFound r p (there h) = allDone h
+
+-- an accepted outcome
+pub allGet : {A : Type 0} {P : A → Type 0} {m : Outcome A} {a : A} → All P m → m ≡ done a → P a
+allGet {P} h e = inside (rw e at h)
+  where
+    inside : {A : Type 0} {P : A → Type 0} {a : A} → All P (done a) → P a
+    inside (allDone p) = p
+
+-- the answer of an operation on values
+
+pub data Gives {A : Type 0} (P : A → Type 0) : Result A → Type 0 where
+  givesNone : {r : Reason} → Gives P (fails r)
+  givesOne : {a : A} → P a → Gives P (gives a)
+
+pub allAt : {A : Type 0} {P : A → Type 0} {m : Result A} (p : ℕ) → Gives P m → All P (at p m)
+unfolding at
+allAt p givesNone = allRefused
+allAt p (givesOne h) = allDone h
 
 -- ---- Two runs
 

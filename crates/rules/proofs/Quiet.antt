@@ -18,7 +18,9 @@ use Rattle.rules.specs.Evaluate.{any}
 use Rattle.rules.specs.Run.{storedLabels, conditionLabels, inBranch, store, Given, storeAll, storeTitle, attributesUnder, entryFrom, addEntry, addResource, afterTest, Declaration, ofType, ofClass, included, Declare, run, runBlock, runBranch, classAbove, inClass, inBody, parentFirst, enterClass, declaration}
 use Rattle.rules.proofs.Same.{High}
 use Rattle.rules.proofs.Outcome.{All, allRefused, allDone, allBind, allAny, allThen, allMap, allIf, allPassed, allStep, withSteps}
-use Rattle.rules.proofs.Unique.{Every, everyNone, every, UniqueEntries, unique, Key, keyOf, hasKey}
+use Rattle.rules.proofs.Lists.{Each, noneLeft, also}
+use Rattle.rules.proofs.Lists.{Each, noneLeft, also}
+use Rattle.rules.proofs.Unique.{UniqueEntries, unique, keyOf, hasKey}
 use Rattle.rules.proofs.Evaluation.{high-left, high-right, HighAttribute, HighEntry, SameCatalog, entryLeft, entryRight}
 
 module _ (D : ℕ → Type 0) where
@@ -97,10 +99,10 @@ module _ (D : ℕ → Type 0) where
   store-title-quiet (some n) c p x st = store-quiet c p n x st
 
   -- a high set on the resource makes all its attributes high
-  pub attributes-high : {k : Labels} (c : Context) (st : State) (gs : List Given) → High D k → Every (HighAttribute D) (attributesUnder k c st gs)
+  pub attributes-high : {k : Labels} (c : Context) (st : State) (gs : List Given) → High D k → Each (HighAttribute D) (attributesUnder k c st gs)
   unfolding attributesUnder
-  attributes-high c st [] h = everyNone
-  attributes-high c st (g ∷ gs) h = every (high-right D _ h) (attributes-high c st gs h)
+  attributes-high c st [] h = noneLeft
+  attributes-high c st (g ∷ gs) h = also (high-right D _ h) (attributes-high c st gs h)
 
   pub entry-high : (t m : ℕ) (k : Labels) (c : Context) (st : State) (gs : List Given) → High D (storedLabels c st k) → HighEntry D (entryFrom t m k c st gs)
   unfolding entryFrom
@@ -135,6 +137,7 @@ module _ (D : ℕ → Type 0) where
   module _ (k : Known) (declare : Declare) (quietly : QuietDeclare declare) where
     mutual
       unfolding run inBranch tested
+
       pub run-quiet : (s : Statement) (c : Context) (st : State) → Under (c .path) (st .trail) → All (QuietFrom st) (run k declare s c st)
       run-quiet (assignment p n e) c st h = allAny _ λ x. store-quiet c p n x st
       run-quiet (conditional p e a b) c st h = allAny _ λ x. allAny _ λ t. after-test-quiet p c _ _ _ st _ (allIf t (block-quiet a _ _ (inl (high-left D _ (condition-high (x .labels) c st h)))) (block-quiet b _ _ (inl (high-left D _ (condition-high (x .labels) c st h)))))
@@ -171,14 +174,14 @@ module _ (D : ℕ → Type 0) where
   unfolding declaration free inBody
   declaration-quiet k zero d c st h = allRefused
   declaration-quiet k (suc n) (ofType p t x gs) c st h = allAny _ λ d. allAny _ λ _. allAny _ λ vs. allAny _ λ _.
-    allBind (store-title-quiet (k .title) (inBody n c) p x st) λ st₁ q₁.
-    allBind (store-all-quiet (inBody n c) vs st₁) λ st₂ q₂.
-    allBind (block-quiet k (declaration k n) (declaration-quiet k n) (d .body) (inBody n c) st₂ (still-under q₂ (still-under q₁ h))) λ st₃ q₃.
-    let q = quiet-trans q₁ (quiet-trans q₂ q₃) in
-    allDone (quiet (q .growth) (q .stays))
+      allBind (store-title-quiet (k .title) (inBody n c) p x st) λ st₁ q₁.
+      allBind (store-all-quiet (inBody n c) vs st₁) λ st₂ q₂.
+      allBind (block-quiet k (declaration k n) (declaration-quiet k n) (d .body) (inBody n c) st₂ (still-under q₂ (still-under q₁ h))) λ st₃ q₃.
+      let q = quiet-trans q₁ (quiet-trans q₂ q₃) in
+      allDone (quiet (q .growth) (q .stays))
   declaration-quiet k (suc n) (ofClass p q gs) c st h = allAny _ λ d. allAny _ λ _. allAny _ λ _. allAny _ λ vs. allAny _ λ _.
-    allBind (parent-quiet k (declaration k n) (declaration-quiet k n) (d .parent) c st h) λ st₁ q₁. allAny _ λ _.
-    allMap (enter-quiet k (declaration k n) (declaration-quiet k n) d vs c st₁ (still-under q₁ h)) λ st₂ q₂. quiet-trans q₁ q₂
+      allBind (parent-quiet k (declaration k n) (declaration-quiet k n) (d .parent) c st h) λ st₁ q₁. allAny _ λ _.
+      allMap (enter-quiet k (declaration k n) (declaration-quiet k n) d vs c st₁ (still-under q₁ h)) λ st₂ q₂. quiet-trans q₁ q₂
   declaration-quiet k (suc n) (included p q) c st h = allAny _ λ d. allAny _ λ vs.
-    allBind (parent-quiet k (declaration k n) (declaration-quiet k n) (d .parent) c st h) λ st₁ q₁.
-    allIf (isDeclared q st₁) (allDone q₁) (allMap (enter-quiet k (declaration k n) (declaration-quiet k n) d vs c st₁ (still-under q₁ h)) λ st₂ q₂. quiet-trans q₁ q₂)
+      allBind (parent-quiet k (declaration k n) (declaration-quiet k n) (d .parent) c st h) λ st₁ q₁.
+      allIf (isDeclared q st₁) (allDone q₁) (allMap (enter-quiet k (declaration k n) (declaration-quiet k n) d vs c st₁ (still-under q₁ h)) λ st₂ q₂. quiet-trans q₁ q₂)

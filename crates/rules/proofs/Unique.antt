@@ -1,83 +1,17 @@
 -- Keys that stand once in a list: entries by type and title, attributes by name.
 use Prim.Native.Nat.{ℕ, zero, suc}
 use mathlib.Core.Path.{_≡_, refl, sym, ap, _∙_}
-use mathlib.Core.Bool.{Bool, true, false, _||_, _&&_, true≢false}
+use mathlib.Core.Bool.{Bool, true, false, _||_, true≢false}
 use mathlib.Core.List.{List, [], _∷_, List·Memᴰ, List·Memᴰ·head, List·Memᴰ·tail}
-use lib.Dec.{T, eqb, eqb→eq, eqb-refl}
+use lib.Dec.{eqb}
 use Rattle.labels.specs.declared.Labels.{Labels}
 use Rattle.rules.specs.State.{Attribute, Entry, Context, State}
 use Rattle.rules.specs.Evaluate.{any, isEntry, isAttribute}
 use Rattle.rules.specs.Outcome.{_>>=_, refuseIf}
 use Rattle.rules.specs.Run.{Given, isGiven, namedOnce, attributesUnder}
 use Rattle.rules.specs.EditRule.{oneMore, howMany}
+use Rattle.rules.proofs.Lists.{either-left, either-right, neither, or-true-left, or-true-right, both-left, both-right, both-true, eqb-true, eqb-same, eqb-sym, Each, noneLeft, also}
 use Rattle.rules.proofs.Outcome.{All, allRefused, allDone, allBind, allMap, allPassed}
-
--- ---- Booleans
-
-pub either-left : (a b : Bool) → (a || b) ≡ false → a ≡ false
-either-left true b h = absurd (true≢false h)
-either-left false b h = refl
-
-pub either-right : (a b : Bool) → (a || b) ≡ false → b ≡ false
-either-right true b h = absurd (true≢false h)
-either-right false b h = h
-
-pub neither : (a b : Bool) → a ≡ false → b ≡ false → (a || b) ≡ false
-neither true b h g = h
-neither false b h g = g
-
-pub or-true-left : (a b : Bool) → a ≡ true → (a || b) ≡ true
-or-true-left true b h = refl
-or-true-left false b h = absurd (true≢false (sym h))
-
-pub or-true-right : (a b : Bool) → b ≡ true → (a || b) ≡ true
-or-true-right true b h = refl
-or-true-right false b h = h
-
-pub both-left : (a b : Bool) → (a && b) ≡ true → a ≡ true
-both-left true b h = refl
-both-left false b h = absurd (true≢false (sym h))
-
-pub both-right : (a b : Bool) → (a && b) ≡ true → b ≡ true
-both-right true b h = h
-both-right false b h = absurd (true≢false (sym h))
-
-pub both-true : (a b : Bool) → a ≡ true → b ≡ true → (a && b) ≡ true
-both-true true b h g = g
-both-true false b h g = h
-
-pub T-true : (b : Bool) → T b → b ≡ true
-T-true true t = refl
-T-true false t = absurd t
-
-pub true-T : (b : Bool) → b ≡ true → T b
-true-T true h = tt
-true-T false h = absurd (true≢false (sym h))
-
-pub eqb-true : (m n : ℕ) → eqb m n ≡ true → m ≡ n
-eqb-true m n h = eqb→eq m n (true-T (eqb m n) h)
-
-pub eqb-same : (n : ℕ) → eqb n n ≡ true
-eqb-same n = T-true (eqb n n) (eqb-refl n)
-
-pub eqb-sym : (m n : ℕ) → eqb m n ≡ eqb n m
-eqb-sym m n = go (eqb m n) (eqb n m) refl refl
-  where
-    go : (a b : Bool) → eqb m n ≡ a → eqb n m ≡ b → a ≡ b
-    go true true h g = refl
-    go true false h g = absurd (true≢false (sym (eqb-same n) ∙ ap (λ (k : ℕ). eqb n k) (sym (eqb-true m n h)) ∙ g))
-    go false true h g = absurd (true≢false (sym (eqb-same m) ∙ ap (λ (k : ℕ). eqb m k) (sym (eqb-true n m g)) ∙ h))
-    go false false h g = refl
-
--- ---- Each element of a list
-
-pub data Every {A : Type 0} (P : A → Type 0) : List A → Type 0 where
-  everyNone : Every P []
-  every : {x : A} {xs : List A} → P x → Every P xs → Every P (x ∷ xs)
-
-pub everyAt : {A : Type 0} {P : A → Type 0} {x : A} {xs : List A} → Every P xs → List·Memᴰ x xs → P x
-everyAt (every p ps) (List·Memᴰ·head e) = rw e p
-everyAt (every p ps) (List·Memᴰ·tail m) = everyAt ps m
 
 -- ---- A test by a key: `keyed k e` says whether e has the key k
 
@@ -169,21 +103,21 @@ pub data Distinct : List Given → Type 0 where
   distinctNone : Distinct []
   distinct : {g : Given} {gs : List Given} → any (isGiven (g .name)) gs ≡ false → Distinct gs → Distinct (g ∷ gs)
 
-one-more : (g : Given) (gs : List Given) {earlier : List Given} → any (isGiven (g .name)) earlier ≡ false → Every (NoLater gs) earlier → Every (NoLater (g ∷ gs)) earlier
+one-more : (g : Given) (gs : List Given) {earlier : List Given} → any (isGiven (g .name)) earlier ≡ false → Each (NoLater gs) earlier → Each (NoLater (g ∷ gs)) earlier
 unfolding any isGiven
-one-more g gs h everyNone = everyNone
-one-more g gs h (every {x = e} {xs = es} p ps) =
-    every (neither (eqb (g .name) (e .name)) _ (eqb-sym (g .name) (e .name) ∙ either-left (eqb (e .name) (g .name)) (any (isGiven (g .name)) es) h) p) (one-more g gs (either-right (eqb (e .name) (g .name)) (any (isGiven (g .name)) es) h) ps)
+one-more g gs h noneLeft = noneLeft
+one-more g gs h (also {x = e} {xs = es} p ps) =
+    also (neither (eqb (g .name) (e .name)) _ (eqb-sym (g .name) (e .name) ∙ either-left (eqb (e .name) (g .name)) (any (isGiven (g .name)) es) h) p) (one-more g gs (either-right (eqb (e .name) (g .name)) (any (isGiven (g .name)) es) h) ps)
 
-first-of : {P : Given → Type 0} {g : Given} {gs : List Given} → Every P (g ∷ gs) → P g × Every P gs
-first-of (every p ps) = (p, ps)
+first-of : {P : Given → Type 0} {g : Given} {gs : List Given} → Each P (g ∷ gs) → P g × Each P gs
+first-of (also p ps) = (p, ps)
 
-no-later : (earlier : List Given) → Every (NoLater []) earlier
+no-later : (earlier : List Given) → Each (NoLater []) earlier
 unfolding any
-no-later [] = everyNone
-no-later (e ∷ es) = every refl (no-later es)
+no-later [] = noneLeft
+no-later (e ∷ es) = also refl (no-later es)
 
-named-apart : (earlier gs : List Given) → All (λ (u : Unit {0}). Distinct gs × Every (NoLater gs) earlier) (namedOnce earlier gs)
+named-apart : (earlier gs : List Given) → All (λ (u : Unit {0}). Distinct gs × Each (NoLater gs) earlier) (namedOnce earlier gs)
 unfolding namedOnce
 named-apart earlier [] = allDone (distinctNone, no-later earlier)
 named-apart earlier (g ∷ gs) = allBind (allPassed _ _ _) λ _ h. allMap (named-apart (g ∷ earlier) gs) λ _ d. let f = first-of (d .1) in (distinct (f .0) (d .0), one-more g gs h (f .1))

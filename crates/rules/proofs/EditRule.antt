@@ -1,0 +1,135 @@
+-- Demand 3, proved: the edit rule over the definition's whole compile.
+use Prim.Native.Nat.{ℕ, _-_}
+use mathlib.Core.Path.{_≡_, refl, sym, ap, _∙_}
+use mathlib.Core.Bool.{Bool, true, false, true≢false}
+use mathlib.Core.List.{List, [], _∷_, _++_, List·Memᴰ, List·Memᴰ·head, List·Memᴰ·tail}
+use lib.ListN.{length, take, replicate}
+use Rattle.labels.specs.declared.Labels.{Labels}
+use Rattle.labels.specs.Sets.{has}
+use Rattle.values.specs.declared.Answer.{Answer}
+use Rattle.values.specs.declared.Answer.the-variants.{Catalog, Refused}
+use Rattle.rules.specs.Outcome.{Outcome, refused, done, _>>=_}
+use Rattle.rules.specs.Tree.{Item, Manifest}
+use Rattle.rules.specs.Read.{manifestOf}
+use Rattle.rules.specs.State.{Attribute, Entry, State}
+use Rattle.rules.specs.Evaluate.{isEntry, isAttribute}
+use Rattle.rules.specs.Run.{runItems}
+use Rattle.rules.specs.Catalog.{catalogBytes, readCatalog}
+use Rattle.rules.specs.Compile.{knownFirst, itemsFor, start, runManifest, finalState, onto, entriesInOrder, Compiled, compiledFrom, compiled, answerOf, outputAfter, Effect, compile}
+use Rattle.rules.specs.EditRule.{oneTree, differing, Untouched, howMany, KeptResource, KeptAttribute, Claim, IsBytes}
+use Rattle.rules.proofs.Same.{High, Pairwise, nonePaired, paired, SameItem}
+use Rattle.rules.proofs.Outcome.{allRefused, allGet, Two, twoAny, results}
+use Rattle.rules.proofs.Lists.{each-member}
+use Rattle.rules.proofs.Evaluation.{SameLabelled, bothHigh, equals, SameAttribute, sameAttribute, SameEntry, sameEntry, HighEntry, SameCatalog, emptyBoth, entryBoth, entryLeft, entryRight}
+use Rattle.rules.proofs.Lockstep.{low, Related, relatedLow, relatedHigh}
+use Rattle.rules.proofs.Declarations.{sameKnown, items-related, items-for-same, start-related}
+use Rattle.rules.proofs.OneTree.{one-tree, one-table}
+use Rattle.rules.proofs.Laws.{catalog-reads-back, type-and-title-once, names-once}
+
+module _ (D : ℕ → Type 0) where
+  -- ---- Two whole runs end in related states
+
+  run-related : (ss ss′ : List (List ℕ)) (device : List ℕ) {is is′ : List Item} → ss ≡ ss′ → Pairwise (SameItem D) is is′ → (limit output limit′ output′ : ℕ)
+      → Two (Related D) (runItems (knownFirst ss) (itemsFor ss device is) (start limit output)) (runItems (knownFirst ss′) (itemsFor ss′ device is′) (start limit′ output′))
+  unfolding knownFirst
+  run-related ss ss′ device e r limit output limit′ output′ = rw e (items-related D (sameKnown nonePaired) (items-for-same D ss′ device r) (start-related D limit output limit′ output′))
+
+  catalogs : {st st′ : State} → Related D st st′ → SameCatalog D (st .entries) (st′ .entries)
+  catalogs (relatedLow (low hc hk u u′)) = hk
+  catalogs (relatedHigh h h′ r u u′) = r
+
+  -- in declaration order
+  onto-same : {c d r q : List Entry} → SameCatalog D c d → SameCatalog D r q → SameCatalog D (onto c r) (onto d q)
+  unfolding onto
+  onto-same emptyBoth h = h
+  onto-same (entryBoth e s) h = onto-same s (entryBoth e h)
+  onto-same (entryLeft e s) h = onto-same s (entryLeft e h)
+  onto-same (entryRight e s) h = onto-same s (entryRight e h)
+
+  -- ---- What the relation of two catalogs says of an entry and of an attribute that are not high
+
+  record Opposite (e : Entry) (d : List Entry) : Type 0 where
+    entry : Entry
+    present : List·Memᴰ entry d
+    same : SameEntry D e entry
+
+  opposite : {c d : List Entry} {e : Entry} → SameCatalog D c d → List·Memᴰ e c → (HighEntry D e → ⊥) → Opposite e d
+  opposite (entryBoth {f = f} x r) (List·Memᴰ·head p) l = record { entry = f; present = List·Memᴰ·head refl; same = rw p x }
+  opposite (entryBoth x r) (List·Memᴰ·tail m) l = let y = opposite r m l in record { entry = y .entry; present = List·Memᴰ·tail (y .present); same = y .same }
+  opposite (entryLeft h r) (List·Memᴰ·head p) l = absurd (l (rw p h))
+  opposite (entryLeft h r) (List·Memᴰ·tail m) l = opposite r m l
+  opposite (entryRight h r) m l = let y = opposite r m l in record { entry = y .entry; present = List·Memᴰ·tail (y .present); same = y .same }
+
+  attribute-kept : {a : Attribute} {l l′ : List Attribute} → Pairwise (SameAttribute D) l l′ → List·Memᴰ a l → (High D (a .content .labels) → ⊥) → List·Memᴰ a l′
+  attribute-kept (paired (sameAttribute (bothHigh h g)) r) (List·Memᴰ·head p) n = absurd (n (rw p h))
+  attribute-kept (paired (sameAttribute equals) r) (List·Memᴰ·head p) n = List·Memᴰ·head p
+  attribute-kept (paired v r) (List·Memᴰ·tail m) n = List·Memᴰ·tail (attribute-kept r m n)
+
+-- ---- The claim, about entries
+
+abbrev Differs : List ℕ → List ℕ → ℕ → Type 0
+Differs m m′ l = differing m m′ l ≡ true
+
+not-high : (m m′ : List ℕ) {s : Labels} → Untouched m m′ s → High (Differs m m′) s → ⊥
+not-high m m′ u h = true≢false (sym (h .within) ∙ u .lacks (h .label) (h .differs))
+
+-- the type and title of each entry of a list are there once, and each name once in an entry
+record Once (d : List Entry) : Type 0 where
+  entries : (e : Entry) → List·Memᴰ e d → howMany (isEntry (e .type) (e .title)) d ≡ 1
+  names : (e : Entry) → List·Memᴰ e d → (a : Attribute) → List·Memᴰ a (e .attributes) → howMany (isAttribute (a .name)) (e .attributes) ≡ 1
+
+module _ (m m′ : List ℕ) {d : List Entry} (once : Once d) where
+  resource-kept : {e f : Entry} → SameEntry (Differs m m′) e f → List·Memᴰ f d → KeptResource e d
+  resource-kept {f = f} (sameEntry r u u′) p = record { entry = f; present = p; type = refl; title = refl; labels = refl; once = once .entries f p }
+
+  attribute-of-kept : {e f : Entry} {a : Attribute} → SameEntry (Differs m m′) e f → List·Memᴰ f d → List·Memᴰ a (e .attributes) → (High (Differs m m′) (a .content .labels) → ⊥) → KeptAttribute e a d
+  attribute-of-kept {f = f} {a = a} (sameEntry r u u′) p i n =
+      let w = attribute-kept (Differs m m′) r i n in
+      record { entry = f; present = p; type = refl; title = refl; entryOnce = once .entries f p; attribute = a; within = w; name = refl; value = refl; labels = refl; once = once .names f p a w }
+
+  claim : {c : List Entry} → SameCatalog (Differs m m′) c d → Claim m m′ c d
+  claim r = record {
+    resources = λ e p u. let y = opposite (Differs m m′) r p (λ h. not-high m m′ u (h .own)) in resource-kept (y .same) (y .present);
+    attributes = λ e a p i u. let y = opposite (Differs m m′) r p (λ h. not-high m m′ u (each-member (h .all) i)) in attribute-of-kept (y .same) (y .present) i (not-high m m′ u);
+  }
+
+-- ---- The claim, about two accepted compiles
+
+final-related : (m m′ device : List ℕ) → oneTree m m′ ≡ true → (limit limit′ output output′ memory memory′ : ℕ) → Two (Related (Differs m m′)) (finalState m device limit output memory) (finalState m′ device limit′ output′ memory′)
+unfolding finalState runManifest
+final-related m m′ device t limit limit′ output output′ memory memory′ = twoAny _ _ λ _ _. twoAny _ _ λ _ _. twoAny _ _ λ _ _.
+    run-related (Differs m m′) (manifestOf m .strings) (manifestOf m′ .strings) device (one-table m m′ t) (one-tree m m′ t) limit output limit′ output′
+
+states : (m m′ device : List ℕ) → oneTree m m′ ≡ true → (limit limit′ output output′ memory memory′ : ℕ) {st st′ : State} → finalState m device limit output memory ≡ done st → finalState m′ device limit′ output′ memory′ ≡ done st′ → Claim m m′ (entriesInOrder st) (entriesInOrder st′)
+unfolding entriesInOrder
+states m m′ device t limit limit′ output output′ memory memory′ e e′ =
+    claim m m′ (record { entries = type-and-title-once m′ device limit′ output′ memory′ e′; names = names-once m′ device limit′ output′ memory′ e′ })
+    (onto-same (Differs m m′) (catalogs (Differs m m′) (results (final-related m m′ device t limit limit′ output output′ memory memory′) e e′)) emptyBoth)
+
+-- an accepted compile has a final state, whose catalog it gives
+record Accepted (m device : List ℕ) (limit output memory : ℕ) (c : Compiled) : Type 0 where
+  state : State
+  final : finalState m device limit output memory ≡ done state
+  gives : compiledFrom limit state ≡ c
+
+accepted : (m device : List ℕ) (limit output memory : ℕ) (c : Compiled) → compiled m device limit output memory ≡ done c → Accepted m device limit output memory c
+unfolding compiled _>>=_
+accepted m device limit output memory c h = go (finalState m device limit output memory) refl h
+  where
+    go : (o : Outcome State) → finalState m device limit output memory ≡ o → (o >>= λ st. done (compiledFrom limit st)) ≡ done c → Accepted m device limit output memory c
+    go (refused r p) e h = absurd (allGet {P = λ (x : Compiled). ⊥} allRefused h)
+    go (done st) e h = record { state = st; final = e; gives = cc }
+
+-- a byte string's catalog, read back, has the entries of the final state
+read-entries : (m device : List ℕ) → IsBytes m → (limit output memory : ℕ) (c : Compiled) (a : Accepted m device limit output memory c) → readCatalog (c .catalog) ≡ entriesInOrder (a .state)
+unfolding compiledFrom
+read-entries m device b limit output memory c a = ap (λ (x : Compiled). readCatalog (x .catalog)) (sym (a .gives)) ∙ catalog-reads-back m device limit output memory b (a .final)
+
+-- THE EDIT RULE. For every two manifests with one string table and one tree, and for every device, whatever step limit and output length each
+-- compile is given: if both are accepted, the claim holds of the entries read back from the two catalogs' bytes.
+pub edit-rule : (m m′ device : List ℕ) → IsBytes m → IsBytes m′ → oneTree m m′ ≡ true → (limit limit′ output output′ memory memory′ : ℕ) (c c′ : Compiled)
+    → compiled m device limit output memory ≡ done c → compiled m′ device limit′ output′ memory′ ≡ done c′ → Claim m m′ (readCatalog (c .catalog)) (readCatalog (c′ .catalog))
+edit-rule m m′ device b b′ t limit limit′ output output′ memory memory′ c c′ h h′ =
+    let a = accepted m device limit output memory c h in
+    let a′ = accepted m′ device limit′ output′ memory′ c′ h′ in
+    rw (read-entries m device b limit output memory c a, read-entries m′ device b′ limit′ output′ memory′ c′ a′) (states m m′ device t limit limit′ output output′ memory memory′ (a .final) (a′ .final))

@@ -1,0 +1,176 @@
+-- A catalog's bytes read back as its entries: for entries whose numbers fit their fields, in at most 65,535 bytes. Assumes nothing.
+use mathlib.Core.Path.{_≡_, refl, sym, ap, _∙_}
+use mathlib.Core.Bool.{Bool, true, false}
+use mathlib.Core.List.{List, [], _∷_, _++_}
+use Prim.Native.Nat.{ℕ, zero, suc, _+_, _*_, _-_, _/_, _%_, _^_, _≤_, _<_}
+use native.Mathlib.Nat.{pow-suc, one-le-pow, zero-lt-suc, mod-eq-of-lt, mod-one, zero-mul, add-mul, mul-assoc, mul-comm}
+use native.Mathlib.Omega.{arith}
+use borrow.Author.Tests.{ltb-true, le-ltb}
+use lib.Arith.{mod-mul}
+use lib.IntN.{ℤ, pos, negsuc}
+use lib.ListN.{length, take, drop, length-append}
+use lib.Seq.{take-append-seam, drop-append-seam, drop-drop, drop-at}
+use Rattle.labels.specs.declared.Labels.{Labels}
+use Rattle.labels.specs.Sets.{Words64}
+use Rattle.labels.specs.Bytes.{labelBytes, labelsFrom}
+use Rattle.labels.proofs.Laws.{label-length, label-back}
+use Rattle.values.specs.declared.Value.{Value}
+use Rattle.values.specs.declared.Value.the-variants.{Integer, String, Boolean}
+use Rattle.values.specs.declared.Labelled.{Labelled}
+use Rattle.rules.specs.Bytes.{two}
+use Rattle.rules.specs.Read.{number, signed64}
+use Rattle.rules.specs.Arithmetic.{fits64}
+use Rattle.rules.specs.State.{Attribute, Entry}
+use Rattle.rules.specs.Catalog.{highBytes, fieldBytes, word64, booleanByte, valueBytes, attributeBytes, attributesBytes, entryBytes, catalogBytes, bodiesUp, bodies, valueOf, attributeOf, attributesOf, entryOf, entriesOf, readCatalog}
+use Rattle.rules.proofs.Lists.{Each, noneLeft, also}
+
+-- ---- What fits
+
+-- an integer in 64 bits, a string's number in two bytes
+pub data FitsValue : Value → Type 0 where
+  fitsInteger : {z : ℤ} → fits64 z ≡ true → FitsValue (Integer z)
+  fitsString : {n : ℕ} → n < 65536 → FitsValue (String n)
+  fitsBoolean : {b : Bool} → FitsValue (Boolean b)
+
+pub record FitsLabelled (x : Labelled) : Type 0 where
+  pub value : FitsValue (x .value)
+  pub labels : Words64 (x .labels)
+
+pub record FitsAttribute (a : Attribute) : Type 0 where
+  pub name : a .name < 65536
+  pub content : FitsLabelled (a .content)
+
+pub record FitsEntry (e : Entry) : Type 0 where
+  pub type : e .type < 65536
+  pub title : e .title < 65536
+  pub labels : Words64 (e .labels)
+  pub attributes : Each FitsAttribute (e .attributes)
+
+-- ---- Numbers
+
+pub high-length : (k w : ℕ) → length (highBytes k w) ≡ k
+unfolding highBytes
+high-length zero w = refl
+high-length (suc k) w = ap suc (high-length k w)
+
+-- the k bytes of w, read after n, are n moved up by k bytes and what of w fits k bytes
+number-high : (k w n : ℕ) → number (highBytes k w) n ≡ n * 256 ^ k + w % 256 ^ k
+unfolding highBytes number
+number-high zero w n = omega (arith, mod-one w)
+number-high (suc k) w n =
+    let d : ℕ = w / 256 ^ k % 256 in
+    let low : w % 256 ^ suc k ≡ d * 256 ^ k + w % 256 ^ k =
+    ap (λ (x : ℕ). w % x) (pow-suc 256 k ∙ mul-comm (256 ^ k) 256) ∙ mod-mul w (zero-lt-suc 255) (one-le-pow k 256 (zero-lt-suc 255)) in
+    let high : n * 256 ^ suc k ≡ n * 256 * 256 ^ k =
+    ap (λ (x : ℕ). n * x) (pow-suc 256 k ∙ mul-comm (256 ^ k) 256) ∙ sym (mul-assoc n 256 (256 ^ k)) in
+    omega (arith, number-high k w (n * 256 + d), add-mul (n * 256) d (256 ^ k))
+
+-- a number that fits k bytes is read back from them
+pub number-back : (k w : ℕ) → w < 256 ^ k → number (highBytes k w) 0 ≡ w
+number-back k w h = omega (arith, number-high k w 0, mod-eq-of-lt h, zero-mul (256 ^ k))
+
+-- of two bytes, whatever follows
+pub two-back : (w : ℕ) (rest : List ℕ) → w < 65536 → two (highBytes 2 w ++ rest) 0 ≡ w
+unfolding two highBytes number
+two-back w rest h = omega (arith, number-back 2 w h)
+
+-- an integer of 64 bits, from its two's complement
+pub integer-back : (z : ℤ) → fits64 z ≡ true → signed64 (word64 z) ≡ z
+unfolding signed64 word64 fits64
+integer-back (pos n) e = ap (λ (b : Bool). elim b [ true ↦ pos n | false ↦ negsuc (18446744073709551615 - n) ]) e
+integer-back (negsuc n) e =
+    let h : n < 9223372036854775808 = ltb-true n 9223372036854775808 e in
+    ap (λ (b : Bool). elim b [ true ↦ pos (18446744073709551615 - n) | false ↦ negsuc (18446744073709551615 - (18446744073709551615 - n)) ]) (le-ltb (18446744073709551615 - n) 9223372036854775808 (omega arith))
+    ∙ ap negsuc (omega arith)
+
+word64-lt : (z : ℤ) → fits64 z ≡ true → word64 z < 256 ^ 8
+unfolding word64 fits64
+word64-lt (pos n) e = let h : n < 9223372036854775808 = ltb-true n 9223372036854775808 e in omega arith
+word64-lt (negsuc n) e = omega arith
+
+-- ---- Sequences of fields
+
+pub field-length : (t : ℕ) (b : List ℕ) → length (fieldBytes t b) ≡ 3 + length b
+unfolding fieldBytes highBytes
+field-length t b = omega arith
+
+-- elements written as fields one after the other are read back from the bodies of those fields, if each is read back from its own body
+module _ {A : Type 0} (tag : ℕ) (body : A → List ℕ) (read : List ℕ → A) (bytesOf : List A → List ℕ) (listOf : List (List ℕ) → List A)
+    (bytes-none : bytesOf [] ≡ []) (bytes-more : (x : A) (xs : List A) → bytesOf (x ∷ xs) ≡ fieldBytes tag (body x) ++ bytesOf xs)
+    (list-none : listOf [] ≡ []) (list-more : (b : List ℕ) (bs : List (List ℕ)) → listOf (b ∷ bs) ≡ read b ∷ listOf bs)
+    (Fits : A → Type 0) (back : (x : A) → Fits x → length (body x) < 65536 → read (body x) ≡ x) where
+  size-more : (x : A) (xs : List A) → length (bytesOf (x ∷ xs)) ≡ 3 + length (body x) + length (bytesOf xs)
+  size-more x xs = ap length (bytes-more x xs) ∙ length-append (fieldBytes tag (body x)) (bytesOf xs) ∙ ap (λ (n : ℕ). n + length (bytesOf xs)) (field-length tag (body x))
+
+  -- the first body, and what is left after its field
+  first-body : (k : ℕ) (b rest : List ℕ) → length b < 65536 → bodiesUp (suc k) (fieldBytes tag b ++ rest) ≡ b ∷ bodiesUp k rest
+  unfolding bodiesUp fieldBytes highBytes two
+  first-body k b rest h =
+      let m : List ℕ = highBytes 2 (length b) ++ (b ++ rest) in
+      ap (λ (n : ℕ). take n (b ++ rest) ∷ bodiesUp k (drop (2 + n) m)) (two-back (length b) (b ++ rest) h)
+      ∙ ap (λ (x : List ℕ). x ∷ bodiesUp k (drop (2 + length b) m)) (take-append-seam b rest)
+      ∙ ap (λ (x : List ℕ). b ∷ bodiesUp k x) (sym (drop-drop (length b) 2 m) ∙ drop-append-seam b rest)
+
+  pub bodies-back : (k : ℕ) (xs : List A) → length (bytesOf xs) ≤ k → length (bytesOf xs) < 65536 → Each Fits xs → listOf (bodiesUp k (bytesOf xs)) ≡ xs
+  unfolding bodiesUp
+  bodies-back zero [] h l noneLeft = list-none
+  bodies-back (suc k) [] h l noneLeft = ap (λ (b : List ℕ). listOf (bodiesUp (suc k) b)) bytes-none ∙ list-none
+  bodies-back zero (x ∷ xs) h l (also p f) = absurd (omega (arith, size-more x xs))
+  bodies-back (suc k) (x ∷ xs) h l (also p f) =
+      let size : length (bytesOf (x ∷ xs)) ≡ 3 + length (body x) + length (bytesOf xs) = size-more x xs in
+      ap (λ (b : List ℕ). listOf (bodiesUp (suc k) b)) (bytes-more x xs)
+      ∙ ap listOf (first-body k (body x) (bytesOf xs) (omega arith))
+      ∙ list-more (body x) (bodiesUp k (bytesOf xs))
+      ∙ ap (λ (y : A). y ∷ listOf (bodiesUp k (bytesOf xs))) (back x p (omega arith))
+      ∙ ap (λ (ys : List A). x ∷ ys) (bodies-back k xs (omega arith) (omega arith) f)
+
+-- ---- Values, attributes, entries
+
+pub value-back : (v : Value) → FitsValue v → valueOf (valueBytes v) ≡ v
+unfolding valueOf valueBytes fieldBytes highBytes booleanByte two
+value-back (Integer z) (fitsInteger e) = ap (λ (n : ℕ). Integer (signed64 n)) (number-back 8 (word64 z) (word64-lt z e)) ∙ ap Integer (integer-back z e)
+value-back (String n) (fitsString h) = ap String (two-back n [] h)
+value-back (Boolean true) fitsBoolean = refl
+value-back (Boolean false) fitsBoolean = refl
+
+-- what stands after a label set
+after-labels : (s : Labels) (rest : List ℕ) → drop 32 (labelBytes s ++ rest) ≡ rest
+after-labels s rest = drop-at (labelBytes s) rest 32 (label-length s)
+
+-- the bodies of an attribute's and of an entry's field
+attributeBody : Attribute → List ℕ
+attributeBody a = highBytes 2 (a .name) ++ (labelBytes (a .content .labels) ++ valueBytes (a .content .value))
+
+entryBody : Entry → List ℕ
+entryBody e = highBytes 2 (e .type) ++ (highBytes 2 (e .title) ++ (labelBytes (e .labels) ++ attributesBytes (e .attributes)))
+
+attribute-back : (a : Attribute) → FitsAttribute a → length (attributeBody a) < 65536 → attributeOf (attributeBody a) ≡ a
+unfolding attributeOf attributeBody highBytes two
+attribute-back a f l =
+    let rest : List ℕ = valueBytes (a .content .value) in
+    let e : _≡_ {A = ℕ × (Value × Labels)} (two (attributeBody a) 0, (valueOf (drop 32 (labelBytes (a .content .labels) ++ rest)), labelsFrom (labelBytes (a .content .labels) ++ rest))) (a .name, (a .content .value, a .content .labels)) =
+    rw (two-back (a .name) (labelBytes (a .content .labels) ++ rest) (f .name), after-labels, value-back (a .content .value) (f .content .value), label-back (a .content .labels) rest (f .content .labels)) in
+    ap (λ (x : ℕ × (Value × Labels)). record { name = x .0; content = record { value = x .1 .0; labels = x .1 .1 } }) e
+
+attributes-back : (ats : List Attribute) → Each FitsAttribute ats → length (attributesBytes ats) < 65536 → attributesOf (bodies (attributesBytes ats)) ≡ ats
+unfolding bodies attributesBytes attributesOf attributeBytes attributeBody
+attributes-back ats f l =
+    bodies-back 0x41 attributeBody attributeOf attributesBytes attributesOf refl (λ x xs. refl) refl (λ b bs. refl) FitsAttribute attribute-back
+    (length (attributesBytes ats)) ats (omega arith) l f
+
+entry-back : (e : Entry) → FitsEntry e → length (entryBody e) < 65536 → entryOf (entryBody e) ≡ e
+unfolding entryOf entryBody highBytes two
+entry-back e f l =
+    let rest : List ℕ = attributesBytes (e .attributes) in
+    let m : List ℕ = labelBytes (e .labels) ++ rest in
+    let size : length m ≡ 32 + length rest = length-append (labelBytes (e .labels)) rest ∙ ap (λ (n : ℕ). n + length rest) (label-length (e .labels)) in
+    let read : _≡_ {A = ℕ × ℕ × Labels × List Attribute} (two (entryBody e) 0, two (highBytes 2 (e .title) ++ m) 0, labelsFrom m, attributesOf (bodies (drop 32 m))) (e .type, e .title, e .labels, e .attributes) =
+    rw (two-back (e .type) (highBytes 2 (e .title) ++ m) (f .type), two-back (e .title) m (f .title), after-labels (e .labels) rest, label-back (e .labels) rest (f .labels), attributes-back (e .attributes) (f .attributes) (omega arith)) in
+    ap (λ (x : ℕ × ℕ × Labels × List Attribute). record { type = x .0; title = x .1; labels = x .2; attributes = x .3 }) read
+
+-- the law: entries that fit, in at most 65,535 bytes, are read back
+pub read-back : (es : List Entry) → Each FitsEntry es → length (catalogBytes es) < 65536 → readCatalog (catalogBytes es) ≡ es
+unfolding readCatalog bodies catalogBytes entriesOf entryBytes entryBody
+read-back es f l =
+    bodies-back 0x40 entryBody entryOf catalogBytes entriesOf refl (λ x xs. refl) refl (λ b bs. refl) FitsEntry entry-back
+    (length (catalogBytes es)) es (omega arith) l f
