@@ -10,6 +10,12 @@ pub mod Fits
 pub mod Ranges
 pub mod Accepted
 pub mod Laws
+pub mod Fields
+pub mod Within
+pub mod WriteBack
+pub mod Listed
+pub mod HighBytes
+pub mod TypedBack
 pub mod OneTree
 pub mod OneTreeTests
 pub mod Evaluation
