@@ -1,11 +1,13 @@
 -- Demand 3, proved: the edit rule over the definition's whole compile.
 use Prim.Native.Nat.{ℕ, _-_}
-use mathlib.Core.Path.{_≡_, refl, sym, ap, _∙_}
+use mathlib.Core.Path.{_≡_, refl, sym, ap, subst, _∙_}
 use mathlib.Core.Bool.{Bool, true, false, true≢false}
 use mathlib.Core.List.{List, [], _∷_, _++_, List·Memᴰ, List·Memᴰ·head, List·Memᴰ·tail}
 use lib.ListN.{length, take, replicate}
+use lib.Seq.{take-append-seam}
 use Rattle.labels.specs.declared.Labels.{Labels}
 use Rattle.labels.specs.Sets.{has}
+use Rattle.values.specs.declared.Reason.{Reason}
 use Rattle.values.specs.declared.Answer.{Answer}
 use Rattle.values.specs.declared.Answer.the-variants.{Catalog, Refused}
 use Rattle.rules.specs.Outcome.{Outcome, refused, done, _>>=_}
@@ -133,3 +135,49 @@ edit-rule m m′ device b b′ t limit limit′ output output′ memory memory�
     let a = accepted m device limit output memory c h in
     let a′ = accepted m′ device limit′ output′ memory′ c′ h′ in
     rw (read-entries m device b limit output memory c a, read-entries m′ device b′ limit′ output′ memory′ c′ a′) (states m m′ device t limit limit′ output output′ memory memory′ (a .final) (a′ .final))
+
+-- ---- The same, for whoever holds that two calls left what the definition says
+
+-- a refusal names no catalog, and an answer that does has its length
+isCatalog : Answer → Type 0
+isCatalog (Catalog n s) = Unit {0}
+isCatalog (Refused r p) = ⊥
+
+catalog-only : {r : Reason} {p n s : ℕ} → Refused r p ≡ Catalog n s → ⊥
+unfolding isCatalog
+catalog-only h = subst (λ (a : Answer). isCatalog a) (sym h) tt
+
+lengthSaid : Answer → ℕ
+lengthSaid (Catalog n s) = n
+lengthSaid (Refused r p) = 0
+
+length-said : {n k s j : ℕ} → Catalog n s ≡ Catalog k j → n ≡ k
+unfolding lengthSaid
+length-said h = ap lengthSaid h
+
+-- an answer that names a catalog comes from an accepted compile, whose bytes the output begins with
+record Written (m device : List ℕ) (limit output memory n : ℕ) : Type 0 where
+  result : Compiled
+  accepts : compiled m device limit output memory ≡ done result
+  begins : take n (compile m device limit output memory .output) ≡ result .catalog
+
+written : (m device : List ℕ) (limit output memory n s : ℕ) → compile m device limit output memory .answer ≡ Catalog n s → Written m device limit output memory n
+unfolding compile answerOf outputAfter
+written m device limit output memory n s h = go (compiled m device limit output memory) refl h
+  where
+    go : (o : Outcome Compiled) → compiled m device limit output memory ≡ o → answerOf o ≡ Catalog n s → Written m device limit output memory n
+    go (refused r p) e h = absurd (catalog-only h)
+    go (done c) e h = record {
+      result = c;
+      accepts = e;
+      begins = rw e (ap (λ (k : ℕ). take k (c .catalog ++ replicate (output - length (c .catalog)) 0)) (sym (length-said h)) ∙ take-append-seam (c .catalog) (replicate (output - length (c .catalog)) 0));
+    }
+
+-- what two calls answered and left, in full: if each is what the definition says and both name a catalog, the claim holds of what the outputs begin with
+pub edit-rule-calls : (m m′ device : List ℕ) → IsBytes m → IsBytes m′ → oneTree m m′ ≡ true → (limit limit′ output output′ memory memory′ n n′ s s′ : ℕ) (e e′ : Effect)
+    → e ≡ compile m device limit output memory → e′ ≡ compile m′ device limit′ output′ memory′ → e .answer ≡ Catalog n s → e′ .answer ≡ Catalog n′ s′
+    → Claim m m′ (readCatalog (take n (e .output))) (readCatalog (take n′ (e′ .output)))
+edit-rule-calls m m′ device b b′ t limit limit′ output output′ memory memory′ n n′ s s′ e e′ q q′ h h′ =
+    let w = written m device limit output memory n s (rw q at h) in
+    let w′ = written m′ device limit′ output′ memory′ n′ s′ (rw q′ at h′) in
+    rw (q, q′, w .begins, w′ .begins) (edit-rule m m′ device b b′ t limit limit′ output output′ memory memory′ (w .result) (w′ .result) (w .accepts) (w′ .accepts))

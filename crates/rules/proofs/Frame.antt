@@ -2,7 +2,7 @@
 -- cells change only where their mark is high.
 use Prim.Native.Nat.{ℕ}
 use mathlib.Core.Path.{_≡_, refl}
-use mathlib.Core.Bool.{Bool, true, false, _||_, _&&_, true≢false, false≢true}
+use mathlib.Core.Bool.{Bool, true, false, _||_, _&&_, true≢false}
 use mathlib.Core.List.{List}
 use mathlib.Core.Option.{Option}
 use lib.Dec.{eqb}
@@ -13,40 +13,12 @@ use Rattle.rules.specs.Outcome.{Outcome, refused, done, _>>=_}
 use Rattle.rules.specs.Arithmetic.{sameValue}
 use Rattle.rules.specs.Tree.{Statement, assignment, conditional, choice, resource, defined, class, include, Block, end, next, Branches, noBranch, branch, defaultBranch}
 use Rattle.rules.specs.Tree
-use Rattle.rules.specs.State.{Scope, topScope, nodeScope, classScope, bodyScope, sameScope, DeclaredClass, Cell, Cells, Entry, State, Context, Known, valueInto, markInto, assign, trailWith, tested, withEntry}
+use Rattle.rules.specs.State.{Scope, sameScope, DeclaredClass, Cell, Cells, Entry, State, Context, Known, valueInto, markInto, assign, trailWith, tested, withEntry}
 use Rattle.rules.specs.Run.{assigns, assignsIn, assignsAny, declares, declaresIn, declaresAny, inBranch, store, addEntry, addResource, afterTest, Declare, run, runBlock, runBranch}
 use Rattle.rules.proofs.Same.{High}
 use Rattle.rules.proofs.Outcome.{All, allRefused, allDone, allBind, allAny, allThen, allMap, allIf, allStep, withSteps}
-use Rattle.rules.proofs.Lists.{either-left, either-right, or-true-left, or-true-right, both-left, both-right, eqb-true, eqb-same}
+use Rattle.rules.proofs.Lists.{either-left, either-right, or-true-left, or-true-right, both-left, both-right, scope-only}
 use Rattle.rules.proofs.Evaluation.{high-left, high-right}
-
--- ---- Scopes
-
-pub scope-same : (s : Scope) → sameScope s s ≡ true
-unfolding sameScope
-scope-same topScope = refl
-scope-same nodeScope = refl
-scope-same (classScope c) = eqb-same c
-scope-same (bodyScope n) = eqb-same n
-
-pub scope-only : (s t : Scope) → sameScope s t ≡ true → s ≡ t
-unfolding sameScope
-scope-only topScope topScope h = refl
-scope-only topScope nodeScope h = absurd (false≢true h)
-scope-only topScope (classScope b) h = absurd (false≢true h)
-scope-only topScope (bodyScope b) h = absurd (false≢true h)
-scope-only nodeScope topScope h = absurd (false≢true h)
-scope-only nodeScope nodeScope h = refl
-scope-only nodeScope (classScope b) h = absurd (false≢true h)
-scope-only nodeScope (bodyScope b) h = absurd (false≢true h)
-scope-only (classScope a) topScope h = absurd (false≢true h)
-scope-only (classScope a) nodeScope h = absurd (false≢true h)
-scope-only (classScope a) (classScope b) h = λ i. classScope (eqb-true a b h i)
-scope-only (classScope a) (bodyScope b) h = absurd (false≢true h)
-scope-only (bodyScope a) topScope h = absurd (false≢true h)
-scope-only (bodyScope a) nodeScope h = absurd (false≢true h)
-scope-only (bodyScope a) (classScope b) h = absurd (false≢true h)
-scope-only (bodyScope a) (bodyScope b) h = λ i. bodyScope (eqb-true a b h i)
 
 abbrev pub mk : Cells → ℕ → (ℕ → Option DeclaredClass) → Labels → List Entry → ℕ → ℕ → State
 mk c u q t es n r = record { cells = c; used = u; classes = q; trail = t; entries = es; stepsLeft = n; room = r }

@@ -1,3 +1,4 @@
+pub mod Sets
 pub mod Computing
 pub mod Rows
 pub mod Cases

@@ -1,10 +1,11 @@
--- Booleans, numbers compared, and what holds of the elements of a list or of what may be missing.
+-- Booleans, numbers and scopes compared, and what holds of the elements of a list or of what may be missing.
 use Prim.Native.Nat.{ℕ}
 use mathlib.Core.Path.{_≡_, refl, sym, ap, subst, _∙_}
-use mathlib.Core.Bool.{Bool, true, false, _||_, _&&_, true≢false}
+use mathlib.Core.Bool.{Bool, true, false, _||_, _&&_, true≢false, false≢true}
 use mathlib.Core.List.{List, [], _∷_, List·Memᴰ, List·Memᴰ·head, List·Memᴰ·tail}
 use mathlib.Core.Option.{Option, none, some}
 use lib.Dec.{T, eqb, eqb→eq, eqb-refl}
+use Rattle.rules.specs.State.{Scope, topScope, nodeScope, classScope, bodyScope, sameScope}
 use Rattle.rules.specs.Evaluate.{firstWith}
 
 -- ---- Booleans
@@ -108,3 +109,31 @@ module _ {A : Type 0} {P : A → Type 0} where
   pub each-apply : {G : Type 0} {xs : List A} → Each (λ (x : A). G → P x) xs → G → Each P xs
   each-apply noneLeft y = noneLeft
   each-apply (also p ps) y = also (p y) (each-apply ps y)
+
+-- ---- Scopes
+
+pub scope-same : (s : Scope) → sameScope s s ≡ true
+unfolding sameScope
+scope-same topScope = refl
+scope-same nodeScope = refl
+scope-same (classScope c) = eqb-same c
+scope-same (bodyScope n) = eqb-same n
+
+pub scope-only : (s t : Scope) → sameScope s t ≡ true → s ≡ t
+unfolding sameScope
+scope-only topScope topScope h = refl
+scope-only topScope nodeScope h = absurd (false≢true h)
+scope-only topScope (classScope b) h = absurd (false≢true h)
+scope-only topScope (bodyScope b) h = absurd (false≢true h)
+scope-only nodeScope topScope h = absurd (false≢true h)
+scope-only nodeScope nodeScope h = refl
+scope-only nodeScope (classScope b) h = absurd (false≢true h)
+scope-only nodeScope (bodyScope b) h = absurd (false≢true h)
+scope-only (classScope a) topScope h = absurd (false≢true h)
+scope-only (classScope a) nodeScope h = absurd (false≢true h)
+scope-only (classScope a) (classScope b) h = λ i. classScope (eqb-true a b h i)
+scope-only (classScope a) (bodyScope b) h = absurd (false≢true h)
+scope-only (bodyScope a) topScope h = absurd (false≢true h)
+scope-only (bodyScope a) nodeScope h = absurd (false≢true h)
+scope-only (bodyScope a) (classScope b) h = absurd (false≢true h)
+scope-only (bodyScope a) (bodyScope b) h = λ i. bodyScope (eqb-true a b h i)

@@ -21,11 +21,11 @@ use Rattle.rules.specs.Evaluate.{evaluate, isEntry}
 use Rattle.rules.specs.Run.{assigns, assignsIn, assignsAny, declares, declaresIn, declaresAny, storedLabels, conditionLabels, inBranch, stored, store, Given, evaluateAll, namedOnce, attributesUnder, entryFrom, addEntry, addResource, triedLabels, afterTest, Declaration, ofType, ofClass, included, Declare, run, runBlock, runBranch}
 use Rattle.rules.proofs.Same.{High, Pairwise, nonePaired, paired, Optional, bothNone, bothSome, SameConstant, sameConstant, SameExpression, SameAttributeField, sameAttributeField, SameStatement, sameAssignment, sameConditional, sameChoice, sameResource, sameDefined, sameClass, sameInclude, sameUnreadableStatement, SameBlock, sameEnd, sameNext, SameBranches, sameNoBranch, sameBranch, sameDefaultBranch}
 use Rattle.rules.proofs.Outcome.{All, allDone, allAny, allThen, allMap, allBoth, allIf, allPassed, Two, leftRefused, rightRefused, bothDone, apart, twoBind, twoAny, twoAll, twoThen, twoAt, twoIf, twoStep, withSteps}
-use Rattle.rules.proofs.Lists.{or-true-left, or-true-right, either-left, either-right, both-true}
+use Rattle.rules.proofs.Lists.{or-true-left, or-true-right, either-left, either-right, both-true, scope-same}
 use Rattle.rules.proofs.Unique.{UniqueEntries, UniqueNames, unique, Distinct, named-once, unique-under}
 use Rattle.rules.proofs.Evaluation.{high-one, high-left, high-right, SameLabelled, bothHigh, equals, SameCell, highCell, lowCell, SameCells, SameAttribute, sameAttribute, SameEntry, sameEntry, HighEntry, SameCatalog, entryBoth, entryLeft, entryRight, SameView, evaluate-same}
 use Rattle.rules.proofs.Quiet.{Growth, noGrowth, growth-left, growth-right, growth-unique, Quiet, QuietFrom, QuietDeclare, entry-high, run-quiet, block-quiet, branch-quiet}
-use Rattle.rules.proofs.Frame.{scope-same, mk, Keeps, keptCell, markedCell, keeps-high, Frame, frame, FrameFrom, block-frame, branch-frame}
+use Rattle.rules.proofs.Frame.{mk, Keeps, keptCell, markedCell, keeps-high, Frame, frame, FrameFrom, block-frame, branch-frame}
 
 module _ (D : ℕ → Type 0) where
   -- ---- Related states
