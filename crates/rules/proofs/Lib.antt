@@ -25,3 +25,4 @@ pub mod Frame
 pub mod Lockstep
 pub mod Declarations
 pub mod EditRule
+pub mod EditRuleUsed
