@@ -22,7 +22,7 @@ use Rattle.rules.specs.Tree.{Constant, Expression, AttributeField, State
 use Rattle.rules.specs.State.{Scope, sameScope, bodyScope, DeclaredClass, Cell, noCell, valueInto, markInto, freed, Entry, State, Context, Known, isDeclared, takeStep, assign, trailWith, tested, declared, free, withEntry}
 use Rattle.rules.specs.Evaluate.{any, isEntry, findType, findClass, evaluate}
 use Rattle.rules.specs.Catalog.{entryBytes, catalogBytes}
-use Rattle.rules.specs.Run.{assignsIn, assignsAny, declaresIn, declaresAny, storedLabels, conditionLabels, inBranch, stored, store, Given as GivenValue, isGiven, evaluateAll, defaultOf, givenOr, parameterValues, storeAll, storeTitle, attributesUnder, entryFrom, addEntry, addResource, triedLabels, afterTest, Declaration, ofType, ofClass, included, Declare, statementPlace, run, runBlock, runBranch, classAbove, inClass, inBody, parentFirst, enterClass, declaration, runAtTop, topContext, nodeContext, withDefinition, runItems}
+use Rattle.rules.specs.Run.{assignsIn, assignsAny, declaresIn, declaresAny, storedLabels, conditionLabels, inBranch, stored, store, Given as GivenValue, isGiven, evaluateAll, defaultOf, givenOr, parameterValues, storeAll, storeTitle, attributesUnder, entryFrom, addEntry, addResource, triedLabels, afterTest, Declaration, ofType, ofClass, included, Declare, statementPlace, run, runBlock, runBranch, placedUnder, inClass, inBody, parentFirst, enterClass, declaration, runAtTop, topContext, nodeContext, withDefinition, runItems}
 use Rattle.rules.proofs.Lists.{Perhaps, notThere, there, Each, noneLeft, also, found}
 use Rattle.rules.proofs.Outcome.{All, allRefused, allDone, allBind, allAny, allMap, allIf, allPassed, allFound, allAt}
 use Rattle.rules.proofs.ReadBack.{FitsAttribute, FitsEntry}
@@ -299,7 +299,7 @@ module _ (Given : Type 0) (limit room : ℕ) where
         → All Sound (enterClass k declare d vs c st)
     unfolding enterClass inClass
     enter-sound {d} f g c st w h =
-        let above : DeclaredClass = classAbove d (d .parent) c st in
+        let above : DeclaredClass = placedUnder (d .parent) c st in
         allBind (store-all-sound (inClass (d .name) above c) (declared (d .name) above st) g w (declared-sound (d .name) above st h)) λ st′ h′.
         block-sound (f .body) (inClass (d .name) above c) st′ w h′
 

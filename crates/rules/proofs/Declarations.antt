@@ -11,9 +11,9 @@ use Rattle.values.specs.declared.Labelled.{Labelled}
 use Rattle.values.specs.declared.Reason.{Reason}
 use Rattle.rules.specs.Outcome.{Outcome, refused, done, _>>=_, refuseIf, orRefuse}
 use Rattle.rules.specs.Tree.{Constant, Block, Parameter, Parent, TypeDefinition, ClassDefinition, Definition, typeDefinition, classDefinition, Devices, Item, statement, node, definition, end, next}
-use Rattle.rules.specs.State.{Scope, bodyScope, sameScope, Base, baseScopes, DeclaredClass, Cell, State, Context, Known, isDeclared, freed, noCell, declared, free}
+use Rattle.rules.specs.State.{Scope, bodyScope, sameScope, Base, DeclaredClass, Cell, State, Context, Known, isDeclared, freed, noCell, declared, free}
 use Rattle.rules.specs.Evaluate.{any, firstWith, findType, findClass, ofConstant}
-use Rattle.rules.specs.Run.{Given, isGiven, namedOnce, parametersKnown, defaultOf, givenOr, parameterValues, store, storeAll, storeTitle, underBase, underParent, classAbove, inClass, inBody, parentFirst, enterClass, Declaration, ofType, ofClass, included, Declare, runBlock, declaration, runAtTop, topContext, nodeContext, withDefinition, runItems}
+use Rattle.rules.specs.Run.{Given, isGiven, namedOnce, parametersKnown, defaultOf, givenOr, parameterValues, store, storeAll, storeTitle, baseUnder, placedUnder, inClass, inBody, parentFirst, enterClass, Declaration, ofType, ofClass, included, Declare, runBlock, declaration, runAtTop, topContext, nodeContext, withDefinition, runItems}
 use Rattle.rules.specs.Compile.{withoutNodes, withNode, isNode, names, isDefaultNode, itemsFor, start}
 use Rattle.rules.proofs.Same.{High, Pairwise, nonePaired, paired, Optional, bothNone, bothSome, SameConstant, SameBlock, sameEnd, sameNext, SameParameter, sameParameter, SameParent, sameParent, SameType, sameType, SameClassDefinition, sameClassDefinition, SameDefinition, sameTypeDefinition, sameClassDefinitions, SameItem, sameStatementItem, sameNode, sameDefinitionItem}
 use Rattle.rules.proofs.Outcome.{All, allDone, allAny, allIf, Two, leftRefused, rightRefused, bothDone, twoBind, twoAny, twoIf, twoOr, twoStep}
@@ -100,7 +100,7 @@ module _ (D : ℕ → Type 0) where
     parent-low (bothSome (sameParent {n = n})) c (low {q = q} hc hk u u′) = twoIf (declaredIn D q n) (bothDone (relatedLow (low hc hk u u′))) (twoStep _ _ _ _ _ _ λ m m′. alike _ _ sameIncluded c _ _ (relatedLow (low hc hk u u′)))
 
     enter-low : {d d′ : ClassDefinition} → SameClassDefinition D d d′ → {vs vs′ : List Given} → SameGivens D vs vs′ → (c : Context) {st st′ : State} → Low D st st′ → Two (Related D) (enterClass k declare d vs c st) (enterClass k′ declare′ d′ vs′ c st′)
-    unfolding enterClass classAbove declared
+    unfolding enterClass placedUnder declared
     enter-low (sameClassDefinition bothNone ps b) g c (low hc hk u u′) = twoBind (store-all-related _ g (relatedLow (low hc hk u u′))) λ st st′ h. block-related D k k′ declare declare′ quietly quietly′ alike b _ h
     enter-low (sameClassDefinition (bothSome sameParent) ps b) g c (low hc hk u u′) = twoBind (store-all-related _ g (relatedLow (low hc hk u u′))) λ st st′ h. block-related D k k′ declare declare′ quietly quietly′ alike b _ h
 

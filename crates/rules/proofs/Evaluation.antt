@@ -17,7 +17,7 @@ use Rattle.values.specs.declared.Reason.{Reason}
 use Rattle.rules.specs.Outcome.{Outcome, refused, done, _>>=_, refuseIf, orRefuse, Result, at, plain, joining, _▷_}
 use Rattle.rules.specs.Arithmetic.{integerIn, stringIn, booleanIn, sum, difference, quotient, isGreater, sameValue}
 use Rattle.rules.specs.Tree.{Constant, Operator, plus, minus, divide, greater, equal, and, or, Expression, Arms}
-use Rattle.rules.specs.State.{Scope, topScope, classScope, Cell, Cells, Attribute, Entry, State, Context, Known}
+use Rattle.rules.specs.State.{Scope, topScope, classScope, DeclaredClass, upward, Cell, Cells, Attribute, Entry, State, Context, Known, scopesTried}
 use Rattle.rules.specs.Evaluate.{any, firstWith, isEntry, isAttribute, isType, isClass, orElse, readIn, readAttribute, integers, booleans, operate, ofConstant, evaluate, select}
 use Rattle.rules.proofs.Same.{High, Pairwise, nonePaired, paired, Optional, bothNone, bothSome, SameConstant, sameConstant, SameExpression, sameConstants, sameVariable, sameTopVariable, sameClassVariable, sameOperation, sameNegation, sameAttributeRead, sameSelector, sameUnreadable, SameArms, sameNoArm, sameArm, sameDefaultArm}
 use Rattle.rules.proofs.Outcome.{All, allRefused, allDone, allBind, allAny, Two, leftRefused, rightRefused, bothDone, apart, twoBind, twoAny, twoAt, twoIf, twoOr}
@@ -249,17 +249,23 @@ module _ (D : ℕ → Type 0) where
   -- what an expression sees of two states
   pub record SameView (st st′ : State) : Type 0 where
     pub cells : SameCells (st .cells) (st′ .cells)
+    pub classes : st .classes ≡ st′ .classes
     pub catalogs : SameCatalog (st .entries) (st′ .entries)
     pub once : UniqueEntries (st .entries)
     pub once′ : UniqueEntries (st′ .entries)
 
   module _ (k k′ : Known) (c : Context) {st st′ : State} (view : SameView st st′) where
+    -- the same scopes are tried
+    same-scopes : scopesTried c st ≡ scopesTried c st′
+    unfolding scopesTried
+    same-scopes = ap (λ (q : ℕ → Option DeclaredClass). upward 1026 q (c .base) (c .scope)) (view .classes)
+
     mutual
       unfolding evaluate
 
       pub evaluate-same : {e e′ : Expression} → SameExpression D e e′ → Two SameLabelled (evaluate k c st e) (evaluate k′ c st′ e′)
       evaluate-same (sameConstants h) = bothDone (same-constant h)
-      evaluate-same (sameVariable {p = p} {q = q} {n = n}) = read-same p q n (c .scopes) (view .cells)
+      evaluate-same (sameVariable {p = p} {q = q} {n = n}) = rw same-scopes (read-same p q n (scopesTried c st′) (view .cells))
       evaluate-same (sameTopVariable {p = p} {q = q} {n = n}) = read-same p q n (topScope ∷ []) (view .cells)
       evaluate-same (sameClassVariable {p = p} {q = q} {c = b} {n = n}) = twoAny _ _ λ _ _. read-same p q n (classScope b ∷ []) (view .cells)
       evaluate-same (sameOperation {o = o} a b) = then-same (evaluate-same a) λ x. operate-same o _ _ _ _ _ _ x (evaluate-same b)

@@ -47,7 +47,7 @@ module _ (D : ℕ → Type 0) where
   go-on qf qg k (relatedHigh h h′ r u u′) = apart (qf _ h) (qg _ h′) λ st st′ p p′. relatedHigh (p .stays h) (p′ .stays h′) (growth-left D (p .growth) (growth-right D (p′ .growth) r)) (growth-unique D (p .growth) u) (growth-unique D (p′ .growth) u′)
 
   pub low-view : {st st′ : State} → Low st st′ → SameView D st st′
-  low-view (low hc hk u u′) = record { cells = hc; catalogs = hk; once = u; once′ = u′ }
+  low-view (low hc hk u u′) = record { cells = hc; classes = refl; catalogs = hk; once = u; once′ = u′ }
 
   -- ---- One tree: the same names assigned, the same declarations
 

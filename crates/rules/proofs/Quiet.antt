@@ -15,7 +15,7 @@ use Rattle.rules.specs.Tree.{Statement, assignment, conditional, choice,
 use Rattle.rules.specs.Tree
 use Rattle.rules.specs.State.{Entry, State, Context, Known, DeclaredClass, isDeclared, assign, trailWith, tested, declared, free, withEntry}
 use Rattle.rules.specs.Evaluate.{any}
-use Rattle.rules.specs.Run.{storedLabels, conditionLabels, inBranch, store, Given, storeAll, storeTitle, attributesUnder, entryFrom, addEntry, addResource, afterTest, Declaration, ofType, ofClass, included, Declare, run, runBlock, runBranch, classAbove, inClass, inBody, parentFirst, enterClass, declaration}
+use Rattle.rules.specs.Run.{storedLabels, conditionLabels, inBranch, store, Given, storeAll, storeTitle, attributesUnder, entryFrom, addEntry, addResource, afterTest, Declaration, ofType, ofClass, included, Declare, run, runBlock, runBranch, placedUnder, inClass, inBody, parentFirst, enterClass, declaration}
 use Rattle.rules.proofs.Same.{High}
 use Rattle.rules.proofs.Outcome.{All, allRefused, allDone, allBind, allAny, allThen, allMap, allIf, allPassed, allStep, withSteps}
 use Rattle.rules.proofs.Lists.{Each, noneLeft, also}
@@ -166,7 +166,7 @@ module _ (D : ℕ → Type 0) where
 
     pub enter-quiet : (d : ClassDefinition) (vs : List Given) (c : Context) (st : State) → Under (c .path) (st .trail) → All (QuietFrom st) (enterClass k declare d vs c st)
     unfolding enterClass declared inClass
-    enter-quiet d vs c st h = allBind (store-all-quiet _ vs (declared (d .name) (classAbove d (d .parent) c st) st)) λ st′ q. allMap (block-quiet (d .body) _ st′ (still-under q h)) λ st″ q′. quiet-trans q q′
+    enter-quiet d vs c st h = allBind (store-all-quiet _ vs (declared (d .name) (placedUnder (d .parent) c st) st)) λ st′ q. allMap (block-quiet (d .body) _ st′ (still-under q h)) λ st″ q′. quiet-trans q q′
 
   -- ---- The levels
 

@@ -17,7 +17,7 @@ use Rattle.values.specs.declared.Reason.the-variants.{Overflow, DivisionByZero}
 use Rattle.rules.specs.Outcome.{Outcome, refused, done, _>>=_, refuseIf, orRefuse, Result, fails, gives, at, plain, joining, _▷_}
 use Rattle.rules.specs.Arithmetic.{integerIn, stringIn, booleanIn, fits64, inRange, isZero, floorDivide, sum, difference, quotient, isGreater, sameValue}
 use Rattle.rules.specs.Tree.{Constant, Operator, plus, minus, divide, greater, equal, and, or, Expression, Arms, placeOf}
-use Rattle.rules.specs.State.{Scope, topScope, classScope, Cell, Cells, Entry, State, Context, Known}
+use Rattle.rules.specs.State.{Scope, topScope, classScope, Cell, Cells, Entry, State, Context, Known, scopesTried}
 use Rattle.rules.specs.Evaluate.{firstWith, isEntry, isAttribute, orElse, readIn, readAttribute, integers, booleans, operate, ofConstant, evaluate, select}
 use Rattle.rules.proofs.Lists.{Perhaps, notThere, there, Each, noneLeft, also, found, each-map, each-under, each-apply}
 use Rattle.rules.proofs.Outcome.{All, allRefused, allDone, allBind, allAny, allMap, allIf, allPassed, allFound, allGet, Gives, givesNone, givesOne, allAt}
@@ -128,7 +128,7 @@ module _ (Given : Type 0) where
 
       pub evaluate-fits : {e : Expression} → FitsExpression Given e → All Ranged (evaluate k c st e)
       evaluate-fits (fitsConstant v) = allDone (constant-fits v)
-      evaluate-fits (fitsVariable {p = p} {n = n} f) = read-fits p (st .cells) n (c .scopes) cells
+      evaluate-fits (fitsVariable {p = p} {n = n} f) = read-fits p (st .cells) n (scopesTried c st) cells
       evaluate-fits (fitsTopVariable {p = p} {n = n} f) = read-fits p (st .cells) n (topScope ∷ []) cells
       evaluate-fits (fitsClassVariable {p = p} {q = q} {n = n} f g) = allAny _ λ _. read-fits p (st .cells) n (classScope q ∷ []) cells
       evaluate-fits (fitsOperation {p = p} {o = o} {a = a} {b = b} f g) = operand-fits (evaluate-fits f) λ x _. operate-fits o p (placeOf a) (placeOf b) x (evaluate-fits g)

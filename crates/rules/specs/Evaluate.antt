@@ -14,7 +14,7 @@ use Rattle.values.specs.declared.Reason.the-variants.{Malformed, Unknown, NoVal
 use Rattle.rules.specs.Outcome.{Outcome, refused, done, _>>=_, refuseIf, orRefuse, Result, at, plain, joining, _▷_}
 use Rattle.rules.specs.Arithmetic.{integerIn, stringIn, booleanIn, sum, difference, quotient, isGreater, sameValue}
 use Rattle.rules.specs.Tree.{Constant, Operator, plus, minus, divide, greater, equal, and, or, Expression, constant, variable, topVariable, classVariable, operation, negation, attributeRead, selector, Arms, noArm, arm, defaultArm, placeOf, TypeDefinition, ClassDefinition, Definition, typeDefinition, classDefinition}
-use Rattle.rules.specs.State.{Scope, topScope, classScope, Cell, Cells, Attribute, Entry, State, Context, Known, isSome}
+use Rattle.rules.specs.State.{Scope, topScope, classScope, Cell, Cells, Attribute, Entry, State, Context, Known, scopesTried, isSome}
 use Rattle.rules.specs.Tree
 
 -- ---- Searching a list
@@ -106,7 +106,7 @@ module _ (k : Known) (c : Context) (st : State) where
   unfoldable mutual
     pub evaluate : Expression → Outcome Labelled
     evaluate (constant p v) = done (ofConstant v)
-    evaluate (variable p n) = readIn p (st .cells) n (c .scopes)
+    evaluate (variable p n) = readIn p (st .cells) n (scopesTried c st)
     -- "14 tries top only, 15 the class only"; a class that is not defined so far is 9
     evaluate (topVariable p n) = readIn p (st .cells) n (topScope ∷ [])
     evaluate (classVariable p q n) = refuseIf (not (isClass k q)) Unknown p >>= λ _. readIn p (st .cells) n (classScope q ∷ [])

@@ -14,7 +14,7 @@ use Rattle.rules.specs.Outcome.{Outcome, refused, done, _>>=_, refuseIf,
 use Rattle.rules.specs.Arithmetic.{stringIn, booleanIn, sameValue}
 use Rattle.rules.specs.Tree.{Constant, Expression, placeOf, AttributeField, Statement, assignment, conditional, choice, resource, defined, class, include, Block, end, next, Branches, noBranch, branch, defaultBranch, Parameter, Parent, TypeDefinition, ClassDefinition, Definition, typeDefinition, classDefinition, Item, statement, node, definition}
 use Rattle.rules.specs.Tree
-use Rattle.rules.specs.State.{Scope, topScope, nodeScope, classScope, bodyScope, Base, topBase, nodeBase, baseScopes, DeclaredClass, Cell, newCells, Attribute, Entry, State, Context, Known, isDeclared, takeStep, cellsFor, assign, tested, declared, free, withEntry}
+use Rattle.rules.specs.State.{Scope, topScope, nodeScope, classScope, bodyScope, Base, topBase, nodeBase, baseScope, DeclaredClass, Cell, newCells, Attribute, Entry, State, Context, Known, isDeclared, takeStep, cellsFor, assign, tested, declared, free, withEntry}
 use Rattle.rules.specs.Evaluate.{any, firstWith, isEntry, findType, findClass, ofConstant, evaluate}
 use Rattle.rules.specs.Catalog.{entryBytes}
 
@@ -74,7 +74,7 @@ conditionLabels c st k = k ∪ (c .path ∪ st .trail)
 
 -- "After the test it joins the path of the branch taken."
 unfoldable pub inBranch : Labels → Context → Context
-inBranch k c = record { scope = c .scope; scopes = c .scopes; base = c .base; path = k ∪ c .path }
+inBranch k c = record { scope = c .scope; base = c .base; path = k ∪ c .path }
 
 unfoldable pub stored : Context → State → Labelled → Labelled
 stored c st x = record { value = x .value; labels = storedLabels c st (x .labels) }
@@ -246,24 +246,22 @@ module _ (k : Known) (declare : Declare) where
 
 -- ---- Declarations
 
--- the scopes and the base of a class: "A class's parent is its named parent, or else the base scope of the place that declared it."
-unfoldable pub underBase : (class : ℕ) → Context → DeclaredClass
-underBase q c = record { scopes = classScope q ∷ baseScopes (c .base); base = c .base }
+-- "The base is top or node: .. of a class its parent's base"
+unfoldable pub baseUnder : Base → Option DeclaredClass → Base
+baseUnder b none = b
+baseUnder b (some d) = d .base
 
-unfoldable pub underParent : (class : ℕ) → Context → Option DeclaredClass → DeclaredClass
-underParent q c none = underBase q c
-underParent q c (some d) = record { scopes = classScope q ∷ d .scopes; base = d .base }
+-- "A class's parent is its named parent, or else the base scope of the place that declared it."
+unfoldable pub placedUnder : Option Parent → Context → State → DeclaredClass
+placedUnder none c st = record { parent = baseScope (c .base); base = c .base }
+placedUnder (some q) c st = record { parent = classScope (q .name); base = baseUnder (c .base) (st .classes (q .name)) }
 
-unfoldable pub classAbove : ClassDefinition → Option Parent → Context → State → DeclaredClass
-classAbove d none c st = underBase (d .name) c
-classAbove d (some q) c st = underParent (d .name) c (st .classes (q .name))
-
--- where a class's body runs, and where a type's body runs: "A type body's parent is its base", "of a type body its declarer's base"
+-- where a class's body runs, and where a type's body runs: its base is "of a type body its declarer's base"
 unfoldable pub inClass : (class : ℕ) → DeclaredClass → Context → Context
-inClass q d c = record { scope = classScope q; scopes = d .scopes; base = d .base; path = c .path }
+inClass q d c = record { scope = classScope q; base = d .base; path = c .path }
 
 unfoldable pub inBody : (levelsLeft : ℕ) → Context → Context
-inBody n c = record { scope = bodyScope n; scopes = bodyScope n ∷ baseScopes (c .base); base = c .base; path = c .path }
+inBody n c = record { scope = bodyScope n; base = c .base; path = c .path }
 
 module _ (k : Known) (declare : Declare) where
   -- "declares an undeclared parent first": "each declaration of a parent counts one"; its 6, 7 and 9 are at the 35
@@ -277,9 +275,9 @@ module _ (k : Known) (declare : Declare) where
   -- "Then it is marked declared, its parameters are assigned and its body runs."
   unfoldable pub enterClass : ClassDefinition → List Given → Context → State → Outcome State
   enterClass d vs c st = do
-    let above : DeclaredClass = classAbove d (d .parent) c st
-    let here : Context = inClass (d .name) above c
-    st′ ← storeAll here vs (declared (d .name) above st)
+    let declaredClass : DeclaredClass = placedUnder (d .parent) c st
+    let here : Context = inClass (d .name) declaredClass c
+    st′ ← storeAll here vs (declared (d .name) declaredClass st)
     runBlock k declare (d .body) here st′
 
 unfoldable pub declarationPlace : Declaration → ℕ
@@ -324,10 +322,10 @@ unfoldable pub runAtTop : Known → Block → Context → State → Outcome Stat
 runAtTop k b c st = runBlock k (declaration k 17) b c st
 
 unfoldable pub topContext : Context
-topContext = record { scope = topScope; scopes = baseScopes topBase; base = topBase; path = noLabels }
+topContext = record { scope = topScope; base = topBase; path = noLabels }
 
 unfoldable pub nodeContext : Context
-nodeContext = record { scope = nodeScope; scopes = baseScopes nodeBase; base = nodeBase; path = noLabels }
+nodeContext = record { scope = nodeScope; base = nodeBase; path = noLabels }
 
 unfoldable pub definedName : Definition → ℕ
 definedName (typeDefinition d) = d .name

@@ -40,15 +40,30 @@ sameScope (bodyScope a) (bodyScope b) = eqb a b
 pub data Base : Type 0 where
   topBase nodeBase : Base
 
--- the base scope and the scopes above it: "Node's parent is top."
-unfoldable pub baseScopes : Base → List Scope
-baseScopes topBase = topScope ∷ []
-baseScopes nodeBase = nodeScope ∷ topScope ∷ []
+unfoldable pub baseScope : Base → Scope
+baseScope topBase = topScope
+baseScope nodeBase = nodeScope
 
--- of a declared class: the scopes that a plain read in it tries, itself first, and its base
+-- of a declared class: its parent and its base
 pub record DeclaredClass : Type 0 where
-  pub scopes : List Scope
+  pub parent : Scope
   pub base : Base
+
+unfoldable pub parentOfClass : Option DeclaredClass → Option Scope
+parentOfClass none = none
+parentOfClass (some d) = some (d .parent)
+
+-- the parent of a scope; b is the base of the code that reads: "Node's parent is top.", "A type body's parent is its base."
+unfoldable pub parentOf : (classes : ℕ → Option DeclaredClass) → Base → Scope → Option Scope
+parentOf classes b topScope = none
+parentOf classes b nodeScope = some topScope
+parentOf classes b (classScope c) = parentOfClass (classes c)
+parentOf classes b (bodyScope n) = some (baseScope b)
+
+-- a scope, "then the parents upward"; k is at least how many they are
+unfoldable pub upward : ℕ → (classes : ℕ → Option DeclaredClass) → Base → Scope → List Scope
+upward zero classes b s = []
+upward (suc k) classes b s = s ∷ elim (parentOf classes b s) [ none ↦ [] | some t ↦ upward k classes b t ]
 
 -- ---- Cells: "A cell is a scope and name with a value or a mark." A mark is kept for each scope and variable name.
 
@@ -111,7 +126,6 @@ pub record State : Type 0 where
 -- where a statement runs
 pub record Context : Type 0 where
   pub scope : Scope
-  pub scopes : List Scope  -- those that a plain read tries: the scope, "then the parents upward"
   pub base : Base
   pub path : Labels  -- the path: "the union over the conditions enclosing the statement, through declarations too"
 
@@ -120,6 +134,10 @@ pub record Known : Type 0 where
   pub builtIn : ℕ → Bool
   pub title : Option ℕ  -- the number of the string "title"
   pub definitions : List Definition  -- those that have run, the latest first
+
+-- the scopes that a plain read tries: at most 1,024 classes, node and top
+unfoldable pub scopesTried : Context → State → List Scope
+scopesTried c st = upward 1026 (st .classes) (c .base) (c .scope)
 
 unfoldable pub isDeclared : ℕ → State → Bool
 isDeclared c st = elim (st .classes c) [ none ↦ false | some d ↦ true ]
