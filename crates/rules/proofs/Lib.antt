@@ -11,7 +11,6 @@ pub mod Fits
 pub mod Ranges
 pub mod Accepted
 pub mod Laws
-pub mod Fields
 pub mod Within
 pub mod WriteBack
 pub mod Listed

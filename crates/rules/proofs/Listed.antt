@@ -28,7 +28,7 @@ use Rattle.rules.specs.declared.Took.{Took}
 use Rattle.rules.specs.declared.Took.the-variants.{Takes, Passes, Refuses}
 use Rattle.rules.specs.declared.Next.the-variants.{Go, Wrong}
 use Rattle.rules.specs.declared.Verdict.the-variants.{Sound}
-use Rattle.rules.proofs.Fields.{no-fields, field-first}
+use Rattle.wire.proofs.Fields.{no-fields, field-first}
 use Rattle.rules.proofs.Within.{fault-not-sound, false-not-true, wrong-not-go, first-field, none-missing, SoundBody, inside-sound, check-sound}
 
 -- ---- What a part takes of the fields: those before the second list. P holds of each

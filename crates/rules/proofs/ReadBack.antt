@@ -22,6 +22,7 @@ use Rattle.rules.specs.Read.{number, signed64}
 use Rattle.rules.specs.Arithmetic.{fits64}
 use Rattle.rules.specs.State.{Attribute, Entry}
 use Rattle.rules.specs.Catalog.{highBytes, fieldBytes, word64, booleanByte, valueBytes, attributeBytes, attributesBytes, entryBytes, catalogBytes, bodiesUp, bodies, valueOf, attributeOf, attributesOf, entryOf, entriesOf, readCatalog}
+use Rattle.wire.proofs.Laws.{high-length, number-back}
 use Rattle.rules.proofs.Lists.{Each, noneLeft, also}
 
 -- ---- What fits
@@ -47,27 +48,6 @@ pub record FitsEntry (e : Entry) : Type 0 where
   pub attributes : Each FitsAttribute (e .attributes)
 
 -- ---- Numbers
-
-pub high-length : (k w : ℕ) → length (highBytes k w) ≡ k
-unfolding highBytes
-high-length zero w = refl
-high-length (suc k) w = ap suc (high-length k w)
-
--- the k bytes of w, read after n, are n moved up by k bytes and what of w fits k bytes
-number-high : (k w n : ℕ) → number (highBytes k w) n ≡ n * 256 ^ k + w % 256 ^ k
-unfolding highBytes number
-number-high zero w n = omega (arith, mod-one w)
-number-high (suc k) w n =
-    let d : ℕ = w / 256 ^ k % 256 in
-    let low : w % 256 ^ suc k ≡ d * 256 ^ k + w % 256 ^ k =
-    ap (λ (x : ℕ). w % x) (pow-suc 256 k ∙ mul-comm (256 ^ k) 256) ∙ mod-mul w (zero-lt-suc 255) (one-le-pow k 256 (zero-lt-suc 255)) in
-    let high : n * 256 ^ suc k ≡ n * 256 * 256 ^ k =
-    ap (λ (x : ℕ). n * x) (pow-suc 256 k ∙ mul-comm (256 ^ k) 256) ∙ sym (mul-assoc n 256 (256 ^ k)) in
-    omega (arith, number-high k w (n * 256 + d), add-mul (n * 256) d (256 ^ k))
-
--- a number that fits k bytes is read back from them
-pub number-back : (k w : ℕ) → w < 256 ^ k → number (highBytes k w) 0 ≡ w
-number-back k w h = omega (arith, number-high k w 0, mod-eq-of-lt h, zero-mul (256 ^ k))
 
 -- of two bytes, whatever follows
 pub two-back : (w : ℕ) (rest : List ℕ) → w < 65536 → two (highBytes 2 w ++ rest) 0 ≡ w

@@ -28,7 +28,7 @@ use Rattle.rules.specs.declared.Next.{Next}
 use Rattle.rules.specs.declared.Next.the-variants.{Go, Wrong}
 use Rattle.rules.specs.declared.Verdict.{Verdict}
 use Rattle.rules.specs.declared.Verdict.the-variants.{Sound, Fault}
-use Rattle.rules.proofs.Fields.{no-fields, field-first}
+use Rattle.wire.proofs.Fields.{no-fields, field-first}
 
 -- ---- Answers that differ
 

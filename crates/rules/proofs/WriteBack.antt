@@ -21,7 +21,7 @@ use Rattle.rules.specs.declared.Rest.{Rest}
 use Rattle.rules.specs.declared.Rest.the-variants.{Only, Text, Fields}
 use Rattle.rules.specs.declared.Form.{Form}
 use Rattle.rules.specs.declared.Verdict.the-variants.{Sound}
-use Rattle.rules.proofs.Fields.{no-fields, field-first}
+use Rattle.wire.proofs.Fields.{no-fields, field-first}
 use Rattle.rules.proofs.Within.{fault-not-sound, first-field, SoundBody, inside-sound, check-sound}
 
 -- ---- Bytes from a place up to another

@@ -10,25 +10,16 @@ use Rattle.labels.specs.Bytes.{labelBytes, labelsFrom}
 use Rattle.values.specs.declared.Value.{Value}
 use Rattle.values.specs.declared.Value.the-variants.{Integer, String, Boolean}
 use Rattle.values.specs.declared.Labelled.{Labelled}
+unfoldable pub use Rattle.wire.specs.Numbers.{highBytes, word64}
 use Rattle.rules.specs.Bytes.{byte, two}
 use Rattle.rules.specs.Read.{number, signed64}
 use Rattle.rules.specs.State.{Attribute, Entry}
 
 -- ---- Written
 
--- k bytes, the high one first
-unfoldable pub highBytes : ℕ → ℕ → List ℕ
-highBytes zero w = []
-highBytes (suc k) w = w / 256 ^ k % 256 ∷ highBytes k w
-
 -- "A field is a one-byte tag .., a two-byte length and a body of that length."
 unfoldable pub fieldBytes : ℕ → List ℕ → List ℕ
 fieldBytes t b = t ∷ highBytes 2 (length b) ++ b
-
--- "signed ones are two's complement"
-unfoldable pub word64 : ℤ → ℕ
-word64 (pos n) = n
-word64 (negsuc n) = 18446744073709551615 - n
 
 unfoldable pub booleanByte : Bool → ℕ
 booleanByte true = 1

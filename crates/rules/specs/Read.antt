@@ -8,6 +8,7 @@ use lib.IntN.{ℤ, pos, negsuc}
 use lib.ListN.{drop}
 use Rattle.values.specs.declared.Value.{Value}
 use Rattle.values.specs.declared.Value.the-variants.{Integer, String, Boolean}
+unfoldable pub use Rattle.wire.specs.Numbers.{number, signed64}
 use Rattle.rules.specs.Bytes.{byte, two}
 use Rattle.rules.specs.Fields.{Field, field, Fields, none as noFields, more, readAll, headOf, tagOf, inner, first, others}
 use Rattle.rules.specs.Tree.{Constant, Operator, plus, minus, divide, greater, equal, and, or, Expression, constant, variable, topVariable, classVariable, operation, negation, attributeRead, selector, Arms, noArm, arm, defaultArm, AttributeField, Statement, assignment, conditional, choice, resource, defined, class, include, Block, end, next, Branches, noBranch, branch, defaultBranch, Parameter, Parent, TypeDefinition, ClassDefinition, Definition, typeDefinition, classDefinition, Devices, named, byDefault, Item, statement, node, definition, Manifest}
@@ -19,15 +20,6 @@ entryFor [] d n = d
 entryFor (x ∷ xs) d n = elim (eqb n (x .0)) [ true ↦ x .1 | false ↦ entryFor xs d n ]
 
 -- ---- Constants and operators
-
--- "Wider numbers have the high byte first"
-unfoldable pub number : List ℕ → ℕ → ℕ
-number [] n = n
-number (b ∷ bs) n = number bs (n * 256 + b)
-
--- "signed ones are two's complement": 64 bits
-unfoldable pub signed64 : ℕ → ℤ
-signed64 n = elim (ltb n 9223372036854775808) [ true ↦ pos n | false ↦ negsuc (18446744073709551615 - n) ]
 
 unfoldable pub valueFrom : ℕ → List ℕ → Value
 valueFrom t h = elim (eqb t 0x10) [ true ↦ Integer (signed64 (number (drop 1 h) 0)) | false ↦ elim (eqb t 0x11) [ true ↦ String (two h 1) | false ↦ Boolean (eqb (byte h 1) 1) ] ]

@@ -7,7 +7,7 @@ use mathlib.Core.List.{List, [], _∷_}
 use native.Mathlib.Omega.{arith}
 use lib.Dec.{ltb}
 use borrow.Author.Tests.{lt-ltb, le-ltb, ltb-true}
-use Rattle.rules.specs.Bytes.{pick, endOf, fieldsUp, fieldsIn}
+use Rattle.wire.specs.Bytes.{pick, endOf, fieldsUp, fieldsIn}
 
 -- two bounds that suffice give the same fields
 pub bounds-agree : (j k : ℕ) (m : List ℕ) (p e : ℕ) → e - p ≤ j → e - p ≤ k → fieldsUp j m p e ≡ fieldsUp k m p e
