@@ -24,7 +24,7 @@ use Rattle.rules.specs.Evaluate.{any, isEntry, findType, findClass, eval
 use Rattle.rules.specs.Catalog.{entryBytes, catalogBytes}
 use Rattle.rules.specs.Run.{assignsIn, assignsAny, declaresIn, declaresAny, storedLabels, conditionLabels, inBranch, stored, store, Given as GivenValue, isGiven, evaluateAll, defaultOf, givenOr, parameterValues, storeAll, storeTitle, attributesUnder, entryFrom, addEntry, addResource, triedLabels, afterTest, Declaration, ofType, ofClass, included, Declare, statementPlace, run, runBlock, runBranch, placedUnder, inClass, inBody, parentFirst, enterClass, declaration, runAtTop, topContext, nodeContext, withDefinition, runItems}
 use Rattle.rules.proofs.Lists.{Perhaps, notThere, there, Each, noneLeft, also, found}
-use Rattle.rules.proofs.Outcome.{All, allRefused, allDone, allBind, allAny, allMap, allIf, allPassed, allFound, allAt}
+use Rattle.rules.proofs.Outcome.{All, allRefused, allDone, allBind, allAny, allIf, allPassed, allFound, allAt}
 use Rattle.rules.proofs.ReadBack.{FitsAttribute, FitsEntry}
 use Rattle.rules.proofs.Fits.{FitsName, FitsConstant, FitsExpression, FitsAttributeField, FitsStatement, fitsAssignment, fitsConditional, fitsChoice, fitsResource, fitsDefined, fitsClass, fitsInclude, fitsUnreadableStatement, FitsBlock, fitsEnd, fitsNext, FitsBranches, fitsNoBranch, fitsBranch, fitsDefaultBranch, FitsParameter, FitsParent, FitsType, FitsClassDefinition, FitsDefinition, fitsTypeDefinition, fitsClassDefinitions, FitsItem, fitsStatementItem, fitsNode, fitsDefinitionItem}
 use Rattle.rules.proofs.Ranges.{Ranged, string-fits, constant-fits, CellFits, CellsFit, evaluate-fits}

@@ -1,25 +1,24 @@
 -- Declarations, items and whole runs of two manifests with one tree.
 use Prim.Native.Nat.{ℕ, zero, suc}
-use mathlib.Core.Path.{_≡_, refl, sym, ap, _∙_}
-use mathlib.Core.Logic.{inl, inr}
+use mathlib.Core.Path.{_≡_, refl, ap}
+use mathlib.Core.Logic.{inr}
 use mathlib.Core.Bool.{Bool, true, false, _||_}
-use mathlib.Core.List.{List, [], _∷_}
+use mathlib.Core.List.{List, []}
 use mathlib.Core.Option.{Option, none, some}
 use lib.Dec.{eqb}
-use Rattle.labels.specs.declared.Labels.{Labels}
 use Rattle.values.specs.declared.Labelled.{Labelled}
 use Rattle.values.specs.declared.Reason.{Reason}
-use Rattle.rules.specs.Outcome.{Outcome, refused, done, _>>=_, refuseIf, orRefuse}
-use Rattle.rules.specs.Tree.{Constant, Block, Parameter, Parent, TypeDefinition, ClassDefinition, Definition, typeDefinition, classDefinition, Devices, Item, statement, node, definition, end, next}
-use Rattle.rules.specs.State.{Scope, bodyScope, sameScope, Base, DeclaredClass, Cell, State, Context, Known, isDeclared, freed, noCell, declared, free}
-use Rattle.rules.specs.Evaluate.{any, firstWith, findType, findClass, ofConstant}
-use Rattle.rules.specs.Run.{Given, isGiven, namedOnce, parametersKnown, defaultOf, givenOr, parameterValues, store, storeAll, storeTitle, baseUnder, placedUnder, inClass, inBody, parentFirst, enterClass, Declaration, ofType, ofClass, included, Declare, runBlock, declaration, runAtTop, topContext, nodeContext, withDefinition, runItems}
+use Rattle.rules.specs.Outcome.{done, _>>=_, refuseIf}
+use Rattle.rules.specs.Tree.{Constant, Block, Parameter, Parent, TypeDefinition, ClassDefinition, Definition, Devices, Item}
+use Rattle.rules.specs.State.{Scope, bodyScope, Cell, State, Context, Known, isDeclared, freed, noCell, declared, free}
+use Rattle.rules.specs.Evaluate.{any, firstWith, findType, findClass}
+use Rattle.rules.specs.Run.{Given, isGiven, namedOnce, parametersKnown, defaultOf, givenOr, parameterValues, store, storeAll, storeTitle, placedUnder, inBody, parentFirst, enterClass, Declaration, Declare, runBlock, declaration, runAtTop, topContext, nodeContext, withDefinition, runItems}
 use Rattle.rules.specs.Compile.{withoutNodes, withNode, isNode, names, isDefaultNode, itemsFor, start}
-use Rattle.rules.proofs.Same.{High, Pairwise, nonePaired, paired, Optional, bothNone, bothSome, SameConstant, SameBlock, sameEnd, sameNext, SameParameter, sameParameter, SameParent, sameParent, SameType, sameType, SameClassDefinition, sameClassDefinition, SameDefinition, sameTypeDefinition, sameClassDefinitions, SameItem, sameStatementItem, sameNode, sameDefinitionItem}
-use Rattle.rules.proofs.Outcome.{All, allDone, allAny, allIf, Two, leftRefused, rightRefused, bothDone, twoBind, twoAny, twoIf, twoOr, twoStep}
+use Rattle.rules.proofs.Same.{Pairwise, nonePaired, paired, Optional, bothNone, bothSome, SameConstant, SameBlock, sameEnd, sameNext, SameParameter, sameParameter, SameParent, sameParent, SameType, sameType, SameClassDefinition, sameClassDefinition, SameDefinition, sameTypeDefinition, sameClassDefinitions, SameItem, sameStatementItem, sameNode, sameDefinitionItem}
+use Rattle.rules.proofs.Outcome.{allDone, allAny, allIf, Two, leftRefused, bothDone, twoBind, twoAny, twoIf, twoOr, twoStep}
 use Rattle.rules.proofs.Unique.{uniqueNone}
 use Rattle.rules.proofs.Evaluation.{SameLabelled, same-constant, SameCell, lowCell, emptyBoth}
-use Rattle.rules.proofs.Quiet.{QuietFrom, QuietDeclare, quiet, noGrowth, store-quiet, block-quiet, parent-quiet, enter-quiet, declaration-quiet}
+use Rattle.rules.proofs.Quiet.{QuietDeclare, quiet, noGrowth, store-quiet, enter-quiet, declaration-quiet}
 use Rattle.rules.proofs.Lockstep.{Low, low, Related, relatedLow, relatedHigh, QuietRun, go-on, SameGiven, sameGiven, SameGivens, store-low, declaredIn, SameDeclaration, sameOfType, sameOfClass, sameIncluded, SameDeclare, block-related}
 
 module _ (D : ℕ → Type 0) where

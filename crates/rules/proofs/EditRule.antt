@@ -1,28 +1,27 @@
 -- Demand 3, proved: the edit rule over the definition's whole compile.
 use Prim.Native.Nat.{ℕ, _-_}
 use mathlib.Core.Path.{_≡_, refl, sym, ap, subst, _∙_}
-use mathlib.Core.Bool.{Bool, true, false, true≢false}
-use mathlib.Core.List.{List, [], _∷_, _++_, List·Memᴰ, List·Memᴰ·head, List·Memᴰ·tail}
+use mathlib.Core.Bool.{true, true≢false}
+use mathlib.Core.List.{List, _++_, List·Memᴰ, List·Memᴰ·head, List·Memᴰ·tail}
 use lib.ListN.{length, take, replicate}
 use lib.Seq.{take-append-seam}
 use Rattle.labels.specs.declared.Labels.{Labels}
-use Rattle.labels.specs.Sets.{has}
 use Rattle.values.specs.declared.Reason.{Reason}
 use Rattle.values.specs.declared.Answer.{Answer}
 use Rattle.values.specs.declared.Answer.the-variants.{Catalog, Refused}
 use Rattle.rules.specs.Outcome.{Outcome, refused, done, _>>=_}
-use Rattle.rules.specs.Tree.{Item, Manifest}
+use Rattle.rules.specs.Tree.{Item}
 use Rattle.rules.specs.Read.{manifestOf}
 use Rattle.rules.specs.State.{Attribute, Entry, State}
 use Rattle.rules.specs.Evaluate.{isEntry, isAttribute}
 use Rattle.rules.specs.Run.{runItems}
-use Rattle.rules.specs.Catalog.{catalogBytes, readCatalog}
+use Rattle.rules.specs.Catalog.{readCatalog}
 use Rattle.rules.specs.Compile.{knownFirst, itemsFor, start, runManifest, finalState, onto, entriesInOrder, Compiled, compiledFrom, compiled, answerOf, outputAfter, Effect, compile}
 use Rattle.rules.specs.EditRule.{oneTree, differing, Untouched, howMany, KeptResource, KeptAttribute, Claim, IsBytes}
 use Rattle.rules.proofs.Same.{High, Pairwise, nonePaired, paired, SameItem}
 use Rattle.rules.proofs.Outcome.{allRefused, allGet, Two, twoAny, results}
 use Rattle.rules.proofs.Lists.{each-member}
-use Rattle.rules.proofs.Evaluation.{SameLabelled, bothHigh, equals, SameAttribute, sameAttribute, SameEntry, sameEntry, HighEntry, SameCatalog, emptyBoth, entryBoth, entryLeft, entryRight}
+use Rattle.rules.proofs.Evaluation.{bothHigh, equals, SameAttribute, sameAttribute, SameEntry, sameEntry, HighEntry, SameCatalog, emptyBoth, entryBoth, entryLeft, entryRight}
 use Rattle.rules.proofs.Lockstep.{low, Related, relatedLow, relatedHigh}
 use Rattle.rules.proofs.Declarations.{sameKnown, items-related, items-for-same, start-related}
 use Rattle.rules.proofs.OneTree.{one-tree, one-table}

@@ -1,14 +1,13 @@
 -- The edit rule applied to document 01's schedule with peak false and with peak true: `screens` is 2 with labels 4 and 5 in both, by the rule;
 -- and `price`, whose labels hold the differing constant's, does move.
 use Prim.Native.Nat.{ℕ, zero, suc, _<_}
-use mathlib.Core.Path.{_≡_, refl, sym, ap, _∙_}
-use mathlib.Core.Bool.{Bool, true, false, _&&_, _||_, false≢true}
+use mathlib.Core.Path.{_≡_, refl}
+use mathlib.Core.Bool.{Bool, true, false, _&&_, _||_}
 use mathlib.Core.List.{List, [], _∷_, List·Memᴰ·head, List·Memᴰ·tail}
 use mathlib.Core.Option.{Option, none, some}
 use lib.Dec.{eqb, ltb}
 use lib.IntN.{pos}
 use borrow.Author.Tests.{ltb-true}
-use Rattle.labels.specs.declared.Labels.{Labels}
 use Rattle.labels.specs.Sets.{has}
 use Rattle.values.specs.declared.Value.the-variants.{Integer}
 use Rattle.values.specs.declared.Labelled.{Labelled}
@@ -18,7 +17,7 @@ use Rattle.rules.specs.State.{Attribute, Entry}
 use Rattle.rules.specs.Evaluate.{firstWith, isAttribute}
 use Rattle.rules.specs.Catalog.{readCatalog}
 use Rattle.rules.specs.Compile.{Compiled, compiled}
-use Rattle.rules.specs.EditRule.{oneTree, differing, Untouched, KeptAttribute, IsBytes}
+use Rattle.rules.specs.EditRule.{oneTree, differing, KeptAttribute, IsBytes}
 use Rattle.rules.proofs.Lists.{both-left, both-right, eqb-true}
 use Rattle.rules.proofs.Computing.{openCompiled, openCatalog, openOneTree, openDiffering, openHas}
 use Rattle.rules.proofs.EditRule.{edit-rule}

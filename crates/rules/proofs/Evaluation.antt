@@ -1,27 +1,26 @@
 -- An expression in two runs of one tree: both sets are high, that is, hold a label of a differing constant; or value and set are the same.
 use Prim.Native.Nat.{ℕ}
-use mathlib.Core.Path.{_≡_, refl, sym, ap, _∙_}
-use mathlib.Core.Logic.{_⊎_, inl, inr}
-use mathlib.Core.Bool.{Bool, true, false, not, _||_, Bool·beq, true≢false}
+use mathlib.Core.Path.{_≡_, refl, ap, _∙_}
+use mathlib.Core.Logic.{inl, inr}
+use mathlib.Core.Bool.{Bool, true, false, _||_, Bool·beq, true≢false}
 use mathlib.Core.List.{List, [], _∷_}
 use mathlib.Core.Option.{Option, none, some}
 use lib.Dec.{eqb}
 use lib.IntN.{ℤ}
 use Rattle.labels.specs.declared.Labels.{Labels}
-use Rattle.labels.specs.Sets.{noLabels, oneLabel, _∪_, has}
+use Rattle.labels.specs.Sets.{oneLabel, _∪_, has}
 use Rattle.labels.proofs.Laws.{has-own, has-union}
 use Rattle.values.specs.declared.Value.{Value}
-use Rattle.values.specs.declared.Value.the-variants.{Boolean}
 use Rattle.values.specs.declared.Labelled.{Labelled}
 use Rattle.values.specs.declared.Reason.{Reason}
-use Rattle.rules.specs.Outcome.{Outcome, refused, done, _>>=_, refuseIf, orRefuse, Result, at, plain, joining, _▷_}
+use Rattle.rules.specs.Outcome.{Outcome, _>>=_, orRefuse, Result, at, joining, _▷_}
 use Rattle.rules.specs.Arithmetic.{integerIn, stringIn, booleanIn, sum, difference, quotient, isGreater, sameValue}
 use Rattle.rules.specs.Tree.{Constant, Operator, plus, minus, divide, greater, equal, and, or, Expression, Arms}
 use Rattle.rules.specs.State.{Scope, topScope, classScope, DeclaredClass, upward, Cell, Cells, Attribute, Entry, State, Context, Known, scopesTried}
-use Rattle.rules.specs.Evaluate.{any, firstWith, isEntry, isAttribute, isType, isClass, orElse, readIn, readAttribute, integers, booleans, operate, ofConstant, evaluate, select}
+use Rattle.rules.specs.Evaluate.{any, firstWith, isEntry, isAttribute, orElse, readIn, readAttribute, integers, booleans, operate, ofConstant, evaluate, select}
 use Rattle.rules.proofs.Same.{High, Pairwise, nonePaired, paired, Optional, bothNone, bothSome, SameConstant, sameConstant, SameExpression, sameConstants, sameVariable, sameTopVariable, sameClassVariable, sameOperation, sameNegation, sameAttributeRead, sameSelector, sameUnreadable, SameArms, sameNoArm, sameArm, sameDefaultArm}
-use Rattle.rules.proofs.Outcome.{All, allRefused, allDone, allBind, allAny, Two, leftRefused, rightRefused, bothDone, apart, twoBind, twoAny, twoAt, twoIf, twoOr}
-use Rattle.rules.proofs.Lists.{either-right, or-true-left, or-true-right, Perhaps, notThere, there, Each, noneLeft, also, found}
+use Rattle.rules.proofs.Outcome.{All, allDone, allAny, Two, leftRefused, rightRefused, bothDone, apart, twoBind, twoAny, twoAt, twoIf}
+use Rattle.rules.proofs.Lists.{either-right, or-true-left, or-true-right, Perhaps, notThere, there, Each, found}
 use Rattle.rules.proofs.Unique.{UniqueEntries, UniqueNames, unique, Key, keyOf, hasKey, only-key}
 
 module _ (D : ℕ → Type 0) where

@@ -9,7 +9,6 @@ use lib.Dec.{eqb}
 use Rattle.labels.specs.declared.Labels.{Labels}
 use Rattle.values.specs.declared.Value.{Value}
 use Rattle.values.specs.declared.Labelled.{Labelled}
-use Rattle.rules.specs.Outcome.{Outcome, refused, done, _>>=_}
 use Rattle.rules.specs.Arithmetic.{sameValue}
 use Rattle.rules.specs.Tree.{Statement, assignment, conditional, choice, resource, defined, class, include, Block, end, next, Branches, noBranch, branch, defaultBranch}
 use Rattle.rules.specs.Tree
@@ -18,7 +17,7 @@ use Rattle.rules.specs.Run.{assigns, assignsIn, assignsAny, declares, de
 use Rattle.rules.proofs.Same.{High}
 use Rattle.rules.proofs.Outcome.{All, allRefused, allDone, allBind, allAny, allThen, allMap, allIf, allStep, withSteps}
 use Rattle.rules.proofs.Lists.{either-left, either-right, or-true-left, or-true-right, both-left, both-right, scope-only}
-use Rattle.rules.proofs.Evaluation.{high-left, high-right}
+use Rattle.rules.proofs.Evaluation.{high-right}
 
 abbrev pub mk : Cells → ℕ → (ℕ → Option DeclaredClass) → Labels → List Entry → ℕ → ℕ → State
 mk c u q t es n r = record { cells = c; used = u; classes = q; trail = t; entries = es; stepsLeft = n; room = r }

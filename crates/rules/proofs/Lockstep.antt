@@ -3,28 +3,26 @@
 -- entries.
 use Prim.Native.Nat.{ℕ}
 use mathlib.Core.Path.{_≡_, refl, sym, ap, ap₂, _∙_}
-use mathlib.Core.Logic.{_⊎_, inl, inr}
+use mathlib.Core.Logic.{inl, inr}
 use mathlib.Core.Bool.{Bool, true, false, _||_, _&&_, true≢false, false≢true}
-use mathlib.Core.List.{List, [], _∷_}
+use mathlib.Core.List.{List}
 use mathlib.Core.Option.{Option, none, some}
-use lib.Dec.{eqb}
 use Rattle.labels.specs.declared.Labels.{Labels}
-use Rattle.labels.specs.Sets.{noLabels, oneLabel, _∪_}
+use Rattle.labels.specs.Sets.{oneLabel, _∪_}
 use Rattle.values.specs.declared.Value.{Value}
 use Rattle.values.specs.declared.Labelled.{Labelled}
 use Rattle.values.specs.declared.Reason.{Reason}
-use Rattle.rules.specs.Outcome.{Outcome, refused, done, _>>=_, refuseIf, at}
-use Rattle.rules.specs.Arithmetic.{sameValue, booleanIn, stringIn}
-use Rattle.rules.specs.Tree.{Constant, Expression, AttributeField, Statement, Block, Branches, branch}
-use Rattle.rules.specs.State.{Scope, sameScope, DeclaredClass, Cell, Cells, Attribute, Entry, State, Context, Known, isDeclared, valueInto, markInto, assign, trailWith, tested, withEntry}
-use Rattle.rules.specs.Evaluate.{evaluate, isEntry}
-use Rattle.rules.specs.Run.{assigns, assignsIn, assignsAny, declares, declaresIn, declaresAny, storedLabels, conditionLabels, inBranch, stored, store, Given, evaluateAll, namedOnce, attributesUnder, entryFrom, addEntry, addResource, triedLabels, afterTest, Declaration, ofType, ofClass, included, Declare, run, runBlock, runBranch}
-use Rattle.rules.proofs.Same.{High, Pairwise, nonePaired, paired, Optional, bothNone, bothSome, SameConstant, sameConstant, SameExpression, SameAttributeField, sameAttributeField, SameStatement, sameAssignment, sameConditional, sameChoice, sameResource, sameDefined, sameClass, sameInclude, sameUnreadableStatement, SameBlock, sameEnd, sameNext, SameBranches, sameNoBranch, sameBranch, sameDefaultBranch}
-use Rattle.rules.proofs.Outcome.{All, allDone, allAny, allThen, allMap, allBoth, allIf, allPassed, Two, leftRefused, rightRefused, bothDone, apart, twoBind, twoAny, twoAll, twoThen, twoAt, twoIf, twoStep, withSteps}
+use Rattle.rules.specs.Outcome.{Outcome, _>>=_, refuseIf}
+use Rattle.rules.specs.Arithmetic.{sameValue}
+use Rattle.rules.specs.Tree.{Constant, AttributeField, Statement, Block, Branches, branch}
+use Rattle.rules.specs.State.{Scope, sameScope, DeclaredClass, Cell, Cells, Entry, State, Context, Known, isDeclared, valueInto, markInto, assign, trailWith, tested, withEntry}
+use Rattle.rules.specs.Run.{assigns, assignsIn, assignsAny, declares, declaresIn, declaresAny, storedLabels, conditionLabels, inBranch, stored, store, Given, evaluateAll, attributesUnder, entryFrom, addEntry, addResource, triedLabels, afterTest, Declaration, ofType, ofClass, included, Declare, run, runBlock, runBranch}
+use Rattle.rules.proofs.Same.{High, Pairwise, nonePaired, paired, bothSome, sameConstant, SameAttributeField, sameAttributeField, SameStatement, sameAssignment, sameConditional, sameChoice, sameResource, sameDefined, sameClass, sameInclude, sameUnreadableStatement, SameBlock, sameEnd, sameNext, SameBranches, sameNoBranch, sameBranch, sameDefaultBranch}
+use Rattle.rules.proofs.Outcome.{All, allThen, allMap, allBoth, allIf, allPassed, Two, leftRefused, rightRefused, bothDone, apart, twoBind, twoAny, twoAll, twoThen, twoAt, twoIf, twoStep}
 use Rattle.rules.proofs.Lists.{or-true-left, or-true-right, either-left, either-right, both-true, scope-same}
-use Rattle.rules.proofs.Unique.{UniqueEntries, UniqueNames, unique, Distinct, named-once, unique-under}
-use Rattle.rules.proofs.Evaluation.{high-one, high-left, high-right, SameLabelled, bothHigh, equals, SameCell, highCell, lowCell, SameCells, SameAttribute, sameAttribute, SameEntry, sameEntry, HighEntry, SameCatalog, entryBoth, entryLeft, entryRight, SameView, evaluate-same}
-use Rattle.rules.proofs.Quiet.{Growth, noGrowth, growth-left, growth-right, growth-unique, Quiet, QuietFrom, QuietDeclare, entry-high, run-quiet, block-quiet, branch-quiet}
+use Rattle.rules.proofs.Unique.{UniqueEntries, unique, named-once, unique-under}
+use Rattle.rules.proofs.Evaluation.{high-one, high-left, high-right, SameLabelled, bothHigh, equals, SameCell, highCell, lowCell, SameCells, SameAttribute, sameAttribute, sameEntry, SameCatalog, entryBoth, entryLeft, entryRight, SameView, evaluate-same}
+use Rattle.rules.proofs.Quiet.{Growth, growth-left, growth-right, growth-unique, QuietFrom, QuietDeclare, entry-high, block-quiet, branch-quiet}
 use Rattle.rules.proofs.Frame.{mk, Keeps, keptCell, markedCell, keeps-high, Frame, frame, FrameFrom, block-frame, branch-frame}
 
 module _ (D : ℕ → Type 0) where

@@ -1,6 +1,6 @@
 -- One run under a high path or a high trail: it adds high entries only, and a high trail stays high.
 use Prim.Native.Nat.{ℕ, zero, suc}
-use mathlib.Core.Path.{_≡_, refl}
+use mathlib.Core.Path.{_≡_}
 use mathlib.Core.Logic.{_⊎_, inl, inr}
 use mathlib.Core.Bool.{Bool, true, false}
 use mathlib.Core.List.{List, [], _∷_}
@@ -9,11 +9,11 @@ use Rattle.labels.specs.declared.Labels.{Labels}
 use Rattle.labels.specs.Sets.{_∪_}
 use Rattle.values.specs.declared.Value.{Value}
 use Rattle.values.specs.declared.Labelled.{Labelled}
-use Rattle.rules.specs.Outcome.{Outcome, refused, done, _>>=_, refuseIf}
+use Rattle.rules.specs.Outcome.{Outcome, _>>=_}
 use Rattle.rules.specs.Arithmetic.{sameValue}
 use Rattle.rules.specs.Tree.{Statement, assignment, conditional, choice, resource, defined, class, include, Block, end, next, Branches, noBranch, branch, defaultBranch, Parent, ClassDefinition}
 use Rattle.rules.specs.Tree
-use Rattle.rules.specs.State.{Entry, State, Context, Known, DeclaredClass, isDeclared, assign, trailWith, tested, declared, free, withEntry}
+use Rattle.rules.specs.State.{Entry, State, Context, Known, isDeclared, assign, trailWith, tested, declared, free, withEntry}
 use Rattle.rules.specs.Evaluate.{any}
 use Rattle.rules.specs.Run.{storedLabels, conditionLabels, inBranch, store, Given, storeAll, storeTitle, attributesUnder, entryFrom, addEntry, addResource, afterTest, Declaration, ofType, ofClass, included, Declare, run, runBlock, runBranch, placedUnder, inClass, inBody, parentFirst, enterClass, declaration}
 use Rattle.rules.proofs.Same.{High}

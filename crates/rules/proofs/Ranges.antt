@@ -3,7 +3,7 @@
 use mathlib.Core.Path.{_≡_, refl}
 use mathlib.Core.Bool.{Bool, true, false, Bool·beq}
 use mathlib.Core.List.{List, [], _∷_}
-use mathlib.Core.Option.{Option, some}
+use mathlib.Core.Option.{Option}
 use Prim.Native.Nat.{ℕ, _<_}
 use lib.IntN.{ℤ, _+ℤ_, _-ℤ_}
 use Rattle.labels.specs.declared.Labels.{Labels}
@@ -12,15 +12,14 @@ use Rattle.labels.proofs.Laws.{words-none, words-one, words-union}
 use Rattle.values.specs.declared.Value.{Value}
 use Rattle.values.specs.declared.Value.the-variants.{Integer, String, Boolean}
 use Rattle.values.specs.declared.Labelled.{Labelled}
-use Rattle.values.specs.declared.Reason.{Reason}
 use Rattle.values.specs.declared.Reason.the-variants.{Overflow, DivisionByZero}
-use Rattle.rules.specs.Outcome.{Outcome, refused, done, _>>=_, refuseIf, orRefuse, Result, fails, gives, at, plain, joining, _▷_}
+use Rattle.rules.specs.Outcome.{Outcome, Result, fails, gives, at, plain, joining, _▷_}
 use Rattle.rules.specs.Arithmetic.{integerIn, stringIn, booleanIn, fits64, inRange, isZero, floorDivide, sum, difference, quotient, isGreater, sameValue}
 use Rattle.rules.specs.Tree.{Constant, Operator, plus, minus, divide, greater, equal, and, or, Expression, Arms, placeOf}
 use Rattle.rules.specs.State.{Scope, topScope, classScope, Cell, Cells, Entry, State, Context, Known, scopesTried}
-use Rattle.rules.specs.Evaluate.{firstWith, isEntry, isAttribute, orElse, readIn, readAttribute, integers, booleans, operate, ofConstant, evaluate, select}
-use Rattle.rules.proofs.Lists.{Perhaps, notThere, there, Each, noneLeft, also, found, each-map, each-under, each-apply}
-use Rattle.rules.proofs.Outcome.{All, allRefused, allDone, allBind, allAny, allMap, allIf, allPassed, allFound, allGet, Gives, givesNone, givesOne, allAt}
+use Rattle.rules.specs.Evaluate.{isEntry, isAttribute, orElse, readIn, readAttribute, integers, booleans, operate, ofConstant, evaluate, select}
+use Rattle.rules.proofs.Lists.{Perhaps, notThere, there, Each, found, each-under}
+use Rattle.rules.proofs.Outcome.{All, allRefused, allDone, allBind, allAny, allIf, allFound, Gives, givesNone, givesOne, allAt}
 use Rattle.rules.proofs.ReadBack.{FitsValue, fitsInteger, fitsString, fitsBoolean, FitsLabelled, FitsEntry}
 use Rattle.rules.proofs.Fits.{FitsConstant, FitsExpression, fitsConstant, fitsVariable, fitsTopVariable, fitsClassVariable, fitsOperation, fitsNegation, fitsAttributeRead, fitsSelector, fitsUnreadable, FitsArms, fitsNoArm, fitsArm, fitsDefaultArm}
 

@@ -2,11 +2,9 @@
 use mathlib.Core.Path.{_≡_, refl, sym, ap, _∙_}
 use mathlib.Core.Bool.{Bool, true, false}
 use mathlib.Core.List.{List, [], _∷_, _++_}
-use Prim.Native.Nat.{ℕ, zero, suc, _+_, _*_, _-_, _/_, _%_, _^_, _≤_, _<_}
-use native.Mathlib.Nat.{pow-suc, one-le-pow, zero-lt-suc, mod-eq-of-lt, mod-one, zero-mul, add-mul, mul-assoc, mul-comm}
+use Prim.Native.Nat.{ℕ, zero, suc, _+_, _-_, _^_, _≤_, _<_}
 use native.Mathlib.Omega.{arith}
 use borrow.Author.Tests.{ltb-true, le-ltb}
-use lib.Arith.{mod-mul}
 use lib.IntN.{ℤ, pos, negsuc}
 use lib.ListN.{length, take, drop, length-append}
 use lib.Seq.{take-append-seam, drop-append-seam, drop-drop, drop-at}
@@ -22,7 +20,7 @@ use Rattle.rules.specs.Read.{number, signed64}
 use Rattle.rules.specs.Arithmetic.{fits64}
 use Rattle.rules.specs.State.{Attribute, Entry}
 use Rattle.rules.specs.Catalog.{highBytes, fieldBytes, word64, booleanByte, valueBytes, attributeBytes, attributesBytes, entryBytes, catalogBytes, bodiesUp, bodies, valueOf, attributeOf, attributesOf, entryOf, entriesOf, readCatalog}
-use Rattle.wire.proofs.Laws.{high-length, number-back}
+use Rattle.wire.proofs.Laws.{number-back}
 use Rattle.rules.proofs.Lists.{Each, noneLeft, also}
 
 -- ---- What fits

@@ -1,19 +1,19 @@
 -- Three rules of "Label sets" that no catalog shows, since the others imply them there: what an assignment stores holds path and trail, a
 -- condition's set holds path and trail, and the path inside a declared body holds the declarer's.
 use Prim.Native.Nat.{ℕ}
-use mathlib.Core.Path.{_≡_, refl, _∙_, ap}
-use mathlib.Core.Bool.{Bool, true, false, _&&_, false≢true}
-use mathlib.Core.Option.{Option, some}
+use mathlib.Core.Path.{_≡_, refl, _∙_}
+use mathlib.Core.Bool.{Bool, true, false, false≢true}
+use mathlib.Core.Option.{some}
 use lib.Dec.{eqb}
 use Rattle.labels.specs.declared.Labels.{Labels}
 use Rattle.labels.specs.Sets.{_∪_, has}
 use Rattle.labels.proofs.Laws.{has-union}
 use Rattle.values.specs.declared.Labelled.{Labelled}
-use Rattle.rules.specs.State.{Scope, sameScope, Cell, State, Context, DeclaredClass, valueInto, assign}
+use Rattle.rules.specs.State.{sameScope, Cell, State, Context, DeclaredClass, valueInto, assign}
 use Rattle.rules.specs.Outcome.{done}
 use Rattle.rules.specs.Run.{storedLabels, conditionLabels, stored, store, inClass, inBody}
 use Rattle.rules.proofs.Lists.{or-true-left, or-true-right, both-true, eqb-same, scope-same}
-use Rattle.rules.proofs.Outcome.{All, allDone, allAny, allGet}
+use Rattle.rules.proofs.Outcome.{allDone, allAny, allGet}
 
 -- every label of k is in s
 pub record Holds (s k : Labels) : Type 0 where

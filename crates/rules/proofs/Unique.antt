@@ -1,5 +1,5 @@
 -- Keys that stand once in a list: entries by type and title, attributes by name.
-use Prim.Native.Nat.{ℕ, zero, suc}
+use Prim.Native.Nat.{ℕ, suc}
 use mathlib.Core.Path.{_≡_, refl, sym, ap, _∙_}
 use mathlib.Core.Bool.{Bool, true, false, _||_, true≢false}
 use mathlib.Core.List.{List, [], _∷_, List·Memᴰ, List·Memᴰ·head, List·Memᴰ·tail}
@@ -7,11 +7,11 @@ use lib.Dec.{eqb}
 use Rattle.labels.specs.declared.Labels.{Labels}
 use Rattle.rules.specs.State.{Attribute, Entry, Context, State}
 use Rattle.rules.specs.Evaluate.{any, isEntry, isAttribute}
-use Rattle.rules.specs.Outcome.{_>>=_, refuseIf}
+use Rattle.rules.specs.Outcome.{_>>=_}
 use Rattle.rules.specs.Run.{Given, isGiven, namedOnce, attributesUnder}
 use Rattle.rules.specs.EditRule.{oneMore, howMany}
 use Rattle.rules.proofs.Lists.{either-left, either-right, neither, or-true-left, or-true-right, both-left, both-right, both-true, eqb-true, eqb-same, eqb-sym, Each, noneLeft, also}
-use Rattle.rules.proofs.Outcome.{All, allRefused, allDone, allBind, allMap, allPassed}
+use Rattle.rules.proofs.Outcome.{All, allDone, allBind, allMap, allPassed}
 
 -- ---- A test by a key: `keyed k e` says whether e has the key k
 

@@ -1,15 +1,12 @@
 -- The catalog's bytes, and their reader.
-use Prim.Native.Nat.{ℕ, zero, suc, _+_, _-_, _/_, _%_, _^_}
+use Prim.Native.Nat.{ℕ, zero, suc, _+_}
 use mathlib.Core.Bool.{Bool, true, false}
 use mathlib.Core.List.{List, [], _∷_, _++_}
 use lib.Dec.{eqb}
-use lib.IntN.{ℤ, pos, negsuc}
 use lib.ListN.{length, take, drop}
-use Rattle.labels.specs.declared.Labels.{Labels}
 use Rattle.labels.specs.Bytes.{labelBytes, labelsFrom}
 use Rattle.values.specs.declared.Value.{Value}
 use Rattle.values.specs.declared.Value.the-variants.{Integer, String, Boolean}
-use Rattle.values.specs.declared.Labelled.{Labelled}
 unfoldable pub use Rattle.wire.specs.Numbers.{highBytes, word64}
 use Rattle.rules.specs.Bytes.{byte, two}
 use Rattle.rules.specs.Read.{number, signed64}

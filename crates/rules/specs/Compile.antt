@@ -1,5 +1,5 @@
 -- A whole compile: what it answers and what it leaves in every byte lent.
-use Prim.Native.Nat.{ℕ, zero, suc, _+_, _-_, min}
+use Prim.Native.Nat.{ℕ, suc, _-_, min}
 use mathlib.Core.Bool.{Bool, true, false, _&&_, _||_}
 use mathlib.Core.List.{List, [], _∷_, _++_}
 use mathlib.Core.Option.{Option, none, some}
@@ -12,7 +12,7 @@ use Rattle.values.specs.declared.Reason.the-variants.{MemoryTooShort, ManifestL
 use Rattle.rules.specs.declared.Verdict.{Verdict}
 use Rattle.rules.specs.declared.Verdict.the-variants.{Sound, Fault}
 use Rattle.rules.specs.Check.{check}
-use Rattle.rules.specs.Tree.{Devices, named, byDefault, Block, Item, statement, node, definition, Manifest}
+use Rattle.rules.specs.Tree.{Devices, named, byDefault, Item, statement, node, definition, Manifest}
 use Rattle.rules.specs.Read.{manifestOf}
 use Rattle.rules.specs.Outcome.{Outcome, refused, done, _>>=_, refuseIf}
 use Rattle.rules.specs.State.{Entry, State, Known, noCell}

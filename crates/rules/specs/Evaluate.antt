@@ -5,7 +5,6 @@ use mathlib.Core.List.{List, [], _∷_}
 use mathlib.Core.Option.{Option, none, some}
 use lib.Dec.{eqb}
 use lib.IntN.{ℤ}
-use Rattle.labels.specs.declared.Labels.{Labels}
 use Rattle.labels.specs.Sets.{oneLabel}
 use Rattle.values.specs.declared.Value.{Value}
 use Rattle.values.specs.declared.Value.the-variants.{Boolean}
@@ -14,7 +13,7 @@ use Rattle.values.specs.declared.Reason.the-variants.{Malformed, Unknown, NoVal
 use Rattle.rules.specs.Outcome.{Outcome, refused, done, _>>=_, refuseIf, orRefuse, Result, at, plain, joining, _▷_}
 use Rattle.rules.specs.Arithmetic.{integerIn, stringIn, booleanIn, sum, difference, quotient, isGreater, sameValue}
 use Rattle.rules.specs.Tree.{Constant, Operator, plus, minus, divide, greater, equal, and, or, Expression, constant, variable, topVariable, classVariable, operation, negation, attributeRead, selector, Arms, noArm, arm, defaultArm, placeOf, TypeDefinition, ClassDefinition, Definition, typeDefinition, classDefinition}
-use Rattle.rules.specs.State.{Scope, topScope, classScope, Cell, Cells, Attribute, Entry, State, Context, Known, scopesTried, isSome}
+use Rattle.rules.specs.State.{Scope, topScope, classScope, Cells, Attribute, Entry, State, Context, Known, scopesTried, isSome}
 use Rattle.rules.specs.Tree
 
 -- ---- Searching a list

@@ -1,6 +1,6 @@
 -- Document 01's list of fields, as one table: a line for each tag. The check before running, the fixed lengths, where names stand and
 -- the reader's offsets all come from it.
-use Prim.Native.Nat.{ℕ, zero, suc, _+_, _-_}
+use Prim.Native.Nat.{ℕ, _+_, _-_}
 use mathlib.Core.Bool.{Bool, true, false, _&&_, _||_}
 use mathlib.Core.List.{List, [], _∷_}
 use lib.Dec.{eqb, ltb, leb}

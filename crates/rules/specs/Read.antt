@@ -1,17 +1,16 @@
 -- From fields to the tree: total, so any bytes give a tree. Which part of a field is which follows from their order in document 01's list.
-use Prim.Native.Nat.{ℕ, zero, suc, _+_, _*_, _-_}
+use Prim.Native.Nat.{ℕ, zero, suc}
 use mathlib.Core.Bool.{Bool, true, false}
 use mathlib.Core.List.{List, [], _∷_}
 use mathlib.Core.Option.{Option, none, some}
-use lib.Dec.{eqb, ltb}
-use lib.IntN.{ℤ, pos, negsuc}
+use lib.Dec.{eqb}
 use lib.ListN.{drop}
 use Rattle.values.specs.declared.Value.{Value}
 use Rattle.values.specs.declared.Value.the-variants.{Integer, String, Boolean}
 unfoldable pub use Rattle.wire.specs.Numbers.{number, signed64}
 use Rattle.rules.specs.Bytes.{byte, two}
 use Rattle.rules.specs.Fields.{Field, field, Fields, none as noFields, more, readAll, headOf, tagOf, inner, first, others}
-use Rattle.rules.specs.Tree.{Constant, Operator, plus, minus, divide, greater, equal, and, or, Expression, constant, variable, topVariable, classVariable, operation, negation, attributeRead, selector, Arms, noArm, arm, defaultArm, AttributeField, Statement, assignment, conditional, choice, resource, defined, class, include, Block, end, next, Branches, noBranch, branch, defaultBranch, Parameter, Parent, TypeDefinition, ClassDefinition, Definition, typeDefinition, classDefinition, Devices, named, byDefault, Item, statement, node, definition, Manifest}
+use Rattle.rules.specs.Tree.{Constant, Operator, plus, minus, divide, greater, equal, and, or, Expression, constant, variable, topVariable, classVariable, operation, negation, attributeRead, selector, Arms, noArm, arm, defaultArm, AttributeField, Statement, assignment, conditional, choice, resource, defined, class, include, Block, end, next, Branches, noBranch, branch, defaultBranch, Parameter, Parent, typeDefinition, classDefinition, Devices, named, byDefault, Item, statement, node, definition, Manifest}
 use Rattle.rules.specs.Tree
 
 -- what a list of numbers has for n

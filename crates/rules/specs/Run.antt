@@ -1,6 +1,6 @@
 -- How a manifest runs: statements, blocks, declarations, items.
-use Prim.Native.Nat.{ℕ, zero, suc, _+_, _-_}
-use mathlib.Core.Bool.{Bool, true, false, _&&_, _||_, not}
+use Prim.Native.Nat.{ℕ, zero, suc, _-_}
+use mathlib.Core.Bool.{Bool, true, false, _||_, not}
 use mathlib.Core.List.{List, [], _∷_}
 use mathlib.Core.Option.{Option, none, some}
 use lib.Dec.{eqb, ltb}
@@ -12,9 +12,9 @@ use Rattle.values.specs.declared.Labelled.{Labelled}
 use Rattle.values.specs.declared.Reason.the-variants.{Malformed, LevelLimit, DefinedAgain, Unknown, DeclaredAgain, UnknownParameter, MissingParameter, ResourceAgain, AttributeAgain, OutputFull}
 use Rattle.rules.specs.Outcome.{Outcome, refused, done, _>>=_, refuseIf, orRefuse, at}
 use Rattle.rules.specs.Arithmetic.{stringIn, booleanIn, sameValue}
-use Rattle.rules.specs.Tree.{Constant, Expression, placeOf, AttributeField, Statement, assignment, conditional, choice, resource, defined, class, include, Block, end, next, Branches, noBranch, branch, defaultBranch, Parameter, Parent, TypeDefinition, ClassDefinition, Definition, typeDefinition, classDefinition, Item, statement, node, definition}
+use Rattle.rules.specs.Tree.{Constant, placeOf, AttributeField, Statement, assignment, conditional, choice, resource, defined, class, include, Block, end, next, Branches, noBranch, branch, defaultBranch, Parameter, Parent, ClassDefinition, Definition, typeDefinition, classDefinition, Item, statement, node, definition}
 use Rattle.rules.specs.Tree
-use Rattle.rules.specs.State.{Scope, topScope, nodeScope, classScope, bodyScope, Base, topBase, nodeBase, baseScope, DeclaredClass, Cell, newCells, Attribute, Entry, State, Context, Known, isDeclared, takeStep, cellsFor, assign, tested, declared, free, withEntry}
+use Rattle.rules.specs.State.{topScope, nodeScope, classScope, bodyScope, Base, topBase, nodeBase, baseScope, DeclaredClass, newCells, Attribute, Entry, State, Context, Known, isDeclared, takeStep, cellsFor, assign, tested, declared, free, withEntry}
 use Rattle.rules.specs.Evaluate.{any, firstWith, isEntry, findType, findClass, ofConstant, evaluate}
 use Rattle.rules.specs.Catalog.{entryBytes}
 

@@ -4,17 +4,15 @@ use mathlib.Core.Bool.{Bool, true, false}
 use mathlib.Core.List.{List, [], _∷_, _++_}
 use lib.Dec.{eqb, ltb}
 use lib.IntN.{ℤ, pos, negsuc}
-use lib.ListN.{length}
 use Rattle.labels.specs.declared.Labels.{Labels}
 use Rattle.labels.specs.Sets.{has}
 use Rattle.labels.specs.Search.{countOf}
 use Rattle.values.specs.declared.Value.{Value}
 use Rattle.values.specs.declared.Value.the-variants.{Integer, String, Boolean}
 use Rattle.values.specs.Numbers.{numberOf}
-use Rattle.rules.specs.Tree.{Manifest}
 use Rattle.rules.specs.Read.{manifestOf}
 use Rattle.rules.specs.Outcome.{Outcome, refused, done}
-use Rattle.rules.specs.State.{Attribute, Entry, State}
+use Rattle.rules.specs.State.{Attribute, Entry}
 use Rattle.rules.specs.Compile.{stringAt, compiled, Compiled}
 use Rattle.rules.specs.Catalog.{readCatalog}
 
