@@ -21,7 +21,7 @@ use Rattle.rules.proofs.Outcome.{All, allDone, allBind, allAny, allGet}
 use Rattle.rules.proofs.ReadBack.{read-back}
 use Rattle.rules.proofs.Fits.{FitsItem, fitsStatementItem, fitsNode, fitsDefinitionItem, manifest-fits}
 use Rattle.rules.proofs.Unique.{uniqueNone, entry-once, name-once}
-use Rattle.rules.proofs.Accepted.{Sound, no-cell-fits, items-sound}
+use Rattle.rules.proofs.Invariant.{Sound, no-cell-fits, items-sound}
 
 -- ---- The state at the start and at the end
 

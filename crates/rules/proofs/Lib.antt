@@ -1,4 +1,4 @@
-pub mod Sets
+pub mod Carried
 pub mod Computing
 pub mod Rows
 pub mod Cases
@@ -9,7 +9,7 @@ pub mod Unique
 pub mod ReadBack
 pub mod Fits
 pub mod Ranges
-pub mod Accepted
+pub mod Invariant
 pub mod Laws
 pub mod Within
 pub mod WriteBack
