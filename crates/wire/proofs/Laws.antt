@@ -3,16 +3,16 @@ use mathlib.Core.Path.{_≡_, refl, sym, ap, _∙_}
 use mathlib.Core.Bool.{Bool, true, false}
 use mathlib.Core.List.{List, [], _∷_, _++_}
 use Prim.Native.Nat.{ℕ, zero, suc, _+_, _*_, _-_, _/_, _%_, _^_, _≤_, _<_}
-use native.Mathlib.Nat.{add-zero, add-suc, pow-suc, pow-zero, one-le-pow, zero-lt-suc, mod-eq-of-lt, mod-one, div-one, zero-mul, add-mul, mul-assoc, mul-comm}
+use native.Mathlib.Nat.{add-zero, pow-suc, one-le-pow, zero-lt-suc, mod-eq-of-lt, mod-one, div-one, zero-mul, add-mul, mul-assoc, mul-comm}
 use native.Mathlib.Numerals.{add-one}
 use native.Mathlib.Omega.{arith}
-use borrow.Author.Tests.{lt-ltb, le-ltb}
-use lib.Arith.{mod-mul, digits-lt}
-use lib.Dec.{ltb}
+use borrow.Author.Tests.{lt-ltb, le-ltb, leb-true, leb-false}
+use lib.Arith.{mod-mul}
+use lib.Dec.{leb}
 use lib.IntN.{ℤ, pos, negsuc}
-use lib.ListN.{length, getD, set, take, drop, length-set, length-append, List·getD-eq-default}
+use lib.ListN.{length, set, take, drop, length-set, length-append, length-replicate, List·getD-eq-default}
 use lib.Pow.{pow-add}
-use lib.Seq.{getD-set-same, getD-set-other, getD-drop, set-out, drop-cons, sets, sets-eq, take-length, length-take-le, take-at, drop-at}
+use lib.Seq.{getD-set-same, getD-set-other, getD-drop, set-out, drop-cons, sets, sets-eq, take-all, take-length, length-take-le, take-at}
 use lib.Signed.{mag}
 use Rattle.wire.specs.Bytes.{byte, two}
 use Rattle.wire.specs.Numbers.{number, signed64, highBytes, word64}
@@ -89,7 +89,7 @@ byte-outside m p (b ∷ bs) i out =
     byte-outside (set m p b) (suc p) bs i (λ l u. out (omega arith) (omega arith)) ∙ getD-set-other m p i b 0 (λ e. out (omega arith) (omega arith))
 
 -- what is stored stands there
-pub byte-inside : (m : List ℕ) (p : ℕ) (bs : List ℕ) (j : ℕ) → p + length bs ≤ length m → j < length bs → byte (over m p bs) (p + j) ≡ byte bs j
+pub byte-inside : (m : List ℕ) (p : ℕ) (bs : List ℕ) (j : ℕ) → p + j < length m → j < length bs → byte (over m p bs) (p + j) ≡ byte bs j
 unfolding over
 byte-inside m p [] j room h = absurd (omega arith)
 byte-inside m p (b ∷ bs) zero room h =
@@ -106,7 +106,7 @@ whole-run bs = run-part bs 0 (length bs) (omega arith) ∙ take-length bs
 
 -- the stored run is read back
 pub run-back : (m : List ℕ) (p : ℕ) (bs : List ℕ) → p + length bs ≤ length m → bytesAt (over m p bs) p (length bs) ≡ bs
-run-back m p bs room = same-run (over m p bs) bs p 0 (length bs) (λ j h. byte-inside m p bs j room h ∙ ap (byte bs) (omega arith)) ∙ whole-run bs
+run-back m p bs room = same-run (over m p bs) bs p 0 (length bs) (λ j h. byte-inside m p bs j (omega arith) h ∙ ap (byte bs) (omega arith)) ∙ whole-run bs
 
 -- two runs stored one after the other are one
 pub over-join : (m : List ℕ) (p : ℕ) (bs cs : List ℕ) → over (over m p bs) (p + length bs) cs ≡ over m p (bs ++ cs)
@@ -123,11 +123,44 @@ over-sets m p (b ∷ bs) = over-sets (set m p b) (suc p) bs
 pub over-parts : (m : List ℕ) (p : ℕ) (bs : List ℕ) → p + length bs ≤ length m → over m p bs ≡ take p m ++ bs ++ drop (p + length bs) m
 over-parts m p bs room = over-sets m p bs ∙ sets-eq bs m p room
 
--- the bytes up to the end of the run, and those after it
+-- what stands up to the end of the run
 pub over-front : (m : List ℕ) (p : ℕ) (bs : List ℕ) → p + length bs ≤ length m → take (p + length bs) (over m p bs) ≡ take p m ++ bs
 over-front m p bs room =
     ap (take (p + length bs)) (over-parts m p bs room)
     ∙ take-at (take p m ++ bs) (drop (p + length bs) m) (p + length bs) (length-append (take p m) bs ∙ ap (λ (n : ℕ). n + length bs) (length-take-le p m (omega arith)))
+
+-- a store of as many bytes as there are
+pub over-whole : (m bs : List ℕ) → length bs ≡ length m → over m 0 bs ≡ bs
+over-whole m bs same = sym (take-all (0 + length bs) (over m 0 bs) (omega (arith, over-length m 0 bs))) ∙ over-front m 0 bs (omega arith)
+
+-- ---- Zeros
+
+pub zeros-length : (n : ℕ) → length (zeros n) ≡ n
+unfolding zeros
+zeros-length n = length-replicate n 0
+
+pub zeros-byte : (n i : ℕ) → byte (zeros n) i ≡ 0
+unfolding zeros
+zeros-byte zero i = refl
+zeros-byte (suc n) zero = refl
+zeros-byte (suc n) (suc i) = zeros-byte n i
+
+-- what is cleared reads as 0
+pub cleared : (m : List ℕ) (p n i : ℕ) → p ≤ i → i < p + n → byte (over m p (zeros n)) i ≡ 0
+cleared m p n i l u = go (leb (length m) i) refl
+  where
+    size : length (over m p (zeros n)) ≡ length m
+    size = over-length m p (zeros n)
+
+    place : p + (i - p) ≡ i
+    place = omega arith
+
+    go : (b : Bool) → leb (length m) i ≡ b → byte (over m p (zeros n)) i ≡ 0
+    go true e = List·getD-eq-default (over m p (zeros n)) 0 (omega (arith, size, leb-true (length m) i e))
+    go false e =
+        ap (byte (over m p (zeros n))) (sym place)
+        ∙ byte-inside m p (zeros n) (i - p) (omega (arith, leb-false (length m) i e)) (omega (arith, zeros-length n))
+        ∙ zeros-byte n (i - p)
 
 -- ---- Numbers
 
@@ -203,13 +236,18 @@ stored-back m p k n room h =
     ap (bytesAt (over m p (highBytes k n)) p) (sym size) ∙ run-back m p (highBytes k n) (omega arith) in
     ap (λ (bs : List ℕ). number bs 0) run ∙ number-back k n h
 
+-- a run that does not meet those k bytes reads as before
+pub stored-outside : (m : List ℕ) (p k n q j : ℕ) → ((i : ℕ) → q ≤ i → i < q + j → p ≤ i → i < p + k → ⊥) → bytesAt (over m p (highBytes k n)) q j ≡ bytesAt m q j
+stored-outside m p k n q j apart = run-outside m p (highBytes k n) q j (λ i a b c d. apart i a b c (omega (arith, high-length k n)))
+
+-- of one byte, of two and of a signed number
 pub stored-byte : (m : List ℕ) (p b : ℕ) → p + 1 ≤ length m → b < 256 → byte (over m p (highBytes 1 b)) p ≡ b
 stored-byte m p b room h = byte-number (over m p (highBytes 1 b)) p ∙ stored-back m p 1 b room h
 
 pub stored-two : (m : List ℕ) (p n : ℕ) → p + 2 ≤ length m → n < 65536 → two (over m p (highBytes 2 n)) p ≡ n
 stored-two m p n room h = two-number (over m p (highBytes 2 n)) p ∙ stored-back m p 2 n room h
 
--- a signed number of 64 bits: `mag z` is n both for n and for −(n + 1)
+-- `mag z` is n both for n and for −(n + 1): 64 bits hold z if it is below 2⁶³
 pub word-lt : (z : ℤ) → mag z < 9223372036854775808 → word64 z < 256 ^ 8
 unfolding word64
 word-lt (pos n) h = omega arith

@@ -4,9 +4,9 @@ use mathlib.Core.Path.{_≡_, refl, sym, ap, _∙_}
 use Prim.Native.Nat.{ℕ, suc, _+_, _-_, _≤_, _<_}
 use native.Mathlib.Omega.{arith}
 use borrow.Author.Tests.{ltb-true, ltb-false}
-use lib.ListN.{set, length-replicate}
+use lib.ListN.{set}
 use Rattle.wire.specs.Runs.{over, zeros}
-use Rattle.wire.proofs.Laws.{same-over-length, over-more, over-past, over-none}
+use Rattle.wire.proofs.Laws.{same-over-length, over-more, over-past, over-none, zeros-length}
 use Rattle.wire.proofs.clear.Statement.{statement}
 use Rattle.wire.proofs.clear.Tie as tie
 
@@ -22,8 +22,7 @@ unfolding zeros
 zero-step m p e h = let more : suc (e - (p + 1)) ≡ e - p = omega arith in over-more m p 0 (zeros (e - (p + 1))) ∙ ap (λ (k : ℕ). over m p (zeros k)) more
 
 zero-done : (m : List ℕ) (p e : ℕ) → e ≤ p → over m p (zeros (e - p)) ≡ m
-unfolding zeros
-zero-done m p e h = over-none m p (zeros (e - p)) (omega (arith, length-replicate {A = ℕ} (e - p) 0))
+zero-done m p e h = over-none m p (zeros (e - p)) (omega (arith, zeros-length (e - p)))
 
 loop-holds : tie.Need-loop-holds Inv-loop μ-loop
 loop-holds c = refl

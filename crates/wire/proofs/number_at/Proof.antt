@@ -1,6 +1,6 @@
 -- `number_at`: at the loop's head the number of the bytes that are left, read after those passed, is the whole.
 use mathlib.Core.List.{List}
-use mathlib.Core.Path.{_≡_, refl, sym, ap, _∙_}
+use mathlib.Core.Path.{_≡_, refl, ap, _∙_}
 use Prim.Native.Nat.{ℕ, zero, suc, _+_, _*_, _-_, _^_, _≤_, _<_}
 use native.Mathlib.Nat.{lt-of-lt-of-le, pow-le-pow-right, pow-suc, zero-lt-suc}
 use native.Mathlib.Numerals.{add-one}

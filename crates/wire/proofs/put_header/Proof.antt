@@ -1,6 +1,7 @@
 -- `put_header`: a number of three bytes, the tag above the length.
+use mathlib.Core.List.{List, _∷_}
 use mathlib.Core.Path.{_≡_, ap, _∙_}
-use Prim.Native.Nat.{ℕ, _+_, _*_}
+use Prim.Native.Nat.{ℕ, _+_, _*_, _<_}
 use native.Mathlib.Omega.{arith}
 use borrow.Author.Needs.{needs}
 use Rattle.wire.specs.Numbers.{highBytes}
@@ -24,14 +25,15 @@ put-number-requires c κs = omega arith
 same-length : tie.Need-same-length
 same-length c = search needs
 
+-- what `put_number` stores is the header
+stored : (m m′ : List ℕ) (at tag wide n : ℕ) → tag < 256 → n < 65536 → wide ≡ tag → m′ ≡ over m at (highBytes 3 (wide * 65536 + n)) → m′ ≡ over m at (tag ∷ highBytes 2 n)
+stored m m′ at tag wide n h l same e = e ∙ ap (over m at) (ap (λ (t : ℕ). highBytes 3 (t * 65536 + n)) same ∙ header-bytes tag n h l)
+
 returns : tie.Need-returns
 returns c =
-    let start = c .before .before .before .before .before .before in
-    let s = start .args in
-    let tag : c .before .before .before .wide .result ≡ s .tag = c .before .before .before .wide .ensures in
-    c .before .before .put-number .ensures
-    ∙ ap (λ (t : ℕ). over (s .out .now) (s .at) (highBytes 3 (t * 65536 + s .size))) tag
-    ∙ ap (over (s .out .now) (s .at)) (header-bytes (s .tag) (s .size) (omega arith) (omega arith))
+    let s = c .before .before .before .before .before .before .args in
+    let wide = c .before .before .before .wide in
+    stored (s .out .now) _ (s .at) (s .tag) (wide .result) (s .size) (omega arith) (omega arith) (wide .ensures) (c .before .before .put-number .ensures)
 
 pub put-header-spec : {M : Type 1} → statement M
 put-header-spec =
