@@ -1,15 +1,15 @@
 -- The printed schedule: from standard input (the device name, a line feed, then the manifest) to the text.
-use Prim.Native.Nat.{ℕ, zero, suc, _+_, _/_, _%_}
+use Prim.Native.Nat.{ℕ, zero, suc}
 use mathlib.Core.Bool.{Bool, true, false}
 use mathlib.Core.List.{List, [], _∷_, _++_}
-use lib.Dec.{eqb, ltb}
-use lib.IntN.{ℤ, pos, negsuc}
+use lib.Dec.{eqb}
 use Rattle.labels.specs.declared.Labels.{Labels}
 use Rattle.labels.specs.Sets.{has}
 use Rattle.labels.specs.Search.{countOf}
 use Rattle.values.specs.declared.Value.{Value}
 use Rattle.values.specs.declared.Value.the-variants.{Integer, String, Boolean}
 use Rattle.values.specs.Numbers.{numberOf}
+unfoldable pub use Rattle.values.specs.Decimal.{digits, decimal, signedDecimal}
 use Rattle.rules.specs.Read.{manifestOf}
 use Rattle.rules.specs.Outcome.{Outcome, refused, done}
 use Rattle.rules.specs.State.{Attribute, Entry}
@@ -17,18 +17,6 @@ use Rattle.rules.specs.Compile.{stringAt, compiled, Compiled}
 use Rattle.rules.specs.Catalog.{readCatalog}
 
 -- ---- Numbers, values and labels as text
-
--- the decimal digits of n, before what follows; k + 1 is at least how many they are
-unfoldable pub digits : ℕ → ℕ → List ℕ → List ℕ
-digits zero n after = (48 + n % 10) ∷ after
-digits (suc k) n after = elim (ltb n 10) [ true ↦ (48 + n) ∷ after | false ↦ digits k (n / 10) ((48 + n % 10) ∷ after) ]
-
-unfoldable pub decimal : ℕ → List ℕ
-decimal n = digits 20 n []
-
-unfoldable pub signedDecimal : ℤ → List ℕ
-signedDecimal (pos n) = decimal n
-signedDecimal (negsuc n) = 45 ∷ decimal (suc n)
 
 -- "true/false"
 unfoldable pub booleanText : Bool → List ℕ

@@ -1,1 +1,4 @@
 pub mod Numbers
+pub mod Integers
+pub mod Computed
+pub mod Decimal

@@ -1,5 +1,12 @@
 // What a manifest's expressions yield, why a compile refuses, and what it answers.
+ghost use mathlib.Core.Path.{_≡_};
+ghost use Rattle.values.specs.Integers.{sameValue};
 use labels::Labels;
+
+// Decimal text of numbers.
+pub mod decimal;
+// Arithmetic on signed 64-bit integers.
+pub mod integers;
 
 // A value of document 01: an integer, a string (its number in the table), or a boolean.
 pub enum Value {
@@ -45,4 +52,31 @@ pub enum Reason {
 pub enum Answer {
     Catalog { length: u16, steps: u16 },
     Refused { reason: Reason, place: u16 },
+}
+
+// What an operation on integers answers.
+pub enum Computed {
+    Integer(i64),
+    Overflow,
+    DivisionByZero,
+}
+
+// "= takes any two values, unequal if of unlike kinds".
+pub fn same_value(a: Value, b: Value) -> bool
+    ensures { λ r. ⌜ r ≡ sameValue a b ⌝ }
+{
+    match a {
+        Value::Integer(x) => match b {
+            Value::Integer(y) => x == y,
+            Value::String(_) | Value::Boolean(_) => false,
+        },
+        Value::String(x) => match b {
+            Value::String(y) => x == y,
+            Value::Integer(_) | Value::Boolean(_) => false,
+        },
+        Value::Boolean(x) => match b {
+            Value::Boolean(y) => x == y,
+            Value::Integer(_) | Value::String(_) => false,
+        },
+    }
 }

@@ -1,0 +1,6 @@
+pub mod Parts
+pub mod Sums
+pub mod Division
+pub mod Same
+pub mod Sizes
+pub mod Digits
