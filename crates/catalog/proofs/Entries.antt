@@ -1,0 +1,252 @@
+-- The search over entries and over attributes, and what is read of an attribute. Assumes nothing.
+use mathlib.Core.Path.{_≡_, refl, sym, ap, _∙_}
+use mathlib.Core.Bool.{Bool, true, false, _&&_}
+use mathlib.Core.List.{List, [], _∷_, _++_, append-assoc, append-nil}
+use Prim.Native.Nat.{ℕ, _+_, _≤_, _<_}
+use native.Mathlib.Omega.{arith}
+use borrow.Author.Tests.{ltb-true, lt-ltb, le-ltb, eq-eqb, ne-eqb}
+use lib.Dec.{eqb}
+use lib.IntN.{ℤ, pos, negsuc}
+use lib.ListN.{length, drop, length-append, take-append-drop}
+use lib.Seq.{length-take-le}
+use lib.Signed.{mag}
+use Rattle.labels.specs.declared.Labels.{Labels}
+use Rattle.labels.specs.Sets.{noLabels, Words64}
+use Rattle.labels.specs.Bytes.{labelBytes, labelsFrom}
+use Rattle.labels.proofs.Laws.{label-length, label-back}
+use Rattle.values.specs.declared.Value.{Value}
+use Rattle.values.specs.declared.Value.the-variants.{Integer, String, Boolean}
+use Rattle.wire.specs.Bytes.{byte, two, endOf}
+use Rattle.wire.specs.Numbers.{highBytes, word64, number, signed64}
+use Rattle.wire.specs.Runs.{bytesAt}
+use Rattle.wire.proofs.Laws.{high-length, number-back, word-lt}
+use Rattle.rules.specs.Arithmetic.{fits64}
+use Rattle.rules.specs.State.{Attribute, Entry}
+use Rattle.rules.specs.Evaluate.{firstWith, isEntry, isAttribute}
+use Rattle.rules.specs.Catalog.{fieldBytes, booleanByte, valueBytes, attributeBytes, attributesBytes, entryBytes, catalogBytes}
+use Rattle.rules.proofs.ReadBack.{FitsValue, fitsInteger, fitsString, fitsBoolean, FitsAttribute, FitsEntry, field-length, integer-back}
+use Rattle.catalog.specs.declared.Place.{Place}
+use Rattle.catalog.specs.declared.Place.the-variants.{At, Nothing}
+use Rattle.catalog.specs.Finding.{Written, Stands, EntryAt, Listed, placeWith, entryPlace, attributePlace, Below, labelsAt, valueAt, contentAt}
+use Rattle.catalog.proofs.Standing.{stands-first, stands-next, stands-same, stands-within, stands-byte, stands-two, stands-run, field-end, field-body}
+use Rattle.catalog.proofs.Search.{Left, here, further, gone, Hit, hits}
+
+-- ---- An entry that stands at p
+
+entryBody : Entry → List ℕ
+entryBody e = highBytes 2 (e .type) ++ (highBytes 2 (e .title) ++ (labelBytes (e .labels) ++ attributesBytes (e .attributes)))
+
+entry-is : (e : Entry) → entryBytes e ≡ fieldBytes 0x40 (entryBody e)
+unfolding entryBytes entryBody
+entry-is e = refl
+
+entry-length : (e : Entry) → length (entryBytes e) ≡ 39 + length (attributesBytes (e .attributes))
+unfolding entryBody
+entry-length e =
+    let body : length (entryBody e) ≡ 36 + length (attributesBytes (e .attributes)) = simp (length-append, high-length, label-length) (omega arith) in
+    ap length (entry-is e) ∙ field-length 0x40 (entryBody e) ∙ omega arith
+
+module _ (m : List ℕ) {p : ℕ} (e : Entry) (stands : Stands m p (entryBytes e)) where
+  entry-body : Stands m (p + 3) (highBytes 2 (e .type) ++ (highBytes 2 (e .title) ++ (labelBytes (e .labels) ++ attributesBytes (e .attributes))))
+  unfolding entryBody
+  entry-body = field-body m 0x40 (entryBody e) (stands-same m (entry-is e) stands)
+
+  after-type : Stands m (p + 5) (highBytes 2 (e .title) ++ (labelBytes (e .labels) ++ attributesBytes (e .attributes)))
+  after-type = stands-next m (highBytes 2 (e .type)) (highBytes 2 (e .title) ++ (labelBytes (e .labels) ++ attributesBytes (e .attributes))) (omega (arith, high-length 2 (e .type))) entry-body
+
+  attributes-stand : Stands m (p + 39) (attributesBytes (e .attributes))
+  attributes-stand =
+      stands-next m (labelBytes (e .labels)) (attributesBytes (e .attributes)) (omega (arith, label-length (e .labels)))
+      (stands-next m {p = p + 5} (highBytes 2 (e .title)) (labelBytes (e .labels) ++ attributesBytes (e .attributes)) {q = p + 7} (omega (arith, high-length 2 (e .title))) after-type)
+
+  entry-test : (t n : ℕ) → FitsEntry e → (eqb (two m (p + 3)) t && eqb (two m (p + 5)) n) ≡ isEntry t n e
+  unfolding isEntry
+  entry-test t n f = rw (stands-two m (e .type) _ (f .type) entry-body, stands-two m (e .title) _ (f .title) after-type)
+
+-- its attributes lie between its header and its end
+pub attributes-listed : (m : List ℕ) (p : ℕ) (e : Entry) {size : ℕ} → size ≡ two m (p + 1) → EntryAt m p e → Listed FitsAttribute attributesBytes m (p + 39) (p + 3 + size) (e .attributes)
+attributes-listed m p e {size} is s =
+    let wide : length (entryBytes e) ≡ 39 + length (attributesBytes (e .attributes)) = entry-length e in
+    let field : length (entryBytes e) ≡ 3 + length (entryBody e) = ap length (entry-is e) ∙ field-length 0x40 (entryBody e) in
+    let end : endOf m p ≡ p + length (fieldBytes 0x40 (entryBody e)) = field-end m 0x40 (entryBody e) (omega (arith, s .short)) (stands-same m (entry-is e) (s .stands)) in
+    record {
+      stands = attributes-stand m e (s .stands);
+      ends = omega (arith, ap length (entry-is e));
+      short = omega (arith, s .short);
+      fits = s .fits .attributes;
+    }
+
+-- ---- An attribute that stands at p
+
+attributeBody : Attribute → List ℕ
+attributeBody a = highBytes 2 (a .name) ++ (labelBytes (a .content .labels) ++ valueBytes (a .content .value))
+
+attribute-is : (a : Attribute) → attributeBytes a ≡ fieldBytes 0x41 (attributeBody a)
+unfolding attributeBytes attributeBody
+attribute-is a = refl
+
+module _ (m : List ℕ) {p : ℕ} (a : Attribute) (stands : Stands m p (attributeBytes a)) where
+  attribute-body : Stands m (p + 3) (highBytes 2 (a .name) ++ (labelBytes (a .content .labels) ++ valueBytes (a .content .value)))
+  unfolding attributeBody
+  attribute-body = field-body m 0x41 (attributeBody a) (stands-same m (attribute-is a) stands)
+
+  after-name : Stands m (p + 5) (labelBytes (a .content .labels) ++ valueBytes (a .content .value))
+  after-name = stands-next m (highBytes 2 (a .name)) (labelBytes (a .content .labels) ++ valueBytes (a .content .value)) (omega (arith, high-length 2 (a .name))) attribute-body
+
+  after-labels : Stands m (p + 37) (valueBytes (a .content .value))
+  after-labels = stands-next m (labelBytes (a .content .labels)) (valueBytes (a .content .value)) (omega (arith, label-length (a .content .labels))) after-name
+
+  attribute-test : (n : ℕ) → FitsAttribute a → eqb (two m (p + 3)) n ≡ isAttribute n a
+  unfolding isAttribute
+  attribute-test n f = rw (stands-two m (a .name) _ (f .name) attribute-body)
+
+-- the set and the value are read back
+labels-back : (m : List ℕ) (p : ℕ) (k : Labels) (b : List ℕ) → Words64 k → Stands m p (labelBytes k ++ b) → labelsAt m p ≡ k
+unfolding labelsAt
+labels-back m p k b words s =
+    let wide : length (labelBytes k) ≡ 32 = label-length k in
+    let room : p + length (labelBytes k) ≤ length m = stands-within m (labelBytes k) (omega arith) (stands-first m (labelBytes k) b s) in
+    rw (le-ltb (length m) (p + 32) (omega arith)) (ap labelsFrom (s .bytes ∙ append-assoc (labelBytes k) b (s .after)) ∙ label-back k (b ++ s .after) words)
+
+integer-small : (z : ℤ) → fits64 z ≡ true → mag z < 9223372036854775808
+unfolding fits64
+integer-small (pos n) h = ltb-true n 9223372036854775808 h
+integer-small (negsuc n) h = ltb-true n 9223372036854775808 h
+
+boolean-back : (b : Bool) → eqb (booleanByte b) 1 ≡ b
+unfolding booleanByte
+boolean-back true = refl
+boolean-back false = refl
+
+value-back : (m : List ℕ) (p : ℕ) (v : Value) → FitsValue v → Stands m p (valueBytes v) → valueAt m p ≡ v
+unfolding valueAt valueBytes fieldBytes
+value-back m p (Integer z) (fitsInteger h) s =
+    let size : length (highBytes 8 (word64 z)) ≡ 8 = high-length 8 (word64 z) in
+    let run : bytesAt m (p + 3) (length (highBytes 8 (word64 z))) ≡ highBytes 8 (word64 z) =
+    stands-run m (highBytes 8 (word64 z)) (omega arith) (field-body m 0x42 (highBytes 8 (word64 z)) s) in
+    let run8 : bytesAt m (p + 3) 8 ≡ highBytes 8 (word64 z) = ap (bytesAt m (p + 3)) (sym size) ∙ run in
+    rw (stands-byte m 0x42 _ s, run8, number-back 8 (word64 z) (word-lt z (integer-small z h))) (ap Integer (integer-back z h))
+value-back m p (String n) (fitsString h) s =
+    let body : Stands m (p + 3) (highBytes 2 n) = field-body m 0x43 (highBytes 2 n) s in
+    rw (stands-byte m 0x43 _ s, stands-two m n [] h (stands-same m (sym (append-nil (highBytes 2 n))) body))
+value-back m p (Boolean b) fitsBoolean s =
+    let body : Stands m (p + 3) (booleanByte b ∷ []) = field-body m 0x44 (booleanByte b ∷ []) s in
+    rw (stands-byte m 0x44 _ s, stands-byte m (booleanByte b) [] body, boolean-back b)
+
+pub content-back : (m : List ℕ) (p : ℕ) (a : Attribute) → FitsAttribute a → Stands m p (attributeBytes a) → contentAt m p ≡ a .content
+unfolding contentAt
+content-back m p a f s =
+    let value : valueAt m (p + 37) ≡ a .content .value = value-back m (p + 37) (a .content .value) (f .content .value) (after-labels m a s) in
+    let labels : labelsAt m (p + 5) ≡ a .content .labels = labels-back m (p + 5) (a .content .labels) (valueBytes (a .content .value)) (f .content .labels) (after-name m a s) in
+    rw (value, labels)
+
+-- ---- The ways of the small readers
+
+module _ (m : List ℕ) (p t n : ℕ) {r : ℕ} (is : r ≡ two m (p + 3)) where
+  pub other-type : (r ≡ t → ⊥) → false ≡ (eqb (two m (p + 3)) t && eqb (two m (p + 5)) n)
+  other-type differs = rw (ne-eqb (two m (p + 3)) t (λ e. differs (is ∙ e)))
+
+  pub same-type : {q : ℕ} → r ≡ t → q ≡ two m (p + 5) → eqb q n ≡ (eqb (two m (p + 3)) t && eqb (two m (p + 5)) n)
+  same-type e title = rw (eq-eqb (two m (p + 3)) t (sym is ∙ e), title)
+
+module _ (m : List ℕ) (p : ℕ) where
+  pub no-set : length m < p + 32 → noLabels ≡ labelsAt m p
+  unfolding labelsAt
+  no-set short = rw (lt-ltb (length m) (p + 32) short)
+
+  pub set-read : {k : Labels} {b : List ℕ} → p + 32 ≤ length m → b ≡ drop p m → k ≡ labelsFrom b → k ≡ labelsAt m p
+  unfolding labelsAt
+  set-read room part read = rw (le-ltb (length m) (p + 32) room) (read ∙ ap labelsFrom part)
+
+  module _ {tag : ℕ} (is : tag ≡ byte m p) where
+    pub integer-read : {y z : ℤ} → tag ≡ 0x42 → y ≡ z → z ≡ signed64 (number (bytesAt m (p + 3) 8) 0) → Integer y ≡ valueAt m p
+    unfolding valueAt
+    integer-read e same read = let at : byte m p ≡ 0x42 = sym is ∙ e in rw (at, same, read)
+
+    pub string-read : {n : ℕ} → tag ≡ 0x43 → n ≡ two m (p + 3) → String n ≡ valueAt m p
+    unfolding valueAt
+    string-read e read = let at : byte m p ≡ 0x43 = sym is ∙ e in rw (at, read)
+
+    pub boolean-read : {b : ℕ} → (tag ≡ 0x42 → ⊥) → (tag ≡ 0x43 → ⊥) → b ≡ byte m (p + 3) → Boolean (eqb b 1) ≡ valueAt m p
+    unfolding valueAt
+    boolean-read a b read = rw (ne-eqb (byte m p) 0x42 (λ e. a (is ∙ e)), ne-eqb (byte m p) 0x43 (λ e. b (is ∙ e)), read)
+
+-- ---- The loops of `find_entry` and `attribute_between`
+
+pub entries-listed : (m : List ℕ) (fill : ℕ) (es : List Entry) → fill ≤ 65535 → fill ≤ length m → Written m fill es → Listed FitsEntry catalogBytes m 0 fill es
+entries-listed m fill es small within w =
+    let size : length (catalogBytes es) ≡ fill = ap length (sym (w .bytes)) ∙ length-take-le fill m within in
+    record {
+      stands = record { after = drop fill m; bytes = sym (take-append-drop fill m) ∙ ap (λ (l : List ℕ). l ++ drop fill m) (w .bytes) };
+      ends = omega arith;
+      short = omega arith;
+      fits = w .fits;
+    }
+
+-- what is left of the entries from p on
+abbrev pub EntriesLeft : List ℕ → ℕ → ℕ → ℕ → ℕ → Type 0
+EntriesLeft m fill t n p = (es : List Entry) → Written m fill es → Left entryBytes FitsEntry catalogBytes (isEntry t n) m p fill (entryPlace t n es)
+
+module _ (m : List ℕ) (fill t n : ℕ) where
+  pub entries-begin : fill ≤ 65535 → fill ≤ length m → EntriesLeft m fill t n 0
+  unfolding entryPlace
+  entries-begin small within es w = record { xs = es; listed = entries-listed m fill es small within w; goes = refl }
+
+  module _ (p : ℕ) (left : EntriesLeft m fill t n p) where
+    pub entry-here : {b : Bool} → p < fill → b ≡ (eqb (two m (p + 3)) t && eqb (two m (p + 5)) n) → b ≡ true → (es : List Entry) → Written m fill es → At p ≡ entryPlace t n es
+    unfolding catalogBytes
+    entry-here before is true′ es w =
+        here 0x40 entryBody entryBytes catalogBytes FitsEntry (isEntry t n) entry-is refl (λ x xs. refl) m before true′ (λ x f s. is ∙ entry-test m x s t n f) (left es w)
+
+    pub entry-further : {b : Bool} {q : ℕ} → p < fill → b ≡ (eqb (two m (p + 3)) t && eqb (two m (p + 5)) n) → b ≡ false → q ≡ endOf m p → EntriesLeft m fill t n q
+    unfolding catalogBytes
+    entry-further before is false′ end es w =
+        further 0x40 entryBody entryBytes catalogBytes FitsEntry (isEntry t n) entry-is refl (λ x xs. refl) m before false′ (λ x f s. is ∙ entry-test m x s t n f) end (left es w)
+
+    pub entries-gone : fill ≤ p → (es : List Entry) → Written m fill es → Nothing ≡ entryPlace t n es
+    unfolding catalogBytes
+    entries-gone past es w = gone 0x40 entryBody entryBytes catalogBytes FitsEntry (isEntry t n) entry-is refl (λ x xs. refl) m past (left es w)
+
+abbrev pub AttributesLeft : List ℕ → ℕ → ℕ → ℕ → ℕ → Type 0
+AttributesLeft m from end n p =
+    (ats : List Attribute) → Listed FitsAttribute attributesBytes m from end ats → Left attributeBytes FitsAttribute attributesBytes (isAttribute n) m p end (placeWith attributeBytes (isAttribute n) ats from)
+
+module _ (m : List ℕ) (from end n : ℕ) where
+  pub attributes-begin : AttributesLeft m from end n from
+  attributes-begin ats l = record { xs = ats; listed = l; goes = refl }
+
+  module _ (p : ℕ) (left : AttributesLeft m from end n p) where
+    pub attribute-here : {b : Bool} → p < end → b ≡ eqb (two m (p + 3)) n → b ≡ true → (ats : List Attribute) → Listed FitsAttribute attributesBytes m from end ats → At p ≡ placeWith attributeBytes (isAttribute n) ats from
+    unfolding attributesBytes
+    attribute-here before is true′ ats l =
+        here 0x41 attributeBody attributeBytes attributesBytes FitsAttribute (isAttribute n) attribute-is refl (λ x xs. refl) m before true′ (λ x f s. is ∙ attribute-test m x s n f) (left ats l)
+
+    pub attribute-further : {b : Bool} {q : ℕ} → p < end → b ≡ eqb (two m (p + 3)) n → b ≡ false → q ≡ endOf m p → AttributesLeft m from end n q
+    unfolding attributesBytes
+    attribute-further before is false′ e ats l =
+        further 0x41 attributeBody attributeBytes attributesBytes FitsAttribute (isAttribute n) attribute-is refl (λ x xs. refl) m before false′ (λ x f s. is ∙ attribute-test m x s n f) e (left ats l)
+
+    pub attributes-gone : end ≤ p → (ats : List Attribute) → Listed FitsAttribute attributesBytes m from end ats → Nothing ≡ placeWith attributeBytes (isAttribute n) ats from
+    unfolding attributesBytes
+    attributes-gone past ats l = gone 0x41 attributeBody attributeBytes attributesBytes FitsAttribute (isAttribute n) attribute-is refl (λ x xs. refl) m past (left ats l)
+
+-- ---- What is found, and where
+
+pub below-more : (r : Place) {d e : ℕ} → d ≤ e → Below d r → Below e r
+unfolding Below
+below-more (At p) h b = omega arith
+below-more Nothing h b = tt
+
+pub below-at : {r : Place} {p e : ℕ} → Below e r → r ≡ At p → p < e
+unfolding Below
+below-at b is = rw is at b
+
+pub entry-hits : (m : List ℕ) (fill t n : ℕ) → fill ≤ 65535 → fill ≤ length m → (es : List Entry) → Written m fill es → Hit entryBytes FitsEntry m (firstWith (isEntry t n) es) (entryPlace t n es)
+unfolding catalogBytes entryPlace
+entry-hits m fill t n small within es w =
+    hits 0x40 entryBody entryBytes catalogBytes FitsEntry (isEntry t n) entry-is refl (λ x xs. refl) m es (entries-listed m fill es small within w)
+
+pub attribute-hits : (m : List ℕ) (p : ℕ) (e : Entry) (n : ℕ) → EntryAt m p e → Hit attributeBytes FitsAttribute m (firstWith (isAttribute n) (e .attributes)) (attributePlace n e p)
+unfolding attributesBytes attributePlace
+attribute-hits m p e n s =
+    hits 0x41 attributeBody attributeBytes attributesBytes FitsAttribute (isAttribute n) attribute-is refl (λ x xs. refl) m (e .attributes) (attributes-listed m p e refl s)

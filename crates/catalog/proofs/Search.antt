@@ -1,0 +1,131 @@
+-- A search over fields of one kind, written one after the other: stated once, for any element type. Assumes nothing.
+use mathlib.Core.Path.{_≡_, refl, sym, ap, _∙_}
+use mathlib.Core.Bool.{Bool, true, false, _||_}
+use mathlib.Core.List.{List, [], _∷_, _++_}
+use mathlib.Core.Option.{Option, none, some}
+use Prim.Native.Nat.{ℕ, _+_, _≤_, _<_}
+use native.Mathlib.Omega.{arith}
+use lib.ListN.{length, length-append}
+use Rattle.wire.specs.Bytes.{pick, endOf}
+use Rattle.rules.specs.State.{isSome}
+use Rattle.rules.specs.Evaluate.{any, firstWith}
+use Rattle.rules.specs.Catalog.{fieldBytes}
+use Rattle.rules.proofs.Lists.{Each, also}
+use Rattle.rules.proofs.ReadBack.{field-length}
+use Rattle.catalog.specs.declared.Place.{Place}
+use Rattle.catalog.specs.declared.Place.the-variants.{At, Nothing}
+use Rattle.catalog.specs.Finding.{Stands, Listed, placeWith}
+use Rattle.catalog.proofs.Standing.{stands-first, stands-next, stands-same, field-end}
+
+-- what is left of a search from p on: the answer among these is the whole answer
+pub record Left {A : Type 0} (bytesOf : A → List ℕ) (Fits : A → Type 0) (allOf : List A → List ℕ) (test : A → Bool) (m : List ℕ) (p end : ℕ) (whole : Place) : Type 0 where
+  pub xs : List A
+  pub listed : Listed Fits allOf m p end xs
+  pub goes : placeWith bytesOf test xs p ≡ whole
+
+-- where the first that passes stands
+pub data Hit {A : Type 0} (bytesOf : A → List ℕ) (Fits : A → Type 0) (m : List ℕ) : Option A → Place → Type 0 where
+  missed : Hit bytesOf Fits m none Nothing
+  hit : {x : A} {p : ℕ} → Fits x → Stands m p (bytesOf x) → length (bytesOf x) ≤ 65535 → Hit bytesOf Fits m (some x) (At p)
+
+-- what stands at a place that was found
+pub record HitAt {A : Type 0} (bytesOf : A → List ℕ) (Fits : A → Type 0) (m : List ℕ) (o : Option A) (p : ℕ) : Type 0 where
+  pub x : A
+  pub first : o ≡ some x
+  pub fits : Fits x
+  pub stands : Stands m p (bytesOf x)
+  pub short : length (bytesOf x) ≤ 65535
+
+module _ {A : Type 0} {bytesOf : A → List ℕ} {Fits : A → Type 0} {m : List ℕ} where
+  pub hit-nothing : {o : Option A} {q : Place} → Hit bytesOf Fits m o q → q ≡ Nothing → o ≡ none
+  hit-nothing missed e = refl
+  hit-nothing (hit f s l) e = let z : _≡_ {A = ℕ} 0 1 = cc in absurd (omega arith)
+
+  pub hit-at : {o : Option A} {q : Place} (p : ℕ) → Hit bytesOf Fits m o q → q ≡ At p → HitAt bytesOf Fits m o p
+  hit-at p missed e = let z : _≡_ {A = ℕ} 0 1 = cc in absurd (omega arith)
+  hit-at p (hit {x = x} {p = p′} f s l) e = let same : p′ ≡ p = cc in record { x = x; first = refl; fits = f; stands = rw same at s; short = l }
+
+module _ {A : Type 0} (tag : ℕ) (body : A → List ℕ) (bytesOf : A → List ℕ) (allOf : List A → List ℕ) (Fits : A → Type 0) (test : A → Bool)
+    (is-field : (x : A) → bytesOf x ≡ fieldBytes tag (body x)) (all-none : allOf [] ≡ []) (all-more : (x : A) (xs : List A) → allOf (x ∷ xs) ≡ bytesOf x ++ allOf xs) (m : List ℕ) where
+  size-none : length (allOf []) ≡ 0
+  size-none = ap length all-none
+
+  size-more : (x : A) (xs : List A) → length (allOf (x ∷ xs)) ≡ length (bytesOf x) + length (allOf xs)
+  size-more x xs = ap length (all-more x xs) ∙ length-append (bytesOf x) (allOf xs)
+
+  size-field : (x : A) → length (bytesOf x) ≡ 3 + length (body x)
+  size-field x = ap length (is-field x) ∙ field-length tag (body x)
+
+  first-stands : (x : A) (xs : List A) {p : ℕ} → Stands m p (allOf (x ∷ xs)) → Stands m p (bytesOf x)
+  first-stands x xs s = stands-first m (bytesOf x) (allOf xs) (stands-same m (all-more x xs) s)
+
+  first-end : (x : A) {p : ℕ} → length (bytesOf x) ≤ 65535 → Stands m p (bytesOf x) → endOf m p ≡ p + length (bytesOf x)
+  first-end x {p} short s =
+      field-end m tag (body x) (omega (arith, size-field x)) (stands-same m (is-field x) s) ∙ ap (λ (l : List ℕ). p + length l) (sym (is-field x))
+
+  others-listed : (x : A) (xs : List A) {p end : ℕ} → Listed Fits allOf m p end (x ∷ xs) → Listed Fits allOf m (p + length (bytesOf x)) end xs
+  others-listed x xs {p} {end} l = go (l .fits)
+    where
+      go : Each Fits (x ∷ xs) → Listed Fits allOf m (p + length (bytesOf x)) end xs
+      go (also f fs) = record {
+        stands = stands-next m (bytesOf x) (allOf xs) refl (stands-same m (all-more x xs) (l .stands));
+        ends = omega (arith, size-more x xs, l .ends);
+        short = omega (arith, size-more x xs, l .short);
+        fits = fs;
+      }
+
+  first-fits : (x : A) (xs : List A) → Each Fits (x ∷ xs) → Fits x
+  first-fits x xs (also f fs) = f
+
+  -- ---- A turn of the loop at p, with the answer b of its test
+
+  module _ {p end : ℕ} {whole : Place} where
+    here-in : {b : Bool} → p < end → b ≡ true → ((x : A) → Fits x → Stands m p (bytesOf x) → b ≡ test x) → (xs : List A) → Listed Fits allOf m p end xs → placeWith bytesOf test xs p ≡ whole → At p ≡ whole
+    unfolding placeWith
+    here-in before t same [] l g = absurd (omega (arith, size-none, l .ends))
+    here-in before t same (x ∷ xs) l g = let passes : test x ≡ true = sym (same x (first-fits x xs (l .fits)) (first-stands x xs (l .stands))) ∙ t in (rw passes at g)
+
+    pub here : {b : Bool} → p < end → b ≡ true → ((x : A) → Fits x → Stands m p (bytesOf x) → b ≡ test x) → Left bytesOf Fits allOf test m p end whole → At p ≡ whole
+    here before t same left = here-in before t same (left .xs) (left .listed) (left .goes)
+
+    further-in : {b : Bool} {q : ℕ} → p < end → b ≡ false → ((x : A) → Fits x → Stands m p (bytesOf x) → b ≡ test x) → q ≡ endOf m p → (xs : List A) → Listed Fits allOf m p end xs → placeWith bytesOf test xs p ≡ whole → Left bytesOf Fits allOf test m q end whole
+    unfolding placeWith
+    further-in before t same e [] l g = absurd (omega (arith, size-none, l .ends))
+    further-in {q = q} before t same e (x ∷ xs) l g =
+        let stands : Stands m p (bytesOf x) = first-stands x xs (l .stands) in
+        let fails : test x ≡ false = sym (same x (first-fits x xs (l .fits)) stands) ∙ t in
+        let next : q ≡ p + length (bytesOf x) = e ∙ first-end x (omega (arith, size-more x xs, l .short)) stands in
+        rw next (record { xs = xs; listed = others-listed x xs l; goes = rw fails at g })
+
+    pub further : {b : Bool} {q : ℕ} → p < end → b ≡ false → ((x : A) → Fits x → Stands m p (bytesOf x) → b ≡ test x) → q ≡ endOf m p → Left bytesOf Fits allOf test m p end whole → Left bytesOf Fits allOf test m q end whole
+    further before t same e left = further-in before t same e (left .xs) (left .listed) (left .goes)
+
+    gone-in : end ≤ p → (xs : List A) → Listed Fits allOf m p end xs → placeWith bytesOf test xs p ≡ whole → Nothing ≡ whole
+    unfolding placeWith
+    gone-in past [] l g = g
+    gone-in past (x ∷ xs) l g = absurd (omega (arith, size-more x xs, size-field x, l .ends))
+
+    pub gone : end ≤ p → Left bytesOf Fits allOf test m p end whole → Nothing ≡ whole
+    gone past left = gone-in past (left .xs) (left .listed) (left .goes)
+
+  -- ---- The place and the first that passes
+
+  pub hits : (xs : List A) {p end : ℕ} → Listed Fits allOf m p end xs → Hit bytesOf Fits m (firstWith test xs) (placeWith bytesOf test xs p)
+  unfolding firstWith placeWith
+  hits [] l = missed
+  hits (x ∷ xs) {p} l = go (test x) (hits xs (others-listed x xs l))
+    where
+      go : (b : Bool) → Hit bytesOf Fits m (firstWith test xs) (placeWith bytesOf test xs (p + length (bytesOf x)))
+          → Hit bytesOf Fits m (elim b [ true ↦ some x | false ↦ firstWith test xs ]) (pick b (At p) (placeWith bytesOf test xs (p + length (bytesOf x))))
+      go true h = hit (first-fits x xs (l .fits)) (first-stands x xs (l .stands)) (omega (arith, size-more x xs, l .short))
+      go false h = h
+
+-- whether there is one that passes
+pub any-first : {A : Type 0} (test : A → Bool) (xs : List A) → any test xs ≡ isSome (firstWith test xs)
+unfolding any firstWith isSome
+any-first test [] = refl
+any-first {A} test (x ∷ xs) = go (test x) (any-first test xs)
+  where
+    go : (b : Bool) → any test xs ≡ isSome (firstWith test xs) → (b || any test xs) ≡ isSome {A = A} (elim b [ true ↦ some x | false ↦ firstWith test xs ])
+    go true h = refl
+    go false h = h

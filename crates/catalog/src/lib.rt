@@ -1,0 +1,252 @@
+// The catalog in the lent output. An entry is made in the rest of the output, from the fill point on; entries and attributes are found
+// in what is written before it.
+ghost use mathlib.Core.Path.{_≡_};
+ghost use mathlib.Core.Bool.{_&&_};
+ghost use mathlib.Core.List.{List};
+ghost use Prim.Native.Nat.{_+_, _≤_};
+ghost use lib.Dec.{eqb};
+ghost use lib.ListN.{length};
+ghost use Rattle.labels.specs.Bytes.{labelBytes};
+ghost use Rattle.wire.specs.Bytes.{two};
+ghost use Rattle.wire.specs.Runs.{over};
+ghost use Rattle.rules.specs.State.{Attribute, Entry};
+ghost use Rattle.rules.specs.Evaluate.{any, isEntry, isAttribute};
+ghost use Rattle.rules.proofs.ReadBack.{FitsAttribute};
+ghost use Rattle.rules.specs.Catalog.{booleanByte, valueBytes, attributeBytes, attributesBytes};
+ghost use Rattle.catalog.specs.Making.{stored, attribute, entry, addAttribute, Holding, putEntry, clearedFrom};
+ghost use Rattle.catalog.specs.Finding.{Written, EntryAt, Listed, placeWith, entryPlace, attributePlace, Below, labelsAt, valueAt, contentAt, lookUp, foundIn};
+use labels::Labels;
+use values::Labelled;
+use values::Value;
+
+// What finishing an entry answers: its length, or that it does not fit.
+pub enum Finished {
+    Fits(usize),
+    TooLong,
+}
+
+// Where a search found something.
+pub enum Place {
+    At(usize),
+    Nothing,
+}
+
+// What reading an attribute finds.
+pub enum Found {
+    Content(Labelled),
+    Nothing,
+}
+
+// The bytes of an entry before its attributes: with so many it starts.
+pub const ENTRY_HEADER: usize = 39;
+
+// ---- Writing
+
+fn boolean_byte(b: bool) -> u8
+    ensures { λ r. ⌜ r ≡ booleanByte b ⌝ }
+{
+    if b { 1 } else { 0 }
+}
+
+fn value_size(v: Value) -> u16
+    ensures { λ r. ⌜ r ≡ length (valueBytes v) ⌝ }
+{
+    match v {
+        Value::Integer(_) => 11,
+        Value::String(_) => 5,
+        Value::Boolean(_) => 4,
+    }
+}
+
+fn put_value(rest: &mut [u8], at: usize, v: Value)
+    requires { ⌜ at ≤ 4294967400 ⌝ }
+    ensures { λ _. ⌜ now (rest .exit) ≡ over (now (rest .entry)) at (valueBytes v) ⌝ }
+{
+    match v {
+        Value::Integer(z) => {
+            wire::put_header(rest, at, 0x42, 8);
+            wire::put_signed(rest, at + 3, z);
+        }
+        Value::String(n) => {
+            wire::put_header(rest, at, 0x43, 2);
+            wire::put_two(rest, at + 3, n);
+        }
+        Value::Boolean(b) => {
+            wire::put_header(rest, at, 0x44, 1);
+            wire::put_byte(rest, at + 3, boolean_byte(b));
+        }
+    }
+}
+
+fn put_labels(rest: &mut [u8], at: usize, labels: Labels)
+    requires { ⌜ at + 32 ≤ length (now rest) ⌝ }
+    ensures { λ _. ⌜ now (rest .exit) ≡ over (now (rest .entry)) at (labelBytes labels) ⌝ }
+{
+    labels.to_slice(&mut rest[at..]);
+}
+
+// One more attribute after the `size` bytes of an entry in the making. If it does not fit, nothing is stored; the new size is told all the same.
+pub fn add_attribute(rest: &mut [u8], size: usize, name: u16, x: Labelled) -> usize
+    requires { ⌜ size ≤ 4294967296 ⌝ }
+    ensures { λ r. ⌜ stored r (now (rest .exit)) ≡ addAttribute (now (rest .entry)) size (attribute name x) ⌝ }
+{
+    let value = x.value;
+    let body = 34 + value_size(value);
+    let end = size + 3 + body as usize;
+    if rest.len() < end {
+        return end;
+    }
+    wire::put_header(rest, size, 0x41, body);
+    wire::put_two(rest, size + 3, name);
+    let labels = x.labels;
+    put_labels(rest, size + 5, labels);
+    put_value(rest, size + 37, value);
+    end
+}
+
+// Writes the header of an entry of `size` bytes in front of its attributes, unless the entry is longer than the rest or the room.
+pub fn finish_entry(
+    rest: &mut [u8],
+    size: usize,
+    room: usize,
+    kind: u16,
+    title: u16,
+    labels: Labels,
+) -> Finished
+    requires { ⌜ (39 ≤ size) × (room ≤ 65535) ⌝ }
+    ensures { λ r. ⌜ ((ats : List Attribute) → Holding (now (rest .entry)) size ats → stored r (now (rest .exit)) ≡ putEntry (now (rest .entry)) room (entry kind title labels ats)) ⌝ }
+{
+    if rest.len() < size {
+        return Finished::TooLong;
+    }
+    if room < size {
+        return Finished::TooLong;
+    }
+    wire::put_header(rest, 0, 0x40, (size - 3) as u16);
+    wire::put_two(rest, 3, kind);
+    wire::put_two(rest, 5, title);
+    put_labels(rest, 7, labels);
+    Finished::Fits(size)
+}
+
+// All bytes from `from` on become zero.
+pub fn clear_rest(out: &mut [u8], from: usize)
+    ensures { λ _. ⌜ now (out .exit) ≡ clearedFrom from (now (out .entry)) ⌝ }
+{
+    let end = out.len();
+    wire::clear(out, from, end);
+}
+
+// ---- Finding
+
+fn is_entry(out: &[u8], at: usize, kind: u16, title: u16) -> bool
+    requires { ⌜ at ≤ 65535 ⌝ }
+    ensures { λ r. ⌜ r ≡ (eqb (two (now (out .entry)) (at + 3)) kind && eqb (two (now (out .entry)) (at + 5)) title) ⌝ }
+{
+    if wire::two_at(out, at + 3) != kind {
+        return false;
+    }
+    wire::two_at(out, at + 5) == title
+}
+
+// The place of the first entry of this type and title. Whatever entries the bytes up to `fill` are, the answer is right for those.
+pub fn find_entry(out: &[u8], fill: usize, kind: u16, title: u16) -> Place
+    requires { ⌜ (fill ≤ 65535) × (fill ≤ length (now out)) ⌝ }
+    ensures { λ r. ⌜ ((es : List Entry) → Written (now (out .entry)) fill es → r ≡ entryPlace kind title es) × Below fill r ⌝ }
+{
+    let mut p: usize = 0;
+    while p < fill {
+        if is_entry(out, p, kind, title) {
+            return Place::At(p);
+        }
+        p = wire::end_of(out, p);
+    }
+    Place::Nothing
+}
+
+fn is_attribute(out: &[u8], at: usize, name: u16) -> bool
+    requires { ⌜ at ≤ 4294967296 ⌝ }
+    ensures { λ r. ⌜ r ≡ eqb (two (now (out .entry)) (at + 3)) name ⌝ }
+{
+    wire::two_at(out, at + 3) == name
+}
+
+// The place of the first attribute of this name among those between two places.
+fn attribute_between(out: &[u8], from: usize, end: usize, name: u16) -> Place
+    requires { ⌜ end ≤ 4294967295 ⌝ }
+    ensures { λ r. ⌜ ((ats : List Attribute) → Listed FitsAttribute attributesBytes (now (out .entry)) from end ats → r ≡ placeWith attributeBytes (isAttribute name) ats from) × Below end r ⌝ }
+{
+    let mut p = from;
+    while p < end {
+        if is_attribute(out, p, name) {
+            return Place::At(p);
+        }
+        p = wire::end_of(out, p);
+    }
+    Place::Nothing
+}
+
+// The place of the first attribute of this name in the entry at a place.
+pub fn find_attribute(out: &[u8], at: usize, name: u16) -> Place
+    requires { ⌜ at ≤ 65535 ⌝ }
+    ensures { λ r. ⌜ ((e : Entry) → EntryAt (now (out .entry)) at e → r ≡ attributePlace name e at) × Below (at + 65539) r ⌝ }
+{
+    let body = wire::length_at(out, at);
+    attribute_between(out, at + ENTRY_HEADER, at + 3 + body as usize, name)
+}
+
+fn labels_at(out: &[u8], at: usize) -> Labels
+    requires { ⌜ at ≤ 4294967400 ⌝ }
+    ensures { λ r. ⌜ r ≡ labelsAt (now (out .entry)) at ⌝ }
+{
+    if out.len() < at + 32 {
+        return Labels::EMPTY;
+    }
+    Labels::from_slice(&out[at..])
+}
+
+fn value_at(out: &[u8], at: usize) -> Value
+    requires { ⌜ at ≤ 4294967400 ⌝ }
+    ensures { λ r. ⌜ r ≡ valueAt (now (out .entry)) at ⌝ }
+{
+    match wire::byte_at(out, at) {
+        0x42 => Value::Integer(wire::signed_at(out, at + 3)),
+        0x43 => Value::String(wire::two_at(out, at + 3)),
+        _ => Value::Boolean(wire::byte_at(out, at + 3) == 1),
+    }
+}
+
+// What the attribute at a place holds.
+pub fn read_attribute(out: &[u8], at: usize) -> Labelled
+    requires { ⌜ at ≤ 4294967296 ⌝ }
+    ensures { λ r. ⌜ r ≡ contentAt (now (out .entry)) at ⌝ }
+{
+    let value = value_at(out, at + 37);
+    let labels = labels_at(out, at + 5);
+    Labelled { value, labels }
+}
+
+// What the catalog so far has under this type, title and attribute name.
+pub fn read(out: &[u8], fill: usize, kind: u16, title: u16, name: u16) -> Found
+    requires { ⌜ (fill ≤ 65535) × (fill ≤ length (now out)) ⌝ }
+    ensures { λ r. ⌜ ((es : List Entry) → Written (now (out .entry)) fill es → r ≡ foundIn (lookUp kind title name es)) ⌝ }
+{
+    let Place::At(entry) = find_entry(out, fill, kind, title) else {
+        return Found::Nothing;
+    };
+    let Place::At(at) = find_attribute(out, entry, name) else {
+        return Found::Nothing;
+    };
+    Found::Content(read_attribute(out, at))
+}
+
+// Whether the catalog so far has an entry of this type and title.
+pub fn has_entry(out: &[u8], fill: usize, kind: u16, title: u16) -> bool
+    requires { ⌜ (fill ≤ 65535) × (fill ≤ length (now out)) ⌝ }
+    ensures { λ r. ⌜ ((es : List Entry) → Written (now (out .entry)) fill es → r ≡ any (isEntry kind title) es) ⌝ }
+{
+    match find_entry(out, fill, kind, title) {
+        Place::At(_) => true,
+        Place::Nothing => false,
+    }
+}
