@@ -1,0 +1,78 @@
+//! The program made apart: device catalogs from a manifest, with label sets.
+//!
+//! It implements the scope paper (document 01) and our readings of it, and shares nothing with
+//! the compiler it is compared with. Plain Rust, edition 2021, the standard
+//! library only.
+//!
+//! Building, either way:
+//!
+//! ```text
+//! cargo build --release --offline                      # target/release/reference
+//! rustc -O --edition 2021 -o reference src/main.rs     # in this folder
+//! ```
+//!
+//! Testing, either way:
+//!
+//! ```text
+//! cargo test --offline
+//! rustc -O --edition 2021 --test -o reference-tests src/main.rs && ./reference-tests
+//! ```
+//!
+//! Running, by the first argument:
+//!
+//! ```text
+//! reference schedule < input        device, line feed, manifest in; the schedule out
+//! reference batch < cases           a case to a line in; an answer to a line out
+//! reference generate SEED COUNT     random cases in batch format
+//! reference histogram SEED COUNT    how often each outcome occurs among them
+//! reference time SEED COUNT         nanoseconds per compile of them
+//! reference named NAME              a special input in batch format
+//! reference named --list            the names of the special inputs
+//! reference time-named [NAME]       nanoseconds for one compile of a special input, or of each
+//! ```
+//!
+//! A case is a line of five parts with single spaces between them: device,
+//! limit, output length, memory length, manifest. Byte strings are hexadecimal,
+//! '-' for an empty one; numbers are decimal. Its answer is `ok STEPS HEX`,
+//! where HEX is the catalog, or `refused NUMBER PLACE`.
+//!
+//! The modules, from the bottom: `answer` (answers, the 23 reasons), `labels`,
+//! `tree` (the fields once read), `reader` (refusals 3, 4 and 5), `scopes`,
+//! `catalog`, `machine` (how a manifest runs), `compile` (the call), `schedule`
+//! (the printer). For tests and random cases: `assemble` (manifests from nested
+//! fields), `random`, `program`, `shapes`, `generate`, `special` (named inputs),
+//! `case` (batch lines), `modes` (what the arguments ask for).
+
+mod answer;
+mod assemble;
+mod case;
+mod catalog;
+mod compile;
+mod generate;
+mod labels;
+mod machine;
+mod modes;
+mod program;
+mod random;
+mod reader;
+mod schedule;
+mod scopes;
+mod shapes;
+mod special;
+mod tree;
+
+#[cfg(test)]
+mod tests;
+
+use std::process::ExitCode;
+
+fn main() -> ExitCode {
+    let arguments: Vec<String> = std::env::args().skip(1).collect();
+    match modes::run(&arguments) {
+        Ok(()) => ExitCode::SUCCESS,
+        Err(message) => {
+            eprintln!("reference: {message}");
+            ExitCode::FAILURE
+        }
+    }
+}

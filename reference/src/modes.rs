@@ -1,0 +1,204 @@
+//! What the program's arguments ask for.
+
+use crate::answer::Answer;
+use crate::case::{answer_line, Case};
+use crate::catalog;
+use crate::compile::compile;
+use crate::generate::cases;
+use crate::labels::Labels;
+use crate::schedule::schedule;
+use crate::special::{named, NAMED};
+use std::io::{self, BufRead, BufWriter, Read, Write};
+use std::time::{Duration, Instant};
+
+const USAGE: &str = "use: reference schedule | batch | generate SEED COUNT | histogram SEED COUNT | \
+                     time SEED COUNT | named NAME | named --list | time-named [NAME]";
+
+pub fn run(arguments: &[String]) -> Result<(), String> {
+    let words: Vec<&str> = arguments.iter().map(String::as_str).collect();
+    let done = match words[..] {
+        ["schedule"] => print_schedule(),
+        ["batch"] => return batch(),
+        ["generate", seed, count] => generate(number(seed)?, number(count)?),
+        ["histogram", seed, count] => return histogram(number(seed)?, number(count)?),
+        ["time", seed, count] => return time(number(seed)?, number(count)?),
+        ["named", "--list"] => list_names(),
+        ["named", name] => print_named(&find(name)?),
+        ["time-named"] => return NAMED.iter().try_for_each(|(name, _)| time_named(name)),
+        ["time-named", name] => return time_named(name),
+        _ => return Err(USAGE.to_string()),
+    };
+    done.map_err(broken)
+}
+
+fn number(word: &str) -> Result<u64, String> {
+    word.parse().map_err(|_| format!("no number: {word}"))
+}
+
+fn broken(error: io::Error) -> String {
+    error.to_string()
+}
+
+/// Writes a line; a reader that has gone away is an error, not a panic.
+fn say(line: String) -> Result<(), String> {
+    writeln!(io::stdout().lock(), "{line}").map_err(broken)
+}
+
+fn find(name: &str) -> Result<Case, String> {
+    named(name).ok_or_else(|| format!("no input of that name: {name}"))
+}
+
+fn print_schedule() -> io::Result<()> {
+    let mut input = Vec::new();
+    io::stdin().lock().read_to_end(&mut input)?;
+    io::stdout().lock().write_all(&schedule(&input))
+}
+
+/// Answers each line, checking the bytes lent on the way.
+fn batch() -> Result<(), String> {
+    let mut out = BufWriter::new(io::stdout().lock());
+    for (at, line) in io::stdin().lock().lines().enumerate() {
+        let line = line.map_err(broken)?;
+        let told = |message: String| format!("line {}: {message}", at + 1);
+        let (answer, catalog) = Case::from_line(&line)
+            .and_then(|case| case.compile())
+            .map_err(told)?;
+        writeln!(out, "{}", answer_line(&answer, &catalog)).map_err(broken)?;
+    }
+    out.flush().map_err(broken)
+}
+
+fn generate(seed: u64, count: u64) -> io::Result<()> {
+    let mut out = BufWriter::new(io::stdout().lock());
+    for case in cases(seed, count) {
+        writeln!(out, "{}", case.line())?;
+    }
+    out.flush()
+}
+
+fn list_names() -> io::Result<()> {
+    let mut out = io::stdout().lock();
+    for (name, _) in NAMED {
+        writeln!(out, "{name}")?;
+    }
+    Ok(())
+}
+
+fn print_named(case: &Case) -> io::Result<()> {
+    writeln!(io::stdout().lock(), "{}", case.line())
+}
+
+/// How often each outcome occurs, and what the accepted ones hold.
+#[derive(Default)]
+pub struct Tally {
+    pub accepted: u64,
+    /// By number; 0 is not used.
+    pub refused: [u64; 24],
+    pub with_entries: u64,
+    pub with_several_labels: u64,
+    entries: u64,
+    attributes: u64,
+    labels: u64,
+    steps: u64,
+}
+
+impl Tally {
+    pub fn of(seed: u64, count: u64) -> Result<Tally, String> {
+        let mut tally = Tally::default();
+        for case in cases(seed, count) {
+            let (answer, bytes) = case.compile()?;
+            tally.add(&answer, &bytes)?;
+        }
+        Ok(tally)
+    }
+
+    fn add(&mut self, answer: &Answer, bytes: &[u8]) -> Result<(), String> {
+        match answer {
+            Answer::Refused { number, .. } => self.refused[usize::from(*number).min(23)] += 1,
+            Answer::Catalog { steps, .. } => {
+                self.accepted += 1;
+                self.steps += u64::from(*steps);
+                let entries = catalog::entries(bytes).ok_or("the output is no catalog")?;
+                self.entries += entries.len() as u64;
+                let mut all = Labels::EMPTY;
+                for entry in &entries {
+                    self.attributes += entry.attributes.len() as u64;
+                    all.join(entry.labels);
+                    for (_, worth) in &entry.attributes {
+                        all.join(worth.labels);
+                    }
+                }
+                self.labels += u64::from(all.count());
+                self.with_entries += u64::from(!entries.is_empty());
+                self.with_several_labels += u64::from(all.count() > 2);
+            }
+        }
+        Ok(())
+    }
+}
+
+fn histogram(seed: u64, count: u64) -> Result<(), String> {
+    let tally = Tally::of(seed, count)?;
+    let share = |part: u64, whole: u64| 100.0 * part as f64 / whole.max(1) as f64;
+    let mean = |sum: u64| sum as f64 / tally.accepted.max(1) as f64;
+    say(format!(
+        "ok {} ({:.1}%)",
+        tally.accepted,
+        share(tally.accepted, count)
+    ))?;
+    for (number, times) in tally.refused.iter().enumerate().skip(1) {
+        say(format!("{number} {times} ({:.2}%)", share(*times, count)))?;
+    }
+    say("of those accepted:".to_string())?;
+    say(format!(
+        "  with entries {:.1}%",
+        share(tally.with_entries, tally.accepted)
+    ))?;
+    say(format!(
+        "  with three labels or more {:.1}%",
+        share(tally.with_several_labels, tally.accepted)
+    ))?;
+    say(format!("  mean entries {:.2}", mean(tally.entries)))?;
+    say(format!("  mean attributes {:.2}", mean(tally.attributes)))?;
+    say(format!("  mean different labels {:.2}", mean(tally.labels)))?;
+    say(format!("  mean steps {:.2}", mean(tally.steps)))?;
+    Ok(())
+}
+
+/// Compiles generated cases over and over for about two seconds.
+fn time(seed: u64, count: u64) -> Result<(), String> {
+    let all: Vec<Case> = cases(seed, count).collect();
+    let longest = |length: fn(&Case) -> usize| all.iter().map(length).max().unwrap_or(0);
+    let mut out = vec![0; longest(|case| case.output)];
+    let mut work = vec![0; longest(|case| case.memory)];
+    let started = Instant::now();
+    let mut compiled = 0u64;
+    while !all.is_empty() && (compiled == 0 || started.elapsed() < Duration::from_secs(2)) {
+        for case in &all {
+            let (out, work) = (&mut out[..case.output], &mut work[..case.memory]);
+            std::hint::black_box(compile(&case.manifest, &case.device, case.limit, out, work));
+            compiled += 1;
+        }
+    }
+    let nanoseconds = started.elapsed().as_nanos() / u128::from(compiled.max(1));
+    let bytes: usize = all.iter().map(|case| case.manifest.len()).sum();
+    say(format!(
+        "{nanoseconds} nanoseconds per compile ({compiled} compiles)"
+    ))?;
+    say(format!("mean manifest {} bytes", bytes / all.len().max(1)))?;
+    Ok(())
+}
+
+fn time_named(name: &str) -> Result<(), String> {
+    let case = find(name)?;
+    let mut out = vec![0; case.output];
+    let mut work = vec![0; case.memory];
+    let started = Instant::now();
+    let answer = compile(&case.manifest, &case.device, case.limit, &mut out, &mut work);
+    let nanoseconds = started.elapsed().as_nanos();
+    say(format!(
+        "{name}: {nanoseconds} nanoseconds, manifest {} bytes, {answer:?}",
+        case.manifest.len()
+    ))?;
+    Ok(())
+}
