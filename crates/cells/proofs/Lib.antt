@@ -1,0 +1,14 @@
+pub mod Runs
+pub mod Tables
+pub mod Values
+pub mod Ranges
+pub mod Slots
+pub mod Search
+pub mod Scopes
+pub mod Cells
+pub mod Regions
+pub mod Keep
+pub mod Ways
+pub mod SlotReads
+pub mod Free
+pub mod Marks

@@ -1,0 +1,267 @@
+-- One law for each way through `assign`, `join_mark` and `read_cell`.
+use mathlib.Core.Path.{_≡_, refl, sym, ap, _∙_}
+use mathlib.Core.Bool.{Bool, true, false, not, _&&_}
+use mathlib.Core.List.{List}
+use mathlib.Core.Option.{Option, some}
+use Prim.Native.Nat.{ℕ, _+_, _≤_, _<_}
+use native.Mathlib.Omega.{arith}
+use lib.Dec.{eqb}
+use borrow.Author.Tests.{eqb-true, ne-eqb, lt-ltb, le-ltb}
+use Rattle.labels.specs.declared.Labels.{Labels}
+use Rattle.labels.specs.Sets.{noLabels, _∪_}
+use Rattle.values.specs.declared.Labelled.{Labelled}
+use Rattle.values.specs.declared.Reason.the-variants.{AssignedAgain, CellLimit}
+use Rattle.wire.specs.Bytes.{pick, byte}
+use Rattle.rules.specs.Outcome.{Outcome, refused, done, _>>=_, refuseIf}
+use Rattle.rules.specs.State.{Scope, sameScope, Cell, noCell, valueInto, markInto, Entry, State, cellsFor, isSome, oneIf, assign}
+use Rattle.cells.specs.declared.Found.{Found}
+use Rattle.cells.specs.declared.Found.the-variants.{At, Nothing}
+use Rattle.cells.specs.declared.Stored.{Stored}
+use Rattle.cells.specs.declared.Stored.the-variants.{Done, HasValue, NoRoom}
+use Rattle.cells.specs.declared.Held.{Held}
+use Rattle.cells.specs.declared.Held.the-variants.{Empty}
+use Rattle.cells.specs.declared.Seen.{Seen}
+use Rattle.cells.specs.Layout.{bodyAt, Slot, slot, slotAt, slotsOf, afterSlots, setAt, trailOf, putAt}
+use Rattle.cells.specs.Scopes.{scopeOf}
+use Rattle.cells.specs.Slots.{StoresAt, kindOf, hit, inUse, valueIn, markIn, cellIn, filled, marked, slotFor, freeSlot, obtained, obtain}
+use Rattle.cells.specs.Memory.{cellAt, cellsIn, usedIn, cellsOf, usedOf, classesOf, stateOf, outcome, Answers, markedOne, markOne, heldOf, seenOf}
+use Rattle.cells.proofs.Values.{Ranged, value-back, kind-value}
+use Rattle.cells.proofs.Slots.{slot-in}
+use Rattle.cells.proofs.Search.{was-found}
+use Rattle.cells.proofs.Scopes.{cell-at, by-number}
+use Rattle.cells.proofs.Cells.{Keeps, Ready, used-small, Came, came, after-same, ready, full, none-changed, value-kept}
+use Rattle.cells.proofs.Keep.{fine-keeps, fine-came}
+use Rattle.cells.proofs.Regions.{trail-after, records-after, rest-after, names-by, classes-by, cells-by, used-by}
+
+-- ---- The definition's operations, case by case
+
+module _ (p : ℕ) (s : Scope) (n : ℕ) (st : State) where
+  abbrev more : ℕ
+  more = oneIf (not (st .cells s n .exists))
+
+  assign-no-room : (x : Labelled) → st .cells s n ≡ noCell → st .used ≡ 512 → assign p s n x st ≡ refused CellLimit p
+  unfolding assign cellsFor isSome oneIf _>>=_ refuseIf noCell
+  assign-no-room x e u = rw (e, u) refl
+
+  assign-again : (x : Labelled) → isSome (st .cells s n .value) ≡ true → assign p s n x st ≡ refused AssignedAgain p
+  unfolding assign _>>=_ refuseIf
+  assign-again x e = rw e
+
+  assign-fits : (x : Labelled) → isSome (st .cells s n .value) ≡ false → st .used + more ≤ 512 → assign p s n x st ≡ done (record {
+    cells = λ t m. valueInto (sameScope t s && eqb m n) x (st .cells t m);
+    used = st .used + more;
+    classes = st .classes;
+    trail = st .trail;
+    entries = st .entries;
+    stepsLeft = st .stepsLeft;
+    room = st .room;
+  })
+  unfolding assign cellsFor _>>=_ refuseIf
+  assign-fits x e u = rw (e, le-ltb 512 (st .used + more) u)
+
+  mark-no-room : (k : Labels) → st .cells s n ≡ noCell → st .used ≡ 512 → markOne p s n k st ≡ refused CellLimit p
+  unfolding markOne cellsFor oneIf _>>=_ refuseIf noCell
+  mark-no-room k e u = rw (e, u) refl
+
+  pub mark-fits : (k : Labels) → st .used + more ≤ 512 → markOne p s n k st ≡ done (markedOne s n k st)
+  unfolding markOne cellsFor _>>=_ refuseIf
+  mark-fits k u = rw (le-ltb 512 (st .used + more) u)
+
+-- ---- Slots
+
+has-value : (w : List ℕ) (i : ℕ) → i < 512 → 1 < byte w i → isSome (valueIn (slotsOf w i)) ≡ true
+unfolding valueIn slotAt isSome
+has-value w i below h = rw (slot-in w i below, lt-ltb 1 (byte w i) h) refl
+
+no-value : (w : List ℕ) (i : ℕ) → i < 512 → byte w i ≤ 1 → isSome (valueIn (slotsOf w i)) ≡ false
+unfolding valueIn slotAt isSome
+no-value w i below h = rw (slot-in w i below, le-ltb 1 (byte w i) h) refl
+
+mark-read : (w : List ℕ) (i : ℕ) → i < 512 → setAt w (bodyAt i + 40) ≡ markIn (slotsOf w i)
+unfolding markIn slotAt
+mark-read w i below = rw (slot-in w i below) refl
+
+abbrev cellWith : Option Labelled → Labels → Cell
+cellWith v m = record { exists = true; value = v; mark = m }
+
+filled-keeps : (x : Labelled) (y : Slot) → inUse y ≡ true → Keeps (filled x y) y
+unfolding hit filled inUse
+filled-keeps x (slot t s n p a m) u s′ n′ = simp (u, ne-eqb (kindOf (x .value)) 0 (λ e. omega (arith, kind-value (x .value))))
+
+filled-cell : (x : Labelled) (y : Slot) → Ranged (x .value) → _≡_ {A = Cell} (cellIn (filled x y)) (cellWith (some x) (markIn y))
+unfolding filled inUse valueIn markIn
+filled-cell x (slot t s n p a m) h =
+    let v = x .value in
+    rw (ne-eqb (kindOf v) 0 (λ e. omega (arith, kind-value v)), lt-ltb 1 (kindOf v) (kind-value v), value-back v h) refl
+
+marked-keeps : (k : Labels) (y : Slot) → Keeps (marked k y) y
+unfolding hit marked
+marked-keeps k (slot t s n p a m) s′ n′ = refl
+
+marked-cell : (k : Labels) (y : Slot) → _≡_ {A = Cell} (cellIn (marked k y)) (record { exists = inUse y; value = valueIn y; mark = k })
+unfolding marked inUse valueIn markIn
+marked-cell k (slot t s n p a m) = refl
+
+-- one cell becomes y, by a change that leaves the others
+into : (c : ℕ → ℕ → Cell) (s n : ℕ) (y : Cell) (g : Bool → Cell → Cell) → ((z : Cell) → g false z ≡ z) → y ≡ g true (c s n) → (s′ m : ℕ)
+    → pick (eqb s′ s && eqb m n) y (c s′ m) ≡ g (eqb s′ s && eqb m n) (c s′ m)
+into c s n y g keeps e s′ m = go (eqb s′ s) refl (eqb m n) refl
+  where
+    go : (a : Bool) → eqb s′ s ≡ a → (b : Bool) → eqb m n ≡ b → pick (a && b) y (c s′ m) ≡ g (a && b) (c s′ m)
+    go true p true q = rw (eqb-true s′ s p, eqb-true m n q) e
+    go true p false q = sym (keeps (c s′ m))
+    go false p b q = sym (keeps (c s′ m))
+
+-- ---- The ways
+
+module _ (w w′ : List ℕ) (s n : ℕ) {q : Found} (e : obtained q (slotsOf w′) (afterSlots w′) ≡ obtain (slotsOf w) (afterSlots w) s n) (small : n < 1024) where
+  obtained-by : Came (slotsOf w) (afterSlots w) s n q (slotsOf w′) (afterSlots w′)
+  obtained-by = came (slotsOf w) (afterSlots w) s n e
+
+  same-after : afterSlots w′ ≡ afterSlots w
+  same-after = after-same (slotsOf w) (afterSlots w) s n obtained-by
+
+  pub ready-at : (i : ℕ) → q ≡ At i → Ready (slotsOf w) s n i (slotsOf w′)
+  ready-at i at = ready (slotsOf w) (afterSlots w) s n i obtained-by at
+
+  cell-is : cellsOf w (scopeOf s) n ≡ cellsIn (slotsOf w) s n
+  unfolding cellsOf
+  cell-is = cell-at (cellsIn (slotsOf w)) s n
+
+  -- a refusal: no slot was changed, so the state stays
+  refused-by : (answer : Stored) (run : ℕ → State → Outcome State) → slotsOf w′ ≡ slotsOf w
+      → ((p : ℕ) (es : List Entry) (k r : ℕ) → run p (stateOf w es k r) ≡ outcome answer p (stateOf w′ es k r)) → Answers w w′ answer run
+  unfolding stateOf
+  refused-by answer run slots refusal = record {
+    state = λ p es k r. sym (refusal p es k r);
+    stays = λ _ es k r. rw (cells-by w w′ slots, used-by w w′ slots, classes-by w w′ (records-after w w′ same-after), trail-after w w′ same-after) refl;
+    names = names-by w w′ (records-after w w′ same-after);
+    rest = rest-after w w′ same-after;
+    fine = fine-came (slotsOf w) (afterSlots w) s n small obtained-by;
+  }
+
+  no-slot : q ≡ Nothing → (cellsOf w (scopeOf s) n ≡ noCell) × (usedOf w ≡ 512)
+  unfolding usedOf
+  no-slot at = let f = full (slotsOf w) (afterSlots w) s n obtained-by at in (cell-is ∙ f .0, f .1)
+
+  pub assign-full : (x : Labelled) → q ≡ Nothing → Answers w w′ NoRoom (λ p. assign p (scopeOf s) n x)
+  unfolding outcome stateOf
+  assign-full x at =
+      refused-by NoRoom (λ p. assign p (scopeOf s) n x) (none-changed (slotsOf w) (afterSlots w) s n obtained-by at)
+      (λ p es k r. assign-no-room p (scopeOf s) n (stateOf w es k r) x (no-slot at .0) (no-slot at .1))
+
+  pub mark-full : (k : Labels) → q ≡ Nothing → Answers w w′ NoRoom (λ p. markOne p (scopeOf s) n k)
+  unfolding outcome stateOf
+  mark-full l at =
+      refused-by NoRoom (λ p. markOne p (scopeOf s) n l) (none-changed (slotsOf w) (afterSlots w) s n obtained-by at)
+      (λ p es k r. mark-no-room p (scopeOf s) n (stateOf w es k r) l (no-slot at .0) (no-slot at .1))
+
+  pub assign-has : (x : Labelled) (i : ℕ) → q ≡ At i → {t : ℕ} → t ≡ byte w′ i → 1 < t → Answers w w′ HasValue (λ p. assign p (scopeOf s) n x)
+  unfolding outcome stateOf
+  assign-has x i at et h =
+      let o = ready-at i at in
+      let there : isSome (cellsIn (slotsOf w) s n .value) ≡ true = rw (sym (o .value)) (has-value w′ i (o .below) (omega arith)) in
+      refused-by HasValue (λ p. assign p (scopeOf s) n x) (value-kept (slotsOf w) (afterSlots w) s n obtained-by there)
+      (λ p es k r. assign-again p (scopeOf s) n (stateOf w es k r) x (ap (λ (c : Cell). isSome (c .value)) cell-is ∙ there))
+
+  -- a store at the slot
+  module _ (i : ℕ) (at : q ≡ At i) (x : Slot) (w″ : List ℕ) (keeps : Keeps x (slotsOf w′ i)) (c : (slotsOf w″ ≡ putAt i x (slotsOf w′)) × (afterSlots w″ ≡ afterSlots w′)) where
+    cells-changed : (g : Bool → Cell → Cell) → ((z : Cell) → g false z ≡ z) → cellIn x ≡ g true (cellsIn (slotsOf w) s n)
+        → cellsOf w″ ≡ λ t m. g (sameScope t (scopeOf s) && eqb m n) (cellsOf w t m)
+    unfolding cellsOf
+    cells-changed g none-else own =
+        by-number s (cellsIn (slotsOf w)) (cellsIn (slotsOf w″)) (λ b m z. g (b && eqb m n) z) (λ m z. none-else z)
+        (λ s′ m. ap (λ (f : ℕ → Slot). cellsIn f s′ m) (c .0) ∙ ready-at i at .cells x keeps s′ m ∙ into (cellsIn (slotsOf w)) s n (cellIn x) g none-else own s′ m)
+
+    used-changed : usedOf w″ ≡ usedOf w + oneIf (not (cellsOf w (scopeOf s) n .exists))
+    unfolding usedOf
+    used-changed = ap usedIn (c .0) ∙ ready-at i at .count x keeps ∙ rw cell-is refl
+
+    room-left : usedOf w + oneIf (not (cellsOf w (scopeOf s) n .exists)) ≤ 512
+    unfolding usedOf
+    room-left = rw cell-is (ready-at i at .room)
+
+    all-after : afterSlots w″ ≡ afterSlots w
+    all-after = c .1 ∙ same-after
+
+    -- the state after a change of one cell
+    abbrev after : (Bool → Cell → Cell) → List Entry → ℕ → ℕ → State
+    after g es k r = record {
+      cells = λ t m. g (sameScope t (scopeOf s) && eqb m n) (cellsOf w t m);
+      used = usedOf w + oneIf (not (cellsOf w (scopeOf s) n .exists));
+      classes = classesOf w;
+      trail = trailOf w;
+      entries = es;
+      stepsLeft = k;
+      room = r;
+    }
+
+    state-changed : (g : Bool → Cell → Cell) → ((z : Cell) → g false z ≡ z) → cellIn x ≡ g true (cellsIn (slotsOf w) s n) → (es : List Entry) (k r : ℕ) → stateOf w″ es k r ≡ after g es k r
+    unfolding stateOf
+    state-changed g none-else own es k r =
+        rw (cells-changed g none-else own, used-changed, classes-by w w″ (records-after w w″ all-after), trail-after w w″ all-after) refl
+
+    stored-by : (run : ℕ → State → Outcome State) (g : Bool → Cell → Cell) → ((z : Cell) → g false z ≡ z) → cellIn x ≡ g true (cellsIn (slotsOf w) s n)
+        → ((p : ℕ) (es : List Entry) (k r : ℕ) → run p (stateOf w es k r) ≡ done (after g es k r)) → Answers w w″ Done run
+    unfolding outcome
+    stored-by run g none-else own ran = record {
+      state = λ p es k r. ap done (state-changed g none-else own es k r) ∙ sym (ran p es k r);
+      stays = λ other. absurd (other refl);
+      names = names-by w w″ (records-after w w″ all-after);
+      rest = rest-after w w″ all-after;
+      fine = λ f. rw (c .0) (fine-keeps (slotsOf w′) i x keeps (fine-came (slotsOf w) (afterSlots w) s n small obtained-by f));
+    }
+
+  pub assign-done : (x : Labelled) (i : ℕ) (w″ : List ℕ) → Ranged (x .value) → q ≡ At i → {t : ℕ} → t ≡ byte w′ i → t ≤ 1
+      → StoresAt i (filled x) w′ w″ → Answers w w″ Done (λ p. assign p (scopeOf s) n x)
+  unfolding stateOf valueInto
+  assign-done x i w″ range at et h c =
+      let o = ready-at i at in
+      let y : Slot = filled x (slotsOf w′ i) in
+      let keeps : Keeps y (slotsOf w′ i) = filled-keeps x (slotsOf w′ i) (o .used) in
+      let none-there : isSome (cellsOf w (scopeOf s) n .value) ≡ false = rw (cell-is, sym (o .value)) (no-value w′ i (o .below) (omega arith)) in
+      stored-by i at y w″ keeps c (λ p. assign p (scopeOf s) n x) (λ b z. valueInto b x z) (λ z. refl) (filled-cell x (slotsOf w′ i) range ∙ ap (cellWith (some x)) (o .mark))
+      (λ p es k r. assign-fits p (scopeOf s) n (stateOf w es k r) x none-there (room-left i at y w″ keeps c))
+
+  pub mark-done : (l : Labels) (i : ℕ) (w″ : List ℕ) {m u : Labels} → q ≡ At i → m ≡ setAt w′ (bodyAt i + 40) → u ≡ l ∪ m
+      → StoresAt i (marked u) w′ w″ → Answers w w″ Done (λ p. markOne p (scopeOf s) n l)
+  unfolding stateOf markedOne markInto
+  mark-done l i w″ {m} {u} at em eu c =
+      let o = ready-at i at in
+      let y : Slot = marked u (slotsOf w′ i) in
+      let keeps : Keeps y (slotsOf w′ i) = marked-keeps u (slotsOf w′ i) in
+      let joined : u ≡ l ∪ cellsIn (slotsOf w) s n .mark = eu ∙ ap (λ (k : Labels). l ∪ k) (em ∙ mark-read w′ i (o .below) ∙ o .mark) in
+      stored-by i at y w″ keeps c (λ p. markOne p (scopeOf s) n l) (λ b z. markInto b l z) (λ z. refl) (marked-cell u (slotsOf w′ i) ∙ rw (o .used, o .value, joined) refl)
+      (λ p es k r. mark-fits p (scopeOf s) n (stateOf w es k r) l (room-left i at y w″ keeps c))
+
+-- ---- Reads of a cell
+
+pub in-slots : (f : ℕ → Slot) (s n i : ℕ) {q : Found} → q ≡ slotFor f s n → q ≡ At i → i < 512
+unfolding slotFor
+in-slots f s n i e p = was-found 512 0 (λ k. hit s n (f k)) i (sym e ∙ p) .below
+
+pub free-in-slots : (f : ℕ → Slot) (i : ℕ) {q : Found} → q ≡ freeSlot f → q ≡ At i → i < 512
+unfolding freeSlot
+free-in-slots f i e p = was-found 512 0 (λ k. not (inUse (f k))) i (sym e ∙ p) .below
+
+abbrev seenWith : Held → Labels → Seen
+seenWith h m = record { held = h; mark = m }
+
+pub read-some : (w : List ℕ) (s n i : ℕ) {q : Found} {h : Held} {m : Labels} → q ≡ slotFor (slotsOf w) s n → q ≡ At i → h ≡ heldOf (valueIn (slotsOf w i))
+    → m ≡ setAt w (bodyAt i + 40) → _≡_ {A = Seen} (seenWith h m) (seenOf (cellsOf w (scopeOf s) n))
+unfolding seenOf cellsOf cellsIn cellAt
+read-some w s n i {q} {h} {m} e p eh em =
+    let found : slotFor (slotsOf w) s n ≡ At i = sym e ∙ p in
+    let mark : m ≡ markIn (slotsOf w i) = em ∙ mark-read w i (in-slots (slotsOf w) s n i e p) in
+    rw (cell-at (cellsIn (slotsOf w)) s n, found, eh, mark) refl
+
+pub read-none : (w : List ℕ) (s n : ℕ) {q : Found} → q ≡ slotFor (slotsOf w) s n → q ≡ Nothing → _≡_ {A = Seen} (seenWith Empty noLabels) (seenOf (cellsOf w (scopeOf s) n))
+unfolding seenOf cellsOf cellsIn cellAt noCell heldOf
+read-none w s n {q} e p =
+    let found : slotFor (slotsOf w) s n ≡ Nothing = sym e ∙ p in
+    rw (cell-at (cellsIn (slotsOf w)) s n, found) refl
+
+-- a memory has at most 512 cells
+pub used-limit : (w : List ℕ) → usedOf w ≤ 512
+unfolding usedOf
+used-limit w = used-small (slotsOf w)

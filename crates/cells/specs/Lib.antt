@@ -1,0 +1,4 @@
+pub mod Layout
+pub mod Scopes
+pub mod Slots
+pub mod Memory

@@ -1,0 +1,114 @@
+-- Slots: what one holds, what a store makes of it, and searches among the 512.
+use Prim.Native.Nat.{ℕ, zero, suc, _%_, _<_}
+use mathlib.Core.Path.{_≡_}
+use mathlib.Core.Bool.{Bool, true, false, not}
+use mathlib.Core.List.{List}
+use mathlib.Core.Option.{Option, none, some}
+use lib.Dec.{eqb, ltb}
+use Rattle.labels.specs.declared.Labels.{Labels}
+use Rattle.labels.specs.Sets.{noLabels}
+use Rattle.values.specs.declared.Value.{Value}
+use Rattle.values.specs.declared.Value.the-variants.{Integer, String, Boolean}
+use Rattle.values.specs.declared.Labelled.{Labelled}
+use Rattle.wire.specs.Bytes.{pick}
+use Rattle.wire.specs.Numbers.{signed64, word64}
+use Rattle.rules.specs.State.{Cell, oneIf}
+use Rattle.cells.specs.declared.Found.{Found}
+use Rattle.cells.specs.declared.Found.the-variants.{At, Nothing}
+use Rattle.cells.specs.Layout.{Slot, slot, slotsOf, afterSlots, putAt}
+
+-- ---- Values
+
+-- the state of a slot that holds a value, and its payload
+unfoldable pub kindOf : Value → ℕ
+kindOf (Integer z) = 2
+kindOf (String n) = 3
+kindOf (Boolean b) = 4
+
+unfoldable pub payloadOf : Value → ℕ
+payloadOf (Integer z) = word64 z
+payloadOf (String n) = n
+payloadOf (Boolean b) = oneIf b
+
+unfoldable pub valueFrom : (state payload : ℕ) → Value
+valueFrom t p = pick (eqb t 2) (Integer (signed64 p)) (pick (eqb t 3) (String (p % 65536)) (Boolean (eqb p 1)))
+
+-- ---- What a slot holds
+
+unfoldable pub inUse : Slot → Bool
+inUse (slot t s n p a m) = not (eqb t 0)
+
+-- in use for this scope number and name; in use for this scope number
+unfoldable pub hit : (scope name : ℕ) → Slot → Bool
+hit s n (slot t s′ n′ p a m) = pick (eqb s′ s) (pick (eqb n′ n) (not (eqb t 0)) false) false
+
+unfoldable pub ofScope : (scope : ℕ) → Slot → Bool
+ofScope s (slot t s′ n p a m) = pick (eqb s′ s) (not (eqb t 0)) false
+
+abbrev pub labelled : Value → Labels → Labelled
+labelled v a = record { value = v; labels = a }
+
+unfoldable pub valueIn : Slot → Option Labelled
+valueIn (slot t s n p a m) = pick (ltb 1 t) (some (labelled (valueFrom t p) a)) none
+
+unfoldable pub markIn : Slot → Labels
+markIn (slot t s n p a m) = m
+
+abbrev pub cellIn : Slot → Cell
+cellIn x = record { exists = inUse x; value = valueIn x; mark = markIn x }
+
+-- ---- What the stores make of a slot
+
+unfoldable pub claimed : (scope name : ℕ) → Slot → Slot
+claimed s n (slot t s′ n′ p a m) = slot 1 s n p a noLabels
+
+unfoldable pub filled : Labelled → Slot → Slot
+filled x (slot t s n p a m) = slot (kindOf (x .value)) s n (payloadOf (x .value)) (x .labels) m
+
+unfoldable pub marked : Labels → Slot → Slot
+marked k (slot t s n p a m) = slot t s n p a k
+
+unfoldable pub emptied : Slot → Slot
+emptied (slot t s n p a m) = slot 0 s n p a m
+
+unfoldable pub freedSlot : (scope : ℕ) → Slot → Slot
+freedSlot s x = pick (ofScope s x) (emptied x) x
+
+-- slot i goes by g; no other slot changes, and nothing after the slots
+abbrev pub StoresAt : ℕ → (Slot → Slot) → (before after : List ℕ) → Type 0
+StoresAt i g w w′ = (slotsOf w′ ≡ putAt i (g (slotsOf w i)) (slotsOf w)) × (afterSlots w′ ≡ afterSlots w)
+
+-- ---- Searches
+
+-- the first of k numbers from i on that passes a test
+unfoldable pub firstFrom : ℕ → ℕ → (ℕ → Bool) → Found
+firstFrom zero i h = Nothing
+firstFrom (suc k) i h = pick (h i) (At i) (firstFrom k (suc i) h)
+
+-- "first match in slot order"
+unfoldable pub slotFor : (ℕ → Slot) → (scope name : ℕ) → Found
+slotFor f s n = firstFrom 512 0 (λ i. hit s n (f i))
+
+unfoldable pub freeSlot : (ℕ → Slot) → Found
+freeSlot f = firstFrom 512 0 (λ i. not (inUse (f i)))
+
+-- a slot for a key, made if there is none
+pub data Obtained : Type 0 where
+  obtained : Found → (ℕ → Slot) → (after : List ℕ) → Obtained
+
+unfoldable pub claimFirst : (ℕ → Slot) → List ℕ → (scope name : ℕ) → Found → Obtained
+claimFirst f r s n (At i) = obtained (At i) (putAt i (claimed s n (f i)) f) r
+claimFirst f r s n Nothing = obtained Nothing f r
+
+unfoldable pub obtainFrom : (ℕ → Slot) → List ℕ → (scope name : ℕ) → Found → Obtained
+obtainFrom f r s n (At i) = obtained (At i) f r
+obtainFrom f r s n Nothing = claimFirst f r s n (freeSlot f)
+
+unfoldable pub obtain : (ℕ → Slot) → List ℕ → (scope name : ℕ) → Obtained
+obtain f r s n = obtainFrom f r s n (slotFor f s n)
+
+-- ---- The invariant, which freeing a scope requires: no key twice, and every name below 1,024
+
+pub record FineSlots (f : ℕ → Slot) : Type 0 where
+  pub once : (i j s n : ℕ) → i < 512 → j < 512 → hit s n (f i) ≡ true → hit s n (f j) ≡ true → i ≡ j
+  pub small : (i s n : ℕ) → hit s n (f i) ≡ true → n < 1024

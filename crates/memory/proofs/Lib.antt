@@ -1,0 +1,4 @@
+pub mod Records
+pub mod Trails
+pub mod Classes
+pub mod Start

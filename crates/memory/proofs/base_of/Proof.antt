@@ -1,0 +1,23 @@
+-- `base_of`: a field of a record read.
+use native.Mathlib.Omega.{arith}
+use Rattle.memory.proofs.Classes.{base-read}
+use Rattle.memory.proofs.base_of.Statement.{statement}
+use Rattle.memory.proofs.base_of.Tie as tie
+
+mul-byte-at : tie.Need-mul-byte-at
+mul-byte-at c = omega arith
+
+add-byte-at : tie.Need-add-byte-at
+add-byte-at c = omega arith
+
+add-byte-at-2 : tie.Need-add-byte-at-2
+add-byte-at-2 c = omega arith
+
+byte-at-requires : tie.Need-byte-at-requires
+byte-at-requires c κs = tt
+
+returns : tie.Need-returns
+returns c = base-read _ _ (c .before .before .pre .1) (c .byte-at .ensures)
+
+pub base-of-spec : {M : Type 1} → statement M
+base-of-spec = tie.close (tie.spec mul-byte-at add-byte-at add-byte-at-2 byte-at-requires returns)

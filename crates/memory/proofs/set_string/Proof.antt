@@ -1,0 +1,26 @@
+-- `set_string`: a field of a record stored.
+use native.Mathlib.Omega.{arith}
+use borrow.Author.Needs.{needs}
+use Rattle.memory.proofs.Records.{string-way}
+use Rattle.memory.proofs.set_string.Statement.{statement}
+use Rattle.memory.proofs.set_string.Tie as tie
+
+mul-put-two : tie.Need-mul-put-two
+mul-put-two c = omega arith
+
+add-put-two : tie.Need-add-put-two
+add-put-two c = omega arith
+
+put-two-requires : tie.Need-put-two-requires
+put-two-requires c κs = tt
+
+same-length : tie.Need-same-length
+same-length c = search needs
+
+returns : tie.Need-returns
+returns c =
+    let start = c .before .before .before .before .before in
+    string-way _ _ (start .pre .0) (start .pre .1) _ _ (omega arith) (c .before .before .put-two .ensures)
+
+pub set-string-spec : {M : Type 1} → statement M
+set-string-spec = tie.close (tie.spec mul-put-two add-put-two put-two-requires same-length returns)

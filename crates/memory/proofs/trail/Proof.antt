@@ -1,0 +1,15 @@
+-- `trail`: a set read.
+use native.Mathlib.Omega.{arith}
+use Rattle.cells.specs.Layout.{trailOf}
+use Rattle.memory.proofs.trail.Statement.{statement}
+use Rattle.memory.proofs.trail.Tie as tie
+
+labels-at-requires : tie.Need-labels-at-requires
+labels-at-requires c κs = omega arith
+
+returns : tie.Need-returns
+unfolding trailOf
+returns c = c .labels-at .ensures
+
+pub trail-spec : {M : Type 1} → statement M
+trail-spec = tie.close (tie.spec labels-at-requires returns)

@@ -1,0 +1,45 @@
+-- What the functions on names change, and what they tell of a class.
+use Prim.Native.Nat.{ℕ}
+use mathlib.Core.Bool.{Bool, true, false}
+use mathlib.Core.Option.{Option, none, some}
+use Rattle.rules.specs.State.{Scope, Base, topBase, nodeBase, DeclaredClass}
+use Rattle.cells.specs.Layout.{putAt}
+use Rattle.cells.specs.Scopes.{scopeOf}
+use Rattle.cells.specs.Memory.{baseFor, Names}
+use Rattle.memory.specs.declared.Above.{Above}
+use Rattle.memory.specs.declared.Above.the-variants.{At, Nothing}
+
+unfoldable pub withString : (name place : ℕ) → Names → Names
+withString k v ns = record { strings = putAt k v (ns .strings); definitions = ns .definitions; builtIns = ns .builtIns }
+
+unfoldable pub withDefinition : (name place : ℕ) → Names → Names
+withDefinition k v ns = record { strings = ns .strings; definitions = putAt k v (ns .definitions); builtIns = ns .builtIns }
+
+unfoldable pub withBuiltIn : (name : ℕ) → Bool → Names → Names
+withBuiltIn k v ns = record { strings = ns .strings; definitions = ns .definitions; builtIns = putAt k v (ns .builtIns) }
+
+-- the state of a class that is declared: 1 with base top, 2 with base node
+unfoldable pub classState : (baseIsNode : Bool) → ℕ
+classState true = 2
+classState false = 1
+
+-- no string, no definition, no built-in type
+unfoldable pub noNames : Names
+noNames = record { strings = λ k. 0; definitions = λ k. 0; builtIns = λ k. false }
+
+abbrev pub placed : (parent : ℕ) → (baseIsNode : Bool) → DeclaredClass
+placed q b = record { parent = scopeOf q; base = baseFor b }
+
+-- the scope that an answer names by its number
+unfoldable pub scopeAbove : Above → Option Scope
+scopeAbove (At q) = some (scopeOf q)
+scopeAbove Nothing = none
+
+unfoldable pub isNode : Base → Bool
+isNode topBase = false
+isNode nodeBase = true
+
+-- whether a class is declared with base node
+unfoldable pub atNode : Option DeclaredClass → Bool
+atNode none = false
+atNode (some d) = isNode (d .base)

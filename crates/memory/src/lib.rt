@@ -1,0 +1,151 @@
+// The trail and the names in the working memory, and clearing it. The layout, and the state that the bytes stand for, are in the crate `cells`.
+ghost use mathlib.Core.Path.{_≡_};
+ghost use mathlib.Core.List.{List};
+ghost use Prim.Native.Nat.{ℕ, _≤_, _<_};
+ghost use lib.ListN.{length};
+ghost use Rattle.wire.specs.Runs.{zeros};
+ghost use Rattle.rules.specs.State.{Entry, oneIf, parentOf, isDeclared, declared};
+ghost use Rattle.cells.specs.Layout.{trailOf};
+ghost use Rattle.cells.specs.Scopes.{scopeOf};
+ghost use Rattle.cells.specs.Memory.{baseFor, classesOf, stringPlaceOf, definitionOf, builtInOf, stateOf, trailed, Becomes};
+ghost use Rattle.memory.specs.Names.{withString, withDefinition, withBuiltIn, classState, placed, scopeAbove, atNode};
+use labels::Labels;
+
+const TRAIL: usize = 39424;
+
+const NAMES: usize = 39456;
+
+// The number of the scope above another one.
+pub enum Above {
+    At(u16),
+    Nothing,
+}
+
+// Every byte becomes 0.
+pub fn clear(work: &mut [u8])
+    ensures { λ _. ⌜ now (work .exit) ≡ zeros (length (now (work .entry))) ⌝ }
+{
+    let end = work.len();
+    wire::clear(work, 0, end);
+}
+
+// ---- The trail
+
+pub fn trail(work: &[u8]) -> Labels
+    requires { ⌜ 65536 ≤ length (now work) ⌝ }
+    ensures { λ r. ⌜ r ≡ trailOf (now (work .entry)) ⌝ }
+{
+    cells::labels_at(work, TRAIL)
+}
+
+pub fn join_trail(work: &mut [u8], set: Labels)
+    requires { ⌜ 65536 ≤ length (now work) ⌝ }
+    ensures { λ _. ⌜ Becomes (now (work .entry)) (now (work .exit)) (trailed set) (λ ns. ns) ⌝ }
+{
+    let old = trail(work);
+    cells::put_labels(work, TRAIL, set.union(old));
+}
+
+// ---- Names: where a string stands, where a definition stands, and which are built-in types
+
+pub fn string_at(work: &[u8], name: u16) -> u16
+    requires { ⌜ (65536 ≤ length (now work)) × (name < 1024) ⌝ }
+    ensures { λ r. ⌜ r ≡ stringPlaceOf (now (work .entry)) name ⌝ }
+{
+    wire::two_at(work, NAMES + 8 * name as usize)
+}
+
+pub fn set_string(work: &mut [u8], name: u16, place: u16)
+    requires { ⌜ (65536 ≤ length (now work)) × (name < 1024) ⌝ }
+    ensures { λ _. ⌜ Becomes (now (work .entry)) (now (work .exit)) (λ st. st) (withString name place) ⌝ }
+{
+    wire::put_two(work, NAMES + 8 * name as usize, place);
+}
+
+// 0 where the name has no definition.
+pub fn definition_at(work: &[u8], name: u16) -> u16
+    requires { ⌜ (65536 ≤ length (now work)) × (name < 1024) ⌝ }
+    ensures { λ r. ⌜ r ≡ definitionOf (now (work .entry)) name ⌝ }
+{
+    wire::two_at(work, NAMES + 8 * name as usize + 2)
+}
+
+pub fn set_definition(work: &mut [u8], name: u16, place: u16)
+    requires { ⌜ (65536 ≤ length (now work)) × (name < 1024) ⌝ }
+    ensures { λ _. ⌜ Becomes (now (work .entry)) (now (work .exit)) (λ st. st) (withDefinition name place) ⌝ }
+{
+    wire::put_two(work, NAMES + 8 * name as usize + 2, place);
+}
+
+pub fn built_in(work: &[u8], name: u16) -> bool
+    requires { ⌜ (65536 ≤ length (now work)) × (name < 1024) ⌝ }
+    ensures { λ r. ⌜ r ≡ builtInOf (now (work .entry)) name ⌝ }
+{
+    wire::byte_at(work, NAMES + 8 * name as usize + 5) != 0
+}
+
+pub fn set_built_in(work: &mut [u8], name: u16, yes: bool)
+    requires { ⌜ (65536 ≤ length (now work)) × (name < 1024) ⌝ }
+    ensures { λ _. ⌜ Becomes (now (work .entry)) (now (work .exit)) (λ st. st) (withBuiltIn name yes) ⌝ }
+{
+    wire::put_byte(work, NAMES + 8 * name as usize + 5, yes as u8);
+}
+
+// ---- Classes
+
+fn class_state(base_is_node: bool) -> u8
+    ensures { λ r. ⌜ r ≡ classState «base_is_node» ⌝ }
+{
+    if base_is_node { 2 } else { 1 }
+}
+
+pub fn declare_class(work: &mut [u8], name: u16, parent: u16, base_is_node: bool)
+    requires { ⌜ (65536 ≤ length (now work)) × (name < 1024) ⌝ }
+    ensures { λ _. ⌜ Becomes (now (work .entry)) (now (work .exit)) (declared name (placed parent «base_is_node»)) (λ ns. ns) ⌝ }
+{
+    let record = NAMES + 8 * name as usize;
+    wire::put_byte(work, record + 4, class_state(base_is_node));
+    wire::put_two(work, record + 6, parent);
+}
+
+pub fn is_declared(work: &[u8], name: u16) -> bool
+    requires { ⌜ (65536 ≤ length (now work)) × (name < 1024) ⌝ }
+    ensures { λ b. ⌜ ((es : List Entry) (n r : ℕ) → b ≡ isDeclared name (stateOf (now (work .entry)) es n r)) ⌝ }
+{
+    wire::byte_at(work, NAMES + 8 * name as usize + 4) != 0
+}
+
+// Whether the base of a declared class is node.
+pub fn base_of(work: &[u8], name: u16) -> bool
+    requires { ⌜ (65536 ≤ length (now work)) × (name < 1024) ⌝ }
+    ensures { λ r. ⌜ r ≡ atNode (classesOf (now (work .entry)) name) ⌝ }
+{
+    wire::byte_at(work, NAMES + 8 * name as usize + 4) == 2
+}
+
+fn base_scope(base_is_node: bool) -> u16
+    ensures { λ r. ⌜ r ≡ oneIf «base_is_node» ⌝ }
+{
+    base_is_node as u16
+}
+
+// The parent of a scope, for code whose base is node or top.
+pub fn parent_of(work: &[u8], base_is_node: bool, scope: u16) -> Above
+    requires { ⌜ 65536 ≤ length (now work) ⌝ }
+    ensures { λ r. ⌜ scopeAbove r ≡ parentOf (classesOf (now (work .entry))) (baseFor «base_is_node») (scopeOf scope) ⌝ }
+{
+    if scope == 0 {
+        return Above::Nothing;
+    }
+    if scope == 1 {
+        return Above::At(0);
+    }
+    if 1026 <= scope {
+        return Above::At(base_scope(base_is_node));
+    }
+    let record = NAMES + 8 * (scope - 2) as usize;
+    if wire::byte_at(work, record + 4) == 0 {
+        return Above::Nothing;
+    }
+    Above::At(wire::two_at(work, record + 6))
+}
