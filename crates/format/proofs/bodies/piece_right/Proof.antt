@@ -1,0 +1,47 @@
+-- `piece_right`: by the piece.
+use Rattle.rules.specs.Format.{pieceRight}
+use Rattle.format.proofs.bodies.piece_right.Statement.{statement}
+use Rattle.format.proofs.bodies.piece_right.Tie as tie
+
+returns : tie.Need-returns
+unfolding pieceRight
+returns c = rw (c .enum-told .given .1)
+
+returns-2 : tie.Need-returns-2
+unfolding pieceRight
+returns-2 c = rw (c .enum-told2 .given .1)
+
+returns-3 : tie.Need-returns-3
+unfolding pieceRight
+returns-3 c = rw (c .enum-told3 .given .1)
+
+returns-4 : tie.Need-returns-4
+unfolding pieceRight
+returns-4 c = rw (c .before .enum-told4 .given .1, c .byte-at .ensures)
+
+returns-5 : tie.Need-returns-5
+unfolding pieceRight
+returns-5 c = rw (c .before .enum-told5 .given .1, c .byte-at2 .ensures)
+
+returns-6 : tie.Need-returns-6
+unfolding pieceRight
+returns-6 c = rw (c .enum-told6 .given .1)
+
+pub piece-right-spec : {M : Type 1} → statement M
+piece-right-spec =
+    tie.close
+    (tie.spec
+    (λ c. c .match .keys1)
+    (λ c. c .match .keys2)
+    (λ c. c .match .keys3)
+    (λ c. c .match .keys4)
+    (λ c κs. tt)
+    (λ c. c .match .keys5)
+    (λ c κs. tt)
+    (λ c. c .match .keys6)
+    returns
+    returns-2
+    returns-3
+    returns-4
+    returns-5
+    returns-6)

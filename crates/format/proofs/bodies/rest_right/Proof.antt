@@ -1,0 +1,27 @@
+-- `rest_right`: by what follows the pieces.
+use Rattle.rules.specs.Format.{restRight}
+use Rattle.format.proofs.bodies.rest_right.Statement.{statement}
+use Rattle.format.proofs.bodies.rest_right.Tie as tie
+
+returns : tie.Need-returns
+unfolding restRight
+returns c = rw (c .enum-told .given .1)
+
+returns-2 : tie.Need-returns-2
+unfolding restRight
+returns-2 c = rw (c .enum-told2 .given .1)
+
+returns-3 : tie.Need-returns-3
+unfolding restRight
+returns-3 c = rw (c .enum-told3 .given .1)
+
+pub rest-right-spec : {M : Type 1} → statement M
+rest-right-spec =
+    tie.close
+    (tie.spec
+    (λ c. c .match .keys1)
+    (λ c. c .match .keys2)
+    (λ c. c .match .keys3)
+    returns
+    returns-2
+    returns-3)

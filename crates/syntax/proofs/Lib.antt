@@ -1,0 +1,10 @@
+pub mod Walk
+pub mod Rise
+pub mod Reading
+pub mod Whole
+pub mod Texts
+pub mod Index
+pub mod Chosen
+pub mod StringsRead
+pub mod NodesRead
+pub mod NamesKnown

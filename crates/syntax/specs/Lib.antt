@@ -1,0 +1,3 @@
+pub mod Before
+pub mod Strings
+pub mod Nodes

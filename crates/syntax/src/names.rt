@@ -1,0 +1,28 @@
+// Refusal 5: no name is past the strings.
+ghost use mathlib.Core.Path.{_≡_};
+ghost use lib.ListN.{length};
+ghost use Rattle.rules.specs.Check.{namesKnown, placesIn};
+use crate::order::wrong_string;
+use format::bodies::head_size;
+use format::bodies::names_right;
+use format::bodies::stride;
+use format::forms::form_of;
+use rules::Verdict;
+use wire::byte_at;
+use wire::length_at;
+
+// The names of all fields from `from` on, in reading order.
+pub fn check_names(m: &[u8], from: usize, strings: u16) -> Verdict
+    ensures { λ r. ⌜ r ≡ namesKnown (now (m .entry)) strings (placesIn (now (m .entry)) from (length (now (m .entry)))) ⌝ }
+{
+    let mut p = from;
+    while p < m.len() {
+        let form = form_of(byte_at(m, p));
+        let rest = form.rest;
+        if !names_right(m, strings, p, form) {
+            return wrong_string(p);
+        }
+        p = p + 3 + stride(rest, head_size(form), length_at(m, p)) as usize;
+    }
+    Verdict::Sound
+}
