@@ -27,7 +27,8 @@ use Rattle.places.proofs.Tags.{statement-tag, statement-entry}
 use Rattle.places.proofs.Parts.{PartsStand, one-part, many-part, last-many, up-to-part, up-to-most, PerhapsPart, there, notThere, perhaps-part, NamesPart, default, devices, names-part, all-over, siblings-rise}
 use Rattle.places.proofs.Open.{part-run, run-two, level, tag-read, read-by, Leaf, Opened, opened, opened-leaf, first-read, others-read, one-read, siblings-read, all-read}
 use Rattle.places.proofs.Expressions.{constant-read}
-use Rattle.places.proofs.Statements.{when-true, when-false, block-at}
+use Rattle.places.proofs.Statements.{block-at}
+use Rattle.rules.proofs.Lists.{when-true, when-false}
 
 -- ---- Tags
 

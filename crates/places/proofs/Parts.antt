@@ -26,7 +26,7 @@ use Rattle.rules.specs.declared.Next.the-variants.{Go, Wrong}
 use Rattle.rules.specs.declared.Verdict.{Verdict}
 use Rattle.rules.specs.declared.Verdict.the-variants.{Sound, Fault}
 use Rattle.rules.proofs.Within.{false-not-true, wrong-not-go, FirstField, first-field, none-missing}
-use Rattle.rules.proofs.Listed.{both-left, both-right}
+use Rattle.rules.proofs.Listed.{both-left, both-right, takes-what, not-takes, not-refused, not-passes, refused-not-passes}
 use Rattle.places.specs.At.{Stands, StandsAs, Siblings, ended, sibling}
 
 -- ---- A part that is over, or passes a field on, is as none
@@ -119,21 +119,6 @@ first-part {m} {d} {p} {a} {b} {c} {q} {e} s = go (ltb q e) refl
     go true h = here (ltb-true q e h) (first-field m (inside m d) p (three a b c) q e (ltb-true q e h) (s .sound)) (take a (byte m q)) refl
 
 -- ---- Parts of each sort
-
-takes-what : {a b : Part} → Takes a ≡ Takes b → a ≡ b
-takes-what e = cc
-
-not-takes : {A : Type 0} {x : Part} → Passes ≡ Takes x → A
-not-takes e = let z : _≡_ {A = ℕ} 0 1 = cc in absurd (omega arith)
-
-not-refused : {A : Type 0} {x : Part} → Refuses ≡ Takes x → A
-not-refused e = let z : _≡_ {A = ℕ} 0 1 = cc in absurd (omega arith)
-
-not-passes : {A : Type 0} {x : Part} → Takes x ≡ Passes → A
-not-passes e = let z : _≡_ {A = ℕ} 0 1 = cc in absurd (omega arith)
-
-refused-not-passes : {A : Type 0} → Refuses ≡ Passes → A
-refused-not-passes e = let z : _≡_ {A = ℕ} 0 1 = cc in absurd (omega arith)
 
 -- where the first part is over, the others are left
 over-part : {m : List ℕ} {d p : ℕ} {b c : Part} {q e : ℕ} → PartsStand m d p (three Over b c) q e → PartsStand m d p (three b c Over) q e

@@ -15,21 +15,12 @@ use Rattle.rules.specs.Read.{entryFor, isDefault, expressionFrom, attributeFrom
 use Rattle.rules.specs.Run.{statementPlace}
 use Rattle.rules.specs.declared.Kind.the-variants.{Expression as ExpressionKind, Pattern, Statement as StatementKind, Block as BlockKind, Branch, Attribute}
 use Rattle.rules.specs.declared.Part.the-variants.{Over, One, Many}
-use Rattle.rules.proofs.Within.{false-not-true}
 use Rattle.places.specs.At.{constantAt, expressionAt, statementAt, blockAt, branchAt, branchesAt, attributeAt, attributesAt, statementsAt, Stands, StandsAs, Siblings}
 use Rattle.places.proofs.Levels.{expression-stable, block-stable}
 use Rattle.places.proofs.Parts.{many-part, last-many, all-over}
 use Rattle.places.proofs.Open.{run-two, level, tag-read, Line, opened, opened-leaf, one-read, all-read}
 use Rattle.places.proofs.Expressions.{Placed, placed, placed-read, CaseAt, case-opens}
-
--- a test whose answer is known
-pub when-true : {A : Type 0} (b : Bool) (x y : A) → b ≡ true → _≡_ {A = A} (elim b [ true ↦ x | false ↦ y ]) x
-when-true true x y e = refl
-when-true false x y e = false-not-true e
-
-pub when-false : {A : Type 0} (b : Bool) (x y : A) → b ≡ false → _≡_ {A = A} (elim b [ true ↦ x | false ↦ y ]) y
-when-false true x y e = false-not-true (sym e)
-when-false false x y e = refl
+use Rattle.rules.proofs.Lists.{when-true}
 
 -- the expression that the reader of statements gives, which goes 32 levels down, is the one at the place
 expression-at : (m : List ℕ) (b q : ℕ) → b ≤ 32 → expressionFrom (readField m b q) ≡ expressionAt m b q

@@ -37,6 +37,23 @@ use Rattle.rules.proofs.Within.{fault-not-sound, false-not-true, wrong-
 pub data Same : Fields → Fields → Type 0 where
   same : {ks : Fields} → Same ks ks
 
+-- ---- What a part makes of a field is one of three
+
+pub takes-what : {a b : Part} → Takes a ≡ Takes b → a ≡ b
+takes-what e = cc
+
+pub not-takes : {A : Type 0} {x : Part} → Passes ≡ Takes x → A
+not-takes e = let z : _≡_ {A = ℕ} 0 1 = cc in absurd (omega arith)
+
+pub not-refused : {A : Type 0} {x : Part} → Refuses ≡ Takes x → A
+not-refused e = let z : _≡_ {A = ℕ} 0 1 = cc in absurd (omega arith)
+
+pub not-passes : {A : Type 0} {x : Part} → Takes x ≡ Passes → A
+not-passes e = let z : _≡_ {A = ℕ} 0 1 = cc in absurd (omega arith)
+
+pub refused-not-passes : {A : Type 0} → Refuses ≡ Passes → A
+refused-not-passes e = let z : _≡_ {A = ℕ} 0 1 = cc in absurd (omega arith)
+
 module _ (P : Field → Type 0) where
   -- one field of a kind
   pub data OneOf (k : Kind) : Fields → Fields → Type 0 where
@@ -73,21 +90,6 @@ module _ (P : Field → Type 0) where
     pub inThird : PartTakes (ps .third) third none
 
   -- ---- The check's way through the parts gives that
-
-  takes-what : {a b : Part} → Takes a ≡ Takes b → a ≡ b
-  takes-what e = cc
-
-  not-takes : {A : Type 0} {x : Part} → Passes ≡ Takes x → A
-  not-takes e = let z : _≡_ {A = ℕ} 0 1 = cc in absurd (omega arith)
-
-  not-refused : {A : Type 0} {x : Part} → Refuses ≡ Takes x → A
-  not-refused e = let z : _≡_ {A = ℕ} 0 1 = cc in absurd (omega arith)
-
-  not-passes : {A : Type 0} {x : Part} → Takes x ≡ Passes → A
-  not-passes e = let z : _≡_ {A = ℕ} 0 1 = cc in absurd (omega arith)
-
-  refused-not-passes : {A : Type 0} → Refuses ≡ Passes → A
-  refused-not-passes e = let z : _≡_ {A = ℕ} 0 1 = cc in absurd (omega arith)
 
   -- where a part takes a field and its remainder takes the next ones, it takes them together
   takes-more : (a x : Part) (f : Field) (fs rest : Fields) → take a (tagOf f) ≡ Takes x → P f → PartTakes x fs rest → PartTakes a (more f fs) rest

@@ -65,6 +65,15 @@ eqb-sym m n = go (eqb m n) (eqb n m) refl refl
     go false true h g = absurd (true≢false (sym (eqb-same m) ∙ ap (λ (k : ℕ). eqb m k) (sym (eqb-true n m g)) ∙ h))
     go false false h g = refl
 
+-- a test whose answer is known
+pub when-true : {A : Type 0} (b : Bool) (x y : A) → b ≡ true → _≡_ {A = A} (elim b [ true ↦ x | false ↦ y ]) x
+when-true true x y e = refl
+when-true false x y e = absurd (false≢true e)
+
+pub when-false : {A : Type 0} (b : Bool) (x y : A) → b ≡ false → _≡_ {A = A} (elim b [ true ↦ x | false ↦ y ]) y
+when-false true x y e = absurd (true≢false e)
+when-false false x y e = refl
+
 -- ---- What may be missing
 
 pub data Perhaps {A : Type 0} (P : A → Type 0) : Option A → Type 0 where

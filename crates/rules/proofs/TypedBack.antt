@@ -25,10 +25,10 @@ use Rattle.rules.specs.declared.Kind.{Kind}
 use Rattle.rules.specs.declared.Kind.the-variants.{Table, Text, Constant as ConstantKind, Expression as ExpressionKind, Pattern, Arm, Statement as StatementKind, Block as BlockKind, Branch, Attribute, Parameter as ParameterKind, Parent as ParentKind, Item as ItemKind, Device}
 use Rattle.rules.specs.declared.Part.the-variants.{Over, One, Many}
 use Rattle.rules.specs.declared.Verdict.the-variants.{Sound}
-use Rattle.rules.proofs.Within.{false-not-true}
 use Rattle.rules.proofs.Listed.{Same, same, OneOf, one, ManyOf, noneOfMany, oneOfMany, AtMost, noFurther, further, NamesOf, defaultName, deviceNames, PartsAre, AsListed, Listed, both-left, both-right, all-listed}
 use Rattle.rules.proofs.HighBytes.{eight-back, name-back, names-back, label-name-back}
 use Rattle.rules.proofs.WriteBack.{written-back}
+use Rattle.rules.proofs.Lists.{when-true, when-false}
 
 -- ---- From the typed tree to fields. All places are 0, since the tree does not keep every one
 
@@ -230,15 +230,6 @@ statement-tag t e = go (either (leb 0x21 t && leb t 0x23) (eqb t 0x25 || (leb 0x
     go : ((leb 0x21 t && leb t 0x23) ≡ true) ⊎ ((eqb t 0x25 || (leb 0x27 t && leb t 0x29)) ≡ true) → In statementTagList t
     go (inl x) = in-left (0x25 ∷ from 0x27 3) (within-range 3 0x21 0x23 t (omega arith) x)
     go (inr x) = in-right (from 0x21 3) (later (either (eqb t 0x25) (leb 0x27 t && leb t 0x29) x))
-
--- a test with its answer known
-when-true : {A : Type 0} (b : Bool) (x y : A) → b ≡ true → _≡_ {A = A} (elim b [ true ↦ x | false ↦ y ]) x
-when-true true x y e = refl
-when-true false x y e = false-not-true e
-
-when-false : {A : Type 0} (b : Bool) (x y : A) → b ≡ false → _≡_ {A = A} (elim b [ true ↦ x | false ↦ y ]) y
-when-false true x y e = false-not-true (sym e)
-when-false false x y e = refl
 
 -- ---- What parts take, written
 
