@@ -1,0 +1,5 @@
+pub mod Standing
+pub mod Declares
+pub mod Folds
+pub mod Marking
+pub mod AfterTest

@@ -1,0 +1,107 @@
+-- The ways of `evaluate`: by the tag. Assumes nothing.
+use Prim.Native.Nat.{ℕ, suc, _+_, _-_, _≤_, _<_}
+use mathlib.Core.Path.{_≡_, refl, sym, ap, _∙_, subst}
+use mathlib.Core.Bool.{Bool, true}
+use mathlib.Core.List.{List, [], _∷_}
+use native.Mathlib.Omega.{arith}
+use Rattle.values.specs.declared.Labelled.{Labelled}
+use Rattle.wire.specs.Bytes.{byte, two}
+use Rattle.rules.specs.Outcome.{Outcome, done}
+use Rattle.rules.specs.Format.{allowed}
+use Rattle.rules.specs.State.{Scope, topScope, Base, State, Context, Known, upward, scopesTried}
+use Rattle.rules.specs.Evaluate.{readIn, ofConstant, evaluate}
+use Rattle.rules.specs.declared.Kind.the-variants.{Expression as ExpressionKind, Constant as ConstantKind}
+use Rattle.places.specs.At.{constantAt, expressionAt, Stands, StandsAs}
+use Rattle.places.proofs.Tags.{IsConstantTag, integerTag, stringTag, booleanTag, constant-kind, IsExpressionTag, constantTag, variableTag, topVariableTag, classVariableTag, operationTag, negationTag, attributeReadTag, selectorTag, expression-tag}
+use Rattle.places.proofs.Open.{level}
+use Rattle.places.proofs.Expressions.{constant-opens, variable-opens, top-variable-opens, class-variable-opens, OperationAt, operation-opens, NegationAt, negation-opens, AttributeReadAt, attribute-read-opens, SelectorAt, selector-opens}
+use Rattle.cells.specs.Scopes.{scopeOf}
+use Rattle.cells.specs.Memory.{cellsOf, classesOf, baseFor, stateOf}
+use Rattle.cells.proofs.Scopes.{top-scope}
+use Rattle.evaluator.specs.declared.Evaluated.the-variants.{Value as Yields}
+use Rattle.evaluator.specs.Answers.{evaluated}
+use Rattle.evaluator.specs.Known.{KnownIn, Tells, classRead}
+use Rattle.evaluator.proofs.Expressions.{Run}
+use Rattle.evaluator.proofs.Reading.{read-one}
+
+-- the tags of constants are below the others
+constant-below : (t : ℕ) → IsExpressionTag t → t < 0x13 → allowed ConstantKind t ≡ true
+constant-below t (constantTag c) l = constant-kind c
+constant-below t variableTag l = absurd (omega arith)
+constant-below t topVariableTag l = absurd (omega arith)
+constant-below t classVariableTag l = absurd (omega arith)
+constant-below t operationTag l = absurd (omega arith)
+constant-below t negationTag l = absurd (omega arith)
+constant-below t attributeReadTag l = absurd (omega arith)
+constant-below t selectorTag l = absurd (omega arith)
+
+constant-small : (t : ℕ) → IsConstantTag t → t < 0x13
+constant-small t integerTag = omega arith
+constant-small t stringTag = omega arith
+constant-small t booleanTag = omega arith
+
+-- the last one
+selector-last : (t : ℕ) → IsExpressionTag t → 0x13 ≤ t → (t ≡ 0x13 → ⊥) → (t ≡ 0x14 → ⊥) → (t ≡ 0x15 → ⊥) → (t ≡ 0x16 → ⊥) → (t ≡ 0x17 → ⊥) → (t ≡ 0x18 → ⊥) → t ≡ 0x19
+selector-last t (constantTag c) l n3 n4 n5 n6 n7 n8 = absurd (omega (arith, constant-small t c))
+selector-last t variableTag l n3 n4 n5 n6 n7 n8 = absurd (n3 refl)
+selector-last t topVariableTag l n3 n4 n5 n6 n7 n8 = absurd (n4 refl)
+selector-last t classVariableTag l n3 n4 n5 n6 n7 n8 = absurd (n5 refl)
+selector-last t operationTag l n3 n4 n5 n6 n7 n8 = absurd (n6 refl)
+selector-last t negationTag l n3 n4 n5 n6 n7 n8 = absurd (n7 refl)
+selector-last t attributeReadTag l n3 n4 n5 n6 n7 n8 = absurd (n8 refl)
+selector-last t selectorTag l n3 n4 n5 n6 n7 n8 = refl
+
+module _ (m w out : List ℕ) (fill scope : ℕ) (node : Bool) (d p : ℕ) where
+  abbrev Said : Outcome Labelled → Type 0
+  Said a = Tells m w out fill scope node a (λ k c st. evaluate k c st (expressionAt m d p))
+
+  -- no field has no level
+  pub no-level : {a : Outcome Labelled} → d ≡ 0 → StandsAs m d ExpressionKind p → Said a
+  no-level z s = absurd (omega (arith, level (s .stands)))
+
+  module _ {t : ℕ} (tag : t ≡ byte m p) where
+    pub says-constant : {x : Labelled} → t < 0x13 → x ≡ ofConstant (constantAt m p) → StandsAs m d ExpressionKind p → Said (evaluated (Yields x))
+    unfolding evaluate evaluated
+    says-constant l e s =
+        let tree = constant-opens (record { stands = s .stands; kind = constant-below (byte m p) (expression-tag (byte m p) (s .kind)) (omega (arith, tag)) }) in
+        record { says = λ k c es n r h sc b. ap done e ∙ sym (ap (evaluate k c (stateOf w es n r)) tree) }
+
+    pub says-variable : {n : ℕ} {a : Outcome Labelled} → t ≡ 0x13 → n ≡ two m (p + 3) → a ≡ readIn p (cellsOf w) n (upward 1026 (classesOf w) (baseFor node) (scopeOf scope)) → StandsAs m d ExpressionKind p → Said a
+    unfolding evaluate scopesTried stateOf
+    says-variable is name e s = record {
+      says = λ k c es n r h sc b.
+          e ∙ (λ i. readIn p (cellsOf w) (name i) (upward 1026 (classesOf w) (sym b i) (sym sc i))) ∙ sym (ap (evaluate k c (stateOf w es n r)) (variable-opens (s .stands) (sym tag ∙ is)));
+    }
+
+    pub says-top : {n : ℕ} {a : Outcome Labelled} → t ≡ 0x14 → n ≡ two m (p + 3) → a ≡ readIn p (cellsOf w) n (upward 1 (classesOf w) (baseFor node) (scopeOf 0)) → StandsAs m d ExpressionKind p → Said a
+    unfolding evaluate stateOf
+    says-top {n} is name e s = record {
+      says = λ k c es n′ r h sc b.
+          e ∙ read-one p (cellsOf w) n (classesOf w) (baseFor node) (scopeOf 0) ∙ (λ i. readIn p (cellsOf w) (name i) (top-scope i ∷ [])) ∙ sym (ap (evaluate k c (stateOf w es n′ r)) (top-variable-opens (s .stands) (sym tag ∙ is)));
+    }
+
+    pub says-class : {q n : ℕ} {a : Outcome Labelled} → t ≡ 0x15 → q ≡ two m (p + 3) → n ≡ two m (p + 5) → ((k : Known) → KnownIn m w k → a ≡ classRead k p (cellsOf w) q n) → StandsAs m d ExpressionKind p → Said a
+    unfolding evaluate stateOf classRead
+    says-class is class name e s = record {
+      says = λ k c es n r h sc b.
+          e k (h .known) ∙ (λ i. classRead k p (cellsOf w) (class i) (name i)) ∙ sym (ap (evaluate k c (stateOf w es n r)) (class-variable-opens (s .stands) (sym tag ∙ is)));
+    }
+
+    module _ (some : d ≡ 0 → ⊥) where
+      one-more : d ≡ suc (d - 1)
+      one-more = omega arith
+
+      pub says-operation : {a : Outcome Labelled} → t ≡ 0x16 → ((e : ℕ) → OperationAt m e (d - 1) p → Tells m w out fill scope node a (λ k c st. evaluate k c st (expressionAt m e p))) → StandsAs m d ExpressionKind p → Said a
+      says-operation is e s = e d (operation-opens (s .stands) one-more (sym tag ∙ is))
+
+      pub says-negation : {a : Outcome Labelled} → t ≡ 0x17 → ((e : ℕ) → NegationAt m e (d - 1) p → Tells m w out fill scope node a (λ k c st. evaluate k c st (expressionAt m e p))) → StandsAs m d ExpressionKind p → Said a
+      says-negation is e s = e d (negation-opens (s .stands) one-more (sym tag ∙ is))
+
+      pub says-attribute : {a : Outcome Labelled} → t ≡ 0x18 → ((e : ℕ) → AttributeReadAt m e (d - 1) p → Tells m w out fill scope node a (λ k c st. evaluate k c st (expressionAt m e p))) → StandsAs m d ExpressionKind p → Said a
+      says-attribute is e s = e d (attribute-read-opens (s .stands) one-more (sym tag ∙ is))
+
+      pub says-selector : {a : Outcome Labelled} → 0x13 ≤ t → (t ≡ 0x13 → ⊥) → (t ≡ 0x14 → ⊥) → (t ≡ 0x15 → ⊥) → (t ≡ 0x16 → ⊥) → (t ≡ 0x17 → ⊥) → (t ≡ 0x18 → ⊥)
+          → ((e : ℕ) → SelectorAt m e (d - 1) p → Tells m w out fill scope node a (λ k c st. evaluate k c st (expressionAt m e p))) → StandsAs m d ExpressionKind p → Said a
+      says-selector l n3 n4 n5 n6 n7 n8 e s =
+          let is = selector-last t (subst IsExpressionTag (sym tag) (expression-tag (byte m p) (s .kind))) l n3 n4 n5 n6 n7 n8 in
+          e d (selector-opens (s .stands) one-more (sym tag ∙ is))

@@ -1,0 +1,25 @@
+use Rattle.evaluator.proofs.Operators.{boolean-unlike, boolean-right}
+use mathlib.Core.Logic.{⊎-elim}
+use native.Mathlib.Omega.{arith}
+use borrow.Author.Needs.{needs}
+use Rattle.evaluator.proofs.right_boolean.Statement.{statement}
+use Rattle.evaluator.proofs.right_boolean.Tie as tie
+
+enum-told : tie.Need-enum-told
+enum-told c = c .match .keys1
+
+refusal-requires : tie.Need-refusal-requires
+refusal-requires c κs = search needs
+
+returns : tie.Need-returns
+returns c = boolean-unlike _ _ (λ e. ⊎-elim (λ p. omega arith) (λ p. omega arith) (c .before .match .keys2)) (c .refusal .ensures)
+
+plain-value-requires : tie.Need-plain-value-requires
+plain-value-requires c κs = tt
+
+returns-2 : tie.Need-returns-2
+returns-2 c = boolean-right _ _ (c .before .before .match .keys1) (c .plain-value .ensures)
+
+pub right-boolean-spec : {M : Type 1} → statement M
+right-boolean-spec =
+    tie.close (tie.spec enum-told refusal-requires returns plain-value-requires returns-2)

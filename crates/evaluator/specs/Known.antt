@@ -1,0 +1,76 @@
+-- What the bytes must stand for when an expression is evaluated, and what an answer then says.
+use Prim.Native.Nat.{ℕ, _<_, _≤_}
+use lib.ListN.{length}
+use mathlib.Core.Path.{_≡_}
+use mathlib.Core.Bool.{Bool, true, false, not}
+use mathlib.Core.List.{List, [], _∷_}
+use mathlib.Core.Option.{Option, none, some}
+use lib.Dec.{eqb}
+use Rattle.labels.specs.declared.Labels.{Labels}
+use Rattle.labels.specs.Sets.{noLabels, oneLabel}
+use Rattle.values.specs.declared.Value.{Value}
+use Rattle.values.specs.declared.Labelled.{Labelled}
+use Rattle.wire.specs.Bytes.{pick, byte}
+use Rattle.values.specs.declared.Reason.the-variants.{Unknown}
+use Rattle.rules.specs.Outcome.{Outcome, _>>=_, refuseIf, at}
+use Rattle.rules.specs.Arithmetic.{stringIn, sameValue}
+use Rattle.rules.specs.Tree.{TypeDefinition, ClassDefinition, typeDefinition, classDefinition, definition}
+use Rattle.rules.specs.State.{Entry, State, Context, Known, Cells, classScope}
+use Rattle.rules.specs.Evaluate.{findType, findClass, isType, isClass, readIn, readAttribute}
+use Rattle.rules.specs.Compile.{onto}
+use Rattle.rules.specs.declared.Kind.the-variants.{Item}
+use Rattle.rules.proofs.Unique.{UniqueEntries}
+use Rattle.places.specs.At.{constantAt, itemAt, StandsAs}
+use Rattle.cells.specs.Scopes.{scopeOf}
+use Rattle.cells.specs.Memory.{baseFor, definitionOf, builtInOf, stateOf}
+use Rattle.catalog.specs.Finding.{Written}
+use Rattle.evaluator.specs.declared.Tried.{Tried}
+
+-- what the definition at a place says of its name: none at 0, and else a type or a class, as read there
+pub data DefinedAt (m : List ℕ) (p : ℕ) : Option TypeDefinition → Option ClassDefinition → Type 0 where
+  undefined : p ≡ 0 → DefinedAt m p none none
+  typeAt : {d : TypeDefinition} → 0 < p → StandsAs m 32 Item p → byte m p ≡ 0x32 → itemAt m p ≡ definition (typeDefinition d) → DefinedAt m p (some d) none
+  classAt : {d : ClassDefinition} → 0 < p → StandsAs m 32 Item p → byte m p ≡ 0x34 → itemAt m p ≡ definition (classDefinition d) → DefinedAt m p none (some d)
+
+-- the names in the working memory w are what is known so far
+pub record KnownIn (m w : List ℕ) (k : Known) : Type 0 where
+  pub builtIns : (n : ℕ) → k .builtIn n ≡ builtInOf w n
+  pub definitions : (n : ℕ) → DefinedAt m (definitionOf w n) (findType n (k .definitions)) (findClass n (k .definitions))
+
+-- the memory w and the output up to `fill` stand for what is known and the entries es, the latest first
+pub record Ready (m w out : List ℕ) (fill : ℕ) (k : Known) (es : List Entry) : Type 0 where
+  pub catalog : Written out fill (onto es [])
+  pub unique : UniqueEntries es
+  pub known : KnownIn m w k
+
+-- an answer is what the definition gives, in every state that the bytes stand for
+pub record Tells (m w out : List ℕ) (fill scope : ℕ) (node : Bool) (answer : Outcome Labelled) (run : Known → Context → State → Outcome Labelled) : Type 0 where
+  pub says : (k : Known) (c : Context) (es : List Entry) (n r : ℕ) → Ready m w out fill k es → c .scope ≡ scopeOf scope → c .base ≡ baseFor node → answer ≡ run k c (stateOf w es n r)
+
+-- the tag of a name's definition, 0 if there is none
+unfoldable pub definedTag : (m w : List ℕ) → (name : ℕ) → ℕ
+definedTag m w n = pick (eqb (definitionOf w n) 0) 0 (byte m (definitionOf w n))
+
+-- a pattern at q tried on a value: a default matches with no label
+unfoldable pub triedAt : List ℕ → (q : ℕ) → Value → Tried
+triedAt m q x = pick (eqb (byte m q) 0x1b) (record { matches = true; labels = noLabels }) (record { matches = sameValue x (constantAt m q .value); labels = oneLabel (constantAt m q .label) })
+
+-- ---- The parts of `evaluate` that need no other expression
+
+-- a class variable: its class q, its name n
+unfoldable pub classRead : Known → (place : ℕ) → Cells → (q n : ℕ) → Outcome Labelled
+classRead k p cells q n = refuseIf (not (isClass k q)) Unknown p >>= λ _. readIn p cells n (classScope q ∷ [])
+
+-- an attribute n of the resource of type t whose title, at l, is x
+unfoldable pub attributeOf : Known → List Entry → (place l t n : ℕ) → Value → Outcome Labelled
+attributeOf k es p l t n x = at l (stringIn x) >>= λ m. refuseIf (not (isType k t)) Unknown p >>= λ _. readAttribute p t m n es
+
+-- ---- Lengths
+
+-- the memory, the output and the manifest are as long as an evaluation asks, and a place can be told in a refusal
+pub record Sized (m w out : List ℕ) (fill p : ℕ) : Type 0 where
+  pub memory : 65536 ≤ length w
+  pub filled : fill ≤ length out
+  pub short : fill ≤ 65535
+  pub manifest : length m ≤ 65535
+  pub place : p ≤ 65535

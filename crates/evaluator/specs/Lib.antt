@@ -1,0 +1,4 @@
+pub mod Answers
+pub mod Operators
+pub mod Known
+pub mod Names
