@@ -2,7 +2,7 @@
 use Prim.Native.Nat.{ℕ, _+_, _-_, _≤_, _<_}
 use mathlib.Core.Path.{_≡_, refl, sym, ap, _∙_}
 use mathlib.Core.Bool.{Bool, true, false, not, _||_}
-use mathlib.Core.List.{List}
+use mathlib.Core.List.{List, []}
 use mathlib.Core.Option.{Option, none, some}
 use native.Mathlib.Omega.{arith}
 use borrow.Author.Tests.{ne-eqb, le-ltb, eq-eqb}
@@ -12,6 +12,10 @@ use Rattle.wire.specs.Bytes.{pick, byte, two}
 use Rattle.rules.specs.Tree.{TypeDefinition, ClassDefinition}
 use Rattle.rules.specs.State.{Base, baseScope, DeclaredClass, parentOfClass, parentOf, oneIf, Known, isSome}
 use Rattle.rules.specs.Evaluate.{findType, findClass, isType, isClass}
+use Rattle.rules.specs.Compile.{onto}
+use Rattle.rules.specs.Catalog.{catalogBytes}
+use Rattle.rules.proofs.Lists.{noneLeft}
+use Rattle.rules.proofs.Unique.{uniqueNone}
 use Rattle.cells.specs.Layout.{recordAt, table, NameRecord, blankRecord, nameAt, recordsOf}
 use Rattle.cells.specs.Scopes.{scopeOf}
 use Rattle.cells.specs.Memory.{baseFor, classFrom, classIn, definitionIn, builtInIn, classesOf, definitionOf, builtInOf}
@@ -19,7 +23,7 @@ use Rattle.cells.proofs.Scopes.{scope-cases, top-scope, node-scope}
 use Rattle.cells.proofs.Tables.{table-in}
 use Rattle.evaluator.specs.declared.Above.the-variants.{At, Nothing}
 use Rattle.evaluator.specs.Names.{scopeAbove}
-use Rattle.evaluator.specs.Known.{DefinedAt, undefined, typeAt, classAt, KnownIn, definedTag}
+use Rattle.evaluator.specs.Known.{DefinedAt, undefined, typeAt, classAt, KnownIn, Ready, definedTag}
 
 -- ---- A name's record
 
@@ -135,3 +139,14 @@ module _ (m w : List ℕ) (n : ℕ) where
 
   pub type-told : {b : Bool} {t : ℕ} → b ≡ builtInOf w n → b ≡ false → t ≡ definedTag m w n → (k : Known) → KnownIn m w k → eqb t 0x32 ≡ isType k n
   type-told e f d k h = rw (sym e ∙ f, sym d) at (type-tag k h)
+
+-- ---- Before the first item runs
+
+pub known-first : (m w : List ℕ) (k : Known) → k .definitions ≡ [] → ((n : ℕ) → k .builtIn n ≡ builtInOf w n) → ((n : ℕ) → definitionOf w n ≡ 0) → KnownIn m w k
+unfolding findType findClass
+known-first m w k none-yet builtIns none-there = record { builtIns = builtIns; definitions = λ n. rw none-yet (undefined (none-there n)) }
+
+-- with no entry yet
+pub ready-first : (m w out : List ℕ) {k : Known} → KnownIn m w k → Ready m w out 0 k []
+unfolding onto catalogBytes
+ready-first m w out h = record { catalog = record { bytes = refl; fits = noneLeft }; unique = uniqueNone; known = h }

@@ -1,3 +1,4 @@
+-- `attribute_of`: the title is no string, its type is unknown, the catalog has the attribute, or has not.
 use Rattle.evaluator.proofs.Reading.{title-unlike, type-unknown, attribute-there, attribute-missing}
 use mathlib.Core.Logic.{⊎-elim}
 use native.Mathlib.Omega.{arith}

@@ -1,3 +1,4 @@
+-- `begin`: by the operator byte.
 use Rattle.evaluator.proofs.Operators.{begins-integer, begins-equal, begins-boolean}
 use Rattle.evaluator.proofs.begin.Statement.{statement}
 use Rattle.evaluator.proofs.begin.Tie as tie

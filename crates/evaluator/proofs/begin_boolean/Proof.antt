@@ -1,3 +1,4 @@
+-- `begin_boolean`: by the kind of the value, and whether it decides.
 use Rattle.evaluator.proofs.Operators.{boolean-not-integer, boolean-not-string, boolean-decides, boolean-open}
 use Rattle.evaluator.proofs.begin_boolean.Statement.{statement}
 use Rattle.evaluator.proofs.begin_boolean.Tie as tie

@@ -1,3 +1,4 @@
+-- `begin_integer`: by the kind of the value.
 use Rattle.evaluator.proofs.Operators.{integer-not, integer-open}
 use mathlib.Core.Logic.{⊎-elim}
 use native.Mathlib.Omega.{arith}

@@ -1,3 +1,4 @@
+-- `both_integers`: the left value is no integer, the right one is none, a comparison, or arithmetic.
 use mir.Syntax.{w64}
 use mir.ValLaws.{toZ-ofZ}
 use Rattle.evaluator.proofs.Operators.{left-unlike, right-unlike, both-greater, both-computed}

@@ -1,3 +1,4 @@
+-- `combine`: by the operator byte.
 use Rattle.evaluator.proofs.Operators.{combines-integers, combines-equal, combines-booleans}
 use borrow.Author.Needs.{needs}
 use Rattle.evaluator.proofs.combine.Statement.{statement}

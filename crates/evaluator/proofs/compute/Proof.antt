@@ -1,3 +1,4 @@
+-- `compute`: by the operator byte.
 use mir.Syntax.{w64}
 use mir.ValLaws.{toZ-ofZ}
 use Rattle.evaluator.proofs.Operators.{computes-sum, computes-difference, computes-quotient}

@@ -1,3 +1,4 @@
+-- `computed_at`: by what the operation answered.
 use mir.Syntax.{w64}
 use mir.ValLaws.{toZ-ofZ}
 use Rattle.evaluator.proofs.Operators.{computed-whole, computed-large, computed-by-zero}

@@ -1,3 +1,4 @@
+-- `constant_at`: the label and the value read.
 use native.Mathlib.Omega.{arith}
 use Rattle.evaluator.proofs.Constants.{constant-read}
 use borrow.Author.Needs.{needs}

@@ -1,3 +1,4 @@
+-- `defined_tag`: no definition, or the tag at its place.
 use native.Mathlib.Omega.{arith}
 use Rattle.evaluator.proofs.Names.{tag-none, tag-there}
 use borrow.Author.Needs.{needs}

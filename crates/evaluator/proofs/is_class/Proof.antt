@@ -1,3 +1,4 @@
+-- `is_class`: past the last name, or by the tag of the definition.
 use Rattle.evaluator.proofs.Names.{class-past, class-told}
 use mathlib.Core.Bool.{false≢true}
 use borrow.Author.Needs.{needs}

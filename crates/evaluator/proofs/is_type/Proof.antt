@@ -1,3 +1,4 @@
+-- `is_type`: past the last name, built in, or by the tag of the definition.
 use Rattle.evaluator.proofs.Names.{type-past, type-built-in, type-told}
 use borrow.Author.Needs.{needs}
 use Rattle.evaluator.proofs.is_type.Statement.{statement}

@@ -1,3 +1,4 @@
+-- `joined`: a refusal is kept; a value has the sets joined.
 use Rattle.evaluator.proofs.Outcomes.{answer-joined, answer-kept}
 use Rattle.evaluator.proofs.joined.Statement.{statement}
 use Rattle.evaluator.proofs.joined.Tie as tie

@@ -1,3 +1,4 @@
+-- `negated`: no boolean, or its opposite.
 use Rattle.evaluator.proofs.Operators.{negates-unlike, negates}
 use mathlib.Core.Logic.{⊎-elim}
 use native.Mathlib.Omega.{arith}

@@ -1,3 +1,4 @@
+-- `plain_value`: by computing.
 use Rattle.evaluator.specs.Answers.{evaluated}
 use Rattle.labels.specs.Sets.{noLabels}
 use mathlib.Core.Path.{refl}

@@ -1,3 +1,4 @@
+-- `read_class`: no class of that name, or its cell.
 use Rattle.evaluator.proofs.Reading.{class-unknown, class-cell, was-true}
 use Rattle.cells.specs.Memory.{baseFor}
 use Rattle.rules.specs.State.{topBase}

@@ -1,3 +1,4 @@
+-- `read_up`: the loop keeps this: the marks joined so far, joined to what the scopes from here on give, is what all give. It ends since `left` falls.
 use Rattle.evaluator.proofs.Reading.{read-here, read-end, read-on, read-out, read-begin}
 use Rattle.cells.specs.Memory.{cellsOf, classesOf, baseFor}
 use Rattle.cells.specs.Scopes.{scopeOf}

@@ -1,3 +1,4 @@
+-- `refusal`: by computing.
 use native.Mathlib.Omega.{arith}
 use Rattle.evaluator.specs.Answers.{evaluated}
 use mathlib.Core.Path.{refl}

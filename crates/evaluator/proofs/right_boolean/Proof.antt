@@ -1,3 +1,4 @@
+-- `right_boolean`: no boolean, or the value itself.
 use Rattle.evaluator.proofs.Operators.{boolean-unlike, boolean-right}
 use mathlib.Core.Logic.{⊎-elim}
 use native.Mathlib.Omega.{arith}

@@ -1,3 +1,4 @@
+-- `try_pattern`: a default, or a constant.
 use Rattle.evaluator.proofs.Selectors.{tried-default, tried-constant}
 use Rattle.labels.specs.Sets.{noLabels}
 use borrow.Author.Needs.{needs}

@@ -1,3 +1,4 @@
+-- `value_at`: by the tag. A signed number that goes into a variant is the one that was read.
 use native.Mathlib.Omega.{arith}
 use Rattle.evaluator.proofs.Constants.{integer-read, string-read, boolean-read}
 use mir.Syntax.{w64}
