@@ -1,0 +1,141 @@
+-- The law of a condition, `run` is its test and then the block chosen; and one law for each way through `decide_if` and `test_if`.
+use Prim.Native.Nat.{ℕ, suc, _+_, _-_, _≤_, _<_}
+use mathlib.Core.Path.{_≡_, refl, sym, ap, ap₂, _∙_}
+use mathlib.Core.Bool.{Bool, true, false, _||_}
+use mathlib.Core.List.{List, _++_}
+use native.Mathlib.Omega.{arith}
+use lib.ListN.{length}
+use denote.Enum.Declared.{tagOf}
+use Rattle.labels.specs.declared.Labels.{Labels}
+use Rattle.labels.specs.Sets.{_∪_}
+use Rattle.values.specs.declared.Labelled.{Labelled}
+use Rattle.values.specs.declared.Value.{Value}
+use Rattle.values.specs.declared.Value.the-variants.{Integer, String, Boolean}
+use Rattle.values.specs.declared.Reason.{Reason}
+use Rattle.values.specs.declared.Reason.the-variants.{WrongKind}
+use Rattle.values.proofs.Value.{the-type}
+use Rattle.wire.specs.Bytes.{pick, byte, endOf}
+use Rattle.rules.specs.Outcome.{Outcome, refused, done, _>>=_, Result, fails, gives, at}
+use Rattle.rules.specs.Arithmetic.{booleanIn}
+use Rattle.rules.specs.Tree.{Expression, placeOf, Block, conditional}
+use Rattle.rules.specs.State.{Entry, State, Context, Known}
+use Rattle.rules.specs.Evaluate.{evaluate}
+use Rattle.rules.specs.Run.{Declare, run, runBlock, inBranch, conditionLabels, afterTest, assignsIn, declaresIn}
+use Rattle.rules.specs.declared.Kind.the-variants.{Statement as StatementKind, Expression as ExpressionKind, Block as BlockKind}
+use Rattle.places.specs.At.{expressionAt, statementAt, blockAt, StandsAs}
+use Rattle.places.proofs.Expressions.{expression-place}
+use Rattle.places.proofs.Statements.{ConditionalAt, conditional-opens}
+use Rattle.cells.specs.Layout.{trailOf}
+use Rattle.cells.specs.Scopes.{scopeOf}
+use Rattle.cells.specs.Memory.{baseFor, stateOf}
+use Rattle.evaluator.specs.declared.Evaluated.{Evaluated}
+use Rattle.evaluator.specs.declared.Evaluated.the-variants.{Value as Yields, Refused as Fails}
+use Rattle.evaluator.proofs.Operators.{not-boolean}
+use Rattle.evaluator.specs.Answers.{evaluated}
+use Rattle.evaluator.specs.Known.{Ready, Tells}
+use Rattle.branches.specs.Names.{names, namesIn, Small}
+use Rattle.branches.proofs.Folds.{small-same}
+use Rattle.branches.proofs.Marking.{conditional-names}
+use Rattle.statements.specs.declared.Ran.{Ran}
+use Rattle.statements.specs.declared.Ran.the-variants.{Done as Entered, Refused as Stopped}
+use Rattle.statements.specs.declared.Tested.{Tested}
+use Rattle.statements.specs.declared.Tested.the-variants.{Branch, Refused}
+use Rattle.statements.specs.Answers.{ranAs, Keeps, Does}
+use Rattle.statements.specs.Tests.{Passed, passed, afterIf, decideIf, testIf, testIfAt, testedAs, Tests}
+use Rattle.statements.proofs.Assigning.{keeps-same, has-level, has-header}
+
+-- ---- The law
+
+pub if-runs : (k : Known) (declare : Declare) (p : ℕ) (e : Expression) (a b : Block) (c : Context) (st : State) → run k declare (conditional p e a b) c st ≡ (testIf p e a b k c st >>= λ x. runBlock k declare (pick (x .chosen) a b) (inBranch (x .set) c) (x .state))
+unfolding run testIf decideIf afterIf _>>=_ at
+if-runs k declare p e a b c st = go (evaluate k c st e)
+  where
+    after : Labels → Outcome State
+    after set = afterTest p c (λ n. assignsIn a n || assignsIn b n) (declaresIn a || declaresIn b) set st
+
+    branch : Bool → Labels → State → Outcome State
+    branch t set st′ = elim t [ true ↦ runBlock k declare a (inBranch set c) st′ | false ↦ runBlock k declare b (inBranch set c) st′ ]
+
+    onward : Passed Bool → Outcome State
+    onward x = runBlock k declare (pick (x .chosen) a b) (inBranch (x .set) c) (x .state)
+
+    entered : (t : Bool) (set : Labels) (o : Outcome State) → (o >>= λ st′. branch t set st′) ≡ ((o >>= λ st′. done (passed t set st′)) >>= onward)
+    entered t set (refused r q) = refl
+    entered true set (done st′) = refl
+    entered false set (done st′) = refl
+
+    decided : (set : Labels) (o : Outcome Bool) → (o >>= λ t. after set >>= λ st′. branch t set st′) ≡ ((o >>= λ t. after set >>= λ st′. done (passed t set st′)) >>= onward)
+    decided set (refused r q) = refl
+    decided set (done t) = entered t set (after set)
+
+    go : (o : Outcome Labelled) → (o >>= λ x. at (placeOf e) (booleanIn (x .value)) >>= λ t. after (conditionLabels c st (x .labels)) >>= λ st′. branch t (conditionLabels c st (x .labels)) st′) ≡ ((o >>= λ x. at (placeOf e) (booleanIn (x .value)) >>= λ t. after (conditionLabels c st (x .labels)) >>= λ st′. done (passed t (conditionLabels c st (x .labels)) st′)) >>= onward)
+    go (refused r q) = refl
+    go (done x) = decided (conditionLabels c st (x .labels)) (at (placeOf e) (booleanIn (x .value)))
+
+-- ---- The ways of `decide_if`
+
+-- the blocks from the place q on, where the code found it
+pub blocks-from : {m : List ℕ} {b q t : ℕ} → q ≡ t → (StandsAs m b BlockKind t × StandsAs m b BlockKind (endOf m t)) × Small (namesIn (blockAt m b t) ++ namesIn (blockAt m b (endOf m t))) → (StandsAs m b BlockKind q × StandsAs m b BlockKind (endOf m q)) × Small (namesIn (blockAt m b q) ++ namesIn (blockAt m b (endOf m q)))
+blocks-from e i = rw e i
+
+module _ (p l : ℕ) (a b : Block) (w : List ℕ) (scope : ℕ) (path : Labels) (x : Labelled) where
+  pub if-unlike : (tagOf the-type (x .value) ≡ 2 → ⊥) → Does w w scope path (testedAs (Refused WrongKind l)) (decideIf p l a b x)
+  unfolding decideIf testedAs at _>>=_
+  if-unlike h = record { says = λ c es n r here way. rw (not-boolean (x .value) h); keeps = keeps-same w }
+
+  module _ {w′ : List ℕ} {chose : Bool} {set : Labels} (entered : Ran) (is : x .value ≡ Boolean chose) (joined : set ≡ x .labels ∪ (path ∪ trailOf w)) (enter : (path : Labels) → Does w w′ scope path (ranAs entered) (afterIf p a b set)) where
+    same-set : (c : Context) (es : List Entry) (n r : ℕ) → c .path ≡ path → set ≡ conditionLabels c (stateOf w es n r) (x .labels)
+    unfolding conditionLabels stateOf
+    same-set c es n r way = joined ∙ ap (λ (q : Labels). x .labels ∪ (q ∪ trailOf w)) (sym way)
+
+    if-decided : (c : Context) (es : List Entry) (n r : ℕ) → c .scope ≡ scopeOf scope → c .path ≡ path → (ranAs entered (stateOf w′ es n r) >>= λ st′. done (passed chose set st′)) ≡ decideIf p l a b x c (stateOf w es n r)
+    unfolding decideIf at booleanIn _>>=_
+    if-decided c es n r here way =
+        ap (λ (o : Outcome State). o >>= λ st′. done (passed chose set st′)) (enter path .says c es n r here way)
+        ∙ ap (λ (k : Labels). afterIf p a b k c (stateOf w es n r) >>= λ st′. done (passed chose k st′)) (same-set c es n r way)
+        ∙ sym (ap (λ (v : Value). at l (booleanIn v) >>= λ t. afterIf p a b (conditionLabels c (stateOf w es n r) (x .labels)) c (stateOf w es n r) >>= λ st′. done (passed t (conditionLabels c (stateOf w es n r) (x .labels)) st′)) is)
+
+    pub if-stopped : (r : Reason) (q : ℕ) → entered ≡ Stopped r q → Does w w′ scope path (testedAs (Refused r q)) (decideIf p l a b x)
+    unfolding testedAs ranAs _>>=_
+    if-stopped reason q h = record {
+      says = λ c es n r here way. sym (ap (λ (e : Ran). ranAs e (stateOf w′ es n r) >>= λ st′. done (passed chose set st′)) h) ∙ if-decided c es n r here way;
+      keeps = enter path .keeps;
+    }
+
+    pub if-entered : entered ≡ Entered → Does w w′ scope path (testedAs (Branch chose set)) (decideIf p l a b x)
+    unfolding testedAs ranAs _>>=_
+    if-entered h = record {
+      says = λ c es n r here way. sym (ap (λ (e : Ran). ranAs e (stateOf w′ es n r) >>= λ st′. done (passed chose set st′)) h) ∙ if-decided c es n r here way;
+      keeps = enter path .keeps;
+    }
+
+-- ---- The ways of `test_if`
+
+pub conditional-here : {m : List ℕ} {d p : ℕ} → StandsAs m d StatementKind p → byte m p ≡ 0x22 → ConditionalAt m d (d - 1) p
+conditional-here s tag = conditional-opens (s .stands) (has-level s) tag
+
+pub condition-place : {m : List ℕ} {d p : ℕ} → StandsAs m d StatementKind p → length m ≤ 65535 → p + 3 ≤ 65535
+condition-place s l = omega (arith, has-header s)
+
+pub if-small : {m : List ℕ} {d p : ℕ} → StandsAs m d StatementKind p → byte m p ≡ 0x22 → Small (names (statementAt m d p)) → Small (namesIn (blockAt m (d - 1) (endOf m (p + 3))) ++ namesIn (blockAt m (d - 1) (endOf m (endOf m (p + 3)))))
+if-small s tag small = small-same small (conditional-names s refl tag refl)
+
+module _ {m w out : List ℕ} {d p fill scope : ℕ} {node : Bool} (s : StandsAs m d StatementKind p) (tag : byte m p ≡ 0x22) (e : Evaluated) (told : StandsAs m (d - 1) ExpressionKind (p + 3) → Tells m w out fill scope node (evaluated e) (λ k c st. evaluate k c st (expressionAt m (d - 1) (p + 3)))) where
+  test-run : {o : Outcome Labelled} (k : Known) (c : Context) (es : List Entry) (n r : ℕ) → evaluated e ≡ o → Ready m w out fill k es → c .scope ≡ scopeOf scope → c .base ≡ baseFor node → (o >>= λ x. decideIf p (p + 3) (blockAt m (d - 1) (endOf m (p + 3))) (blockAt m (d - 1) (endOf m (endOf m (p + 3)))) x c (stateOf w es n r)) ≡ testIfAt m (d - 1) p k c (stateOf w es n r)
+  unfolding testIfAt testIf
+  test-run k c es n r h ready here base =
+      ap₂ (λ (o : Outcome Labelled) (l : ℕ). o >>= λ x. decideIf p l (blockAt m (d - 1) (endOf m (p + 3))) (blockAt m (d - 1) (endOf m (endOf m (p + 3)))) x c (stateOf w es n r)) (sym h ∙ told (conditional-here s tag .condition) .says k c es n r ready here base) (sym (expression-place m (d - 1) (p + 3)))
+
+  pub test-refused : {path : Labels} (r : Reason) (q : ℕ) → e ≡ Fails r q → Tests m w w out fill scope node path (testedAs (Refused r q)) (testIfAt m (d - 1) p)
+  unfolding testedAs evaluated _>>=_
+  test-refused reason q h = record {
+    says = λ k c es n r ready here base way. test-run k c es n r (ap evaluated h) ready here base;
+    keeps = keeps-same w;
+  }
+
+  pub test-decided : {path : Labels} {w′ : List ℕ} (answer : Tested) (x : Labelled) → e ≡ Yields x → Does w w′ scope path (testedAs answer) (decideIf p (p + 3) (blockAt m (d - 1) (endOf m (p + 3))) (blockAt m (d - 1) (endOf m (endOf m (p + 3)))) x) → Tests m w w′ out fill scope node path (testedAs answer) (testIfAt m (d - 1) p)
+  unfolding evaluated _>>=_
+  test-decided answer x h i = record {
+    says = λ k c es n r ready here base way. i .says c es n r here way ∙ test-run k c es n r (ap evaluated h) ready here base;
+    keeps = i .keeps;
+  }

@@ -1,0 +1,98 @@
+-- One law for each way through `enter_if`: the marks, and the trail if a block declares.
+use Prim.Native.Nat.{ℕ}
+use mathlib.Core.Path.{_≡_, refl, sym, ap, _∙_}
+use mathlib.Core.Bool.{Bool, true, false, not, _||_}
+use mathlib.Core.List.{List, _++_}
+use Rattle.labels.specs.declared.Labels.{Labels}
+use Rattle.rules.specs.Outcome.{Outcome, refused, done, _>>=_}
+use Rattle.rules.specs.Tree.{Block}
+use Rattle.rules.specs.State.{Scope, Entry, State, Context, newCells, cellsFor, tested, trailWith}
+use Rattle.rules.specs.Run.{assignsIn, declaresIn, afterTest}
+use Rattle.cells.specs.Scopes.{scopeOf}
+use Rattle.cells.specs.Memory.{stateOf, outcome, trailed, Becomes}
+use Rattle.cells.specs.declared.Stored.{Stored}
+use Rattle.cells.specs.declared.Stored.the-variants.{Done as Held, HasValue, NoRoom}
+use Rattle.branches.specs.Names.{namesIn, Small}
+use Rattle.branches.specs.Marks.{Marks}
+use Rattle.branches.proofs.AfterTest.{both-answer}
+use Rattle.statements.specs.declared.Ran.{Ran}
+use Rattle.statements.specs.declared.Ran.the-variants.{Done, Refused}
+use Rattle.statements.specs.Answers.{ranAs, Keeps, Does}
+use Rattle.statements.specs.Tests.{afterIf}
+
+-- ---- The trail comes after the marks
+
+trailIf : Bool → Labels → State → State
+trailIf true k st = trailed k st
+trailIf false k st = st
+
+afterTest-trail : (p : ℕ) (c : Context) (f : ℕ → Bool) (d : Bool) (k : Labels) (st : State) → (afterTest p c f false k st >>= λ st′. done (trailIf d k st′)) ≡ afterTest p c f d k st
+unfolding afterTest _>>=_ tested trailed trailWith trailIf
+afterTest-trail p c f d k st = go d (cellsFor (st .used) (newCells f (st .cells (c .scope))) p)
+  where
+    go : (d : Bool) (o : Outcome (Unit {0})) → ((o >>= λ _. done (tested (c .scope) f false k st)) >>= λ st′. done (trailIf d k st′)) ≡ (o >>= λ _. done (tested (c .scope) f d k st))
+    go d (refused r q) = refl
+    go true (done u) = refl
+    go false (done u) = refl
+
+-- ---- What stays
+
+keeps-marks : {w w′ ns : List ℕ} {a : Stored} {s : Scope} {k : Labels} → Marks w w′ a s ns k → Keeps w w′
+keeps-marks i = record { names = i .names; rest = i .rest; fine = i .fine }
+
+keeps-trail : {w w₁ w₂ : List ℕ} (k : Labels) → Keeps w w₁ → Becomes w₁ w₂ (trailed k) (λ ns. ns) → Keeps w w₂
+keeps-trail k i t = record { names = t .names ∙ i .names; rest = t .rest ∙ i .rest; fine = λ f. t .fine (i .fine f) }
+
+-- ---- The ways, for the names that f tells
+
+stops : (a : Stored) (p : ℕ) (st : State) (g : State → State) → (a ≡ Held → ⊥) → outcome a p st ≡ (outcome a p st >>= λ st′. done (g st′))
+unfolding outcome _>>=_
+stops Held p st g h = absurd (h refl)
+stops HasValue p st g h = refl
+stops NoRoom p st g h = refl
+
+module _ (p : ℕ) (f : ℕ → Bool) (d : Bool) {w w₁ : List ℕ} (scope : ℕ) (k : Labels) (a : Stored) (marks : (c : Context) (es : List Entry) (n r : ℕ) → c .scope ≡ scopeOf scope → outcome a p (stateOf w₁ es n r) ≡ afterTest p c f false k (stateOf w es n r)) (keeps : Keeps w w₁) where
+  marked-then : (c : Context) (es : List Entry) (n r : ℕ) → c .scope ≡ scopeOf scope → (outcome a p (stateOf w₁ es n r) >>= λ st′. done (trailIf d k st′)) ≡ afterTest p c f d k (stateOf w es n r)
+  marked-then c es n r here = ap (λ (o : Outcome State). o >>= λ st′. done (trailIf d k st′)) (marks c es n r here) ∙ afterTest-trail p c f d k (stateOf w es n r)
+
+  pub marks-refused : (answer : Ran) → (a ≡ Held → ⊥) → ((st : State) → ranAs answer st ≡ outcome a p st) → (path : Labels) → Does w w₁ scope path (ranAs answer) (λ c st. afterTest p c f d k st)
+  marks-refused answer h told path = record {
+    says = λ c es n r here way. told (stateOf w₁ es n r) ∙ stops a p (stateOf w₁ es n r) (trailIf d k) h ∙ marked-then c es n r here;
+    keeps = keeps;
+  }
+
+  pub marks-only : a ≡ Held → d ≡ false → (path : Labels) → Does w w₁ scope path (ranAs Done) (λ c st. afterTest p c f d k st)
+  unfolding ranAs outcome _>>=_ trailIf
+  marks-only e l path = record {
+    says = λ c es n r here way. sym (ap (λ (x : Stored). outcome x p (stateOf w₁ es n r) >>= λ st′. done (trailIf d k st′)) e ∙ ap (λ (x : Bool). done (trailIf x k (stateOf w₁ es n r))) l) ∙ marked-then c es n r here;
+    keeps = keeps;
+  }
+
+  pub marks-trail : {w₂ : List ℕ} → a ≡ Held → d ≡ true → Becomes w₁ w₂ (trailed k) (λ ns. ns) → (path : Labels) → Does w w₂ scope path (ranAs Done) (λ c st. afterTest p c f d k st)
+  unfolding ranAs outcome _>>=_ trailIf
+  marks-trail e l t path = record {
+    says = λ c es n r here way. ap done (t .state es n r) ∙ sym (ap (λ (x : Stored). outcome x p (stateOf w₁ es n r) >>= λ st′. done (trailIf d k st′)) e ∙ ap (λ (x : Bool). done (trailIf x k (stateOf w₁ es n r))) l) ∙ marked-then c es n r here;
+    keeps = keeps-trail k keeps t;
+  }
+
+turned : {b : Bool} (d : Bool) → not d ≡ b → d ≡ not b
+turned true h = ap not h
+turned false h = ap not h
+
+-- ---- The blocks x and y of an if
+
+module _ (p : ℕ) (x y : Block) {w w₁ : List ℕ} (scope : ℕ) {k : Labels} {a : Stored} (small : Small (namesIn x ++ namesIn y)) (marks : Marks w w₁ a (scopeOf scope) (namesIn x ++ namesIn y) k) where
+  told : (c : Context) (es : List Entry) (n r : ℕ) → c .scope ≡ scopeOf scope → outcome a p (stateOf w₁ es n r) ≡ afterTest p c (λ n. assignsIn x n || assignsIn y n) false k (stateOf w es n r)
+  told c es n r here = both-answer c here p es n r x y small marks
+
+  pub if-refused : (answer : Ran) → (a ≡ Held → ⊥) → ((st : State) → ranAs answer st ≡ outcome a p st) → (path : Labels) → Does w w₁ scope path (ranAs answer) (afterIf p x y k)
+  unfolding afterIf
+  if-refused answer h r path = marks-refused p (λ n. assignsIn x n || assignsIn y n) (declaresIn x || declaresIn y) scope k a told (keeps-marks marks) answer h r path
+
+  pub if-marked : {d : Bool} → a ≡ Held → d ≡ (declaresIn x || declaresIn y) → not d ≡ true → (path : Labels) → Does w w₁ scope path (ranAs Done) (afterIf p x y k)
+  unfolding afterIf
+  if-marked {d} h e l path = marks-only p (λ n. assignsIn x n || assignsIn y n) (declaresIn x || declaresIn y) scope k a told (keeps-marks marks) h (sym e ∙ turned d l) path
+
+  pub if-trailed : {d : Bool} {w₂ : List ℕ} → a ≡ Held → d ≡ (declaresIn x || declaresIn y) → not d ≡ false → Becomes w₁ w₂ (trailed k) (λ ns. ns) → (path : Labels) → Does w w₂ scope path (ranAs Done) (afterIf p x y k)
+  unfolding afterIf
+  if-trailed {d} h e l t path = marks-trail p (λ n. assignsIn x n || assignsIn y n) (declaresIn x || declaresIn y) scope k a told (keeps-marks marks) h (sym e ∙ turned d l) t path

@@ -1,0 +1,55 @@
+-- Conditions up to the block that runs: the test, its set, the marks and the trail. That `run` is this and then the block is in proofs/Conditions.antt.
+use Prim.Native.Nat.{ℕ, _+_}
+use mathlib.Core.Path.{_≡_}
+use mathlib.Core.Bool.{Bool, _||_}
+use mathlib.Core.List.{List}
+use Rattle.labels.specs.declared.Labels.{Labels}
+use Rattle.values.specs.declared.Labelled.{Labelled}
+use Rattle.wire.specs.Bytes.{endOf}
+use Rattle.rules.specs.Outcome.{Outcome, refused, done, _>>=_, at}
+use Rattle.rules.specs.Arithmetic.{booleanIn}
+use Rattle.rules.specs.Tree.{Expression, placeOf, Block}
+use Rattle.rules.specs.State.{Entry, State, Context, Known}
+use Rattle.rules.specs.Evaluate.{evaluate}
+use Rattle.rules.specs.Run.{assignsIn, declaresIn, conditionLabels, afterTest}
+use Rattle.places.specs.At.{expressionAt, blockAt}
+use Rattle.cells.specs.Scopes.{scopeOf}
+use Rattle.cells.specs.Memory.{baseFor, stateOf}
+use Rattle.evaluator.specs.Known.{Ready}
+use Rattle.statements.specs.declared.Tested.{Tested}
+use Rattle.statements.specs.declared.Tested.the-variants.{Branch, Refused}
+use Rattle.statements.specs.Answers.{Keeps}
+
+-- after a test: what it chose, its set, and the state in which the block runs
+pub record Passed (A : Type 0) : Type 0 where
+  pub chosen : A
+  pub set : Labels
+  pub state : State
+
+abbrev pub passed : {A : Type 0} → A → Labels → State → Passed A
+passed a k st = record { chosen = a; set = k; state = st }
+
+-- the test of an if: its place p, its condition e, its blocks a and b
+
+unfoldable pub afterIf : (p : ℕ) → (a b : Block) → Labels → Context → State → Outcome State
+afterIf p a b k c st = afterTest p c (λ n. assignsIn a n || assignsIn b n) (declaresIn a || declaresIn b) k st
+
+-- its condition, at l, is x
+unfoldable pub decideIf : (p l : ℕ) → (a b : Block) → Labelled → Context → State → Outcome (Passed Bool)
+decideIf p l a b x c st = at l (booleanIn (x .value)) >>= λ t. afterIf p a b (conditionLabels c st (x .labels)) c st >>= λ st′. done (passed t (conditionLabels c st (x .labels)) st′)
+
+unfoldable pub testIf : (p : ℕ) → Expression → (a b : Block) → Known → Context → State → Outcome (Passed Bool)
+testIf p e a b k c st = evaluate k c st e >>= λ x. decideIf p (placeOf e) a b x c st
+
+-- the if at p, whose parts have b levels left
+unfoldable pub testIfAt : List ℕ → (b p : ℕ) → Known → Context → State → Outcome (Passed Bool)
+testIfAt m b p = testIf p (expressionAt m b (p + 3)) (blockAt m b (endOf m (p + 3))) (blockAt m b (endOf m (endOf m (p + 3))))
+
+unfoldable pub testedAs : Tested → State → Outcome (Passed Bool)
+testedAs (Branch t k) st = done (passed t k st)
+testedAs (Refused r p) st = refused r p
+
+-- an answer is what the test gives, in every state that the bytes stand for
+pub record Tests {A : Type 0} (m w w′ out : List ℕ) (fill scope : ℕ) (node : Bool) (path : Labels) (answer : State → Outcome A) (test : Known → Context → State → Outcome A) : Type 0 where
+  pub says : (k : Known) (c : Context) (es : List Entry) (n r : ℕ) → Ready m w out fill k es → c .scope ≡ scopeOf scope → c .base ≡ baseFor node → c .path ≡ path → answer (stateOf w′ es n r) ≡ test k c (stateOf w es n r)
+  pub keeps : Keeps w w′
