@@ -1,5 +1,5 @@
 -- The law of a condition, `run` is its test and then the block chosen; and one law for each way through `decide_if` and `test_if`.
-use Prim.Native.Nat.{ℕ, suc, _+_, _-_, _≤_, _<_}
+use Prim.Native.Nat.{ℕ, _+_, _-_, _≤_}
 use mathlib.Core.Path.{_≡_, refl, sym, ap, ap₂, _∙_}
 use mathlib.Core.Bool.{Bool, true, false, _||_}
 use mathlib.Core.List.{List, _++_}
@@ -10,12 +10,12 @@ use Rattle.labels.specs.declared.Labels.{Labels}
 use Rattle.labels.specs.Sets.{_∪_}
 use Rattle.values.specs.declared.Labelled.{Labelled}
 use Rattle.values.specs.declared.Value.{Value}
-use Rattle.values.specs.declared.Value.the-variants.{Integer, String, Boolean}
+use Rattle.values.specs.declared.Value.the-variants.{Boolean}
 use Rattle.values.specs.declared.Reason.{Reason}
 use Rattle.values.specs.declared.Reason.the-variants.{WrongKind}
 use Rattle.values.proofs.Value.{the-type}
 use Rattle.wire.specs.Bytes.{pick, byte, endOf}
-use Rattle.rules.specs.Outcome.{Outcome, refused, done, _>>=_, Result, fails, gives, at}
+use Rattle.rules.specs.Outcome.{Outcome, refused, done, _>>=_, at}
 use Rattle.rules.specs.Arithmetic.{booleanIn}
 use Rattle.rules.specs.Tree.{Expression, placeOf, Block, conditional}
 use Rattle.rules.specs.State.{Entry, State, Context, Known}
@@ -40,7 +40,7 @@ use Rattle.statements.specs.declared.Ran.{Ran}
 use Rattle.statements.specs.declared.Ran.the-variants.{Done as Entered, Refused as Stopped}
 use Rattle.statements.specs.declared.Tested.{Tested}
 use Rattle.statements.specs.declared.Tested.the-variants.{Branch, Refused}
-use Rattle.statements.specs.Answers.{ranAs, Keeps, Does}
+use Rattle.statements.specs.Answers.{ranAs, Does}
 use Rattle.statements.specs.Tests.{Passed, passed, afterIf, decideIf, testIf, testIfAt, testedAs, Tests}
 use Rattle.statements.proofs.Assigning.{keeps-same, has-level, has-header}
 

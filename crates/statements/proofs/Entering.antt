@@ -16,7 +16,7 @@ use Rattle.branches.specs.Names.{namesIn, Small}
 use Rattle.branches.specs.Marks.{Marks}
 use Rattle.branches.proofs.AfterTest.{both-answer}
 use Rattle.statements.specs.declared.Ran.{Ran}
-use Rattle.statements.specs.declared.Ran.the-variants.{Done, Refused}
+use Rattle.statements.specs.declared.Ran.the-variants.{Done}
 use Rattle.statements.specs.Answers.{ranAs, Keeps, Does}
 use Rattle.statements.specs.Tests.{afterIf}
 

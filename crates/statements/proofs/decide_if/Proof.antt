@@ -1,5 +1,4 @@
 use native.Mathlib.Omega.{arith}
-use mathlib.Core.Path.{_≡_}
 use mathlib.Core.Logic.{⊎-elim}
 use Rattle.statements.proofs.Conditions.{blocks-from, if-unlike, if-stopped, if-entered}
 use borrow.Author.Needs.{needs}

@@ -1,4 +1,3 @@
-use native.Mathlib.Omega.{arith}
 use Rattle.branches.proofs.Folds.{other-answer}
 use Rattle.statements.proofs.Entering.{if-refused, if-marked, if-trailed}
 use borrow.Author.Needs.{needs}

@@ -1,0 +1,154 @@
+-- The ways of `check`. Assumes nothing.
+use Prim.Native.Nat.{ℕ, _+_, _-_}
+use mathlib.Core.Path.{_≡_, refl, sym, ap, _∙_, subst}
+use mathlib.Core.Bool.{Bool, true, false, _||_, not}
+use mathlib.Core.List.{List, [], _∷_}
+use native.Mathlib.Omega.{arith}
+use lib.Dec.{eqb}
+use lib.ListN.{length, drop}
+use Rattle.labels.specs.declared.Labels.{Labels}
+use Rattle.labels.specs.Sets.{_∪_}
+use Rattle.values.specs.declared.Reason.the-variants.{Unknown, ResourceAgain, AttributeAgain, OutputFull}
+use Rattle.wire.specs.Bytes.{pick, two, fieldsIn}
+use Rattle.rules.specs.Outcome.{Outcome, refused, done, _>>=_, refuseIf}
+use Rattle.rules.specs.State.{Attribute, Entry, State, Context, Known, withEntry}
+use Rattle.rules.specs.Evaluate.{any, isEntry}
+use Rattle.rules.specs.Catalog.{entryBytes}
+use Rattle.rules.specs.Run.{Given, isGiven, namedOnce, storedLabels, attributesUnder, entryFrom, addEntry, addResource}
+use Rattle.rules.specs.Compile.{onto}
+use Rattle.rules.proofs.Lists.{Each}
+use Rattle.rules.proofs.ReadBack.{FitsAttribute}
+use Rattle.rules.proofs.Unique.{UniqueEntries, unique}
+use Rattle.cells.specs.Memory.{stateOf}
+use Rattle.catalog.specs.declared.Place.{Place}
+use Rattle.catalog.specs.declared.Place.the-variants.{At, Nothing}
+use Rattle.catalog.specs.Making.{entry, Holding}
+use Rattle.catalog.specs.Finding.{Written}
+use Rattle.catalog.proofs.Order.{onto-last, any-in-order}
+use Rattle.resources.specs.declared.Ran.{Ran}
+use Rattle.resources.specs.declared.Ran.the-variants.{Refused}
+use Rattle.resources.specs.Attributes.{attributesFor, Kept}
+use Rattle.resources.specs.Names.{hasName, repeatedIn, Alike, alikeNone, alike}
+use Rattle.resources.specs.Entries.{Entered, full, entered, Means, refusedSo, doneSo, Checks}
+use Rattle.resources.proofs.Finishing.{kept-all}
+
+-- ---- Names by their places
+
+unfoldable pub repeatedOutcome : Place → Outcome (Unit {0})
+repeatedOutcome (At q) = refused AttributeAgain q
+repeatedOutcome Nothing = done tt
+
+named-as : (m : List ℕ) (earlier : List Given) (places : List ℕ) {gs : List Given} {qs : List ℕ} → ((n : ℕ) → any (isGiven n) earlier ≡ any (hasName m n) places) → Alike m gs qs → namedOnce earlier gs ≡ repeatedOutcome (repeatedIn m places qs)
+unfolding namedOnce repeatedIn repeatedOutcome any isGiven refuseIf _>>=_
+named-as m earlier places same alikeNone = refl
+named-as m earlier places same (alike {q = q} {x = x} {gs = gs} {qs = qs} a) =
+    ap (λ (b : Bool). refuseIf b AttributeAgain q >>= λ _. namedOnce (g ∷ earlier) gs) (same (two m (q + 3))) ∙ go (named-as m (g ∷ earlier) (q ∷ places) (λ n. ap (λ (b : Bool). eqb (two m (q + 3)) n || b) (same n)) a) (any (hasName m (two m (q + 3))) places)
+  where
+    g : Given
+    g = record { place = q; name = two m (q + 3); content = x }
+
+    go : namedOnce (g ∷ earlier) gs ≡ repeatedOutcome (repeatedIn m (q ∷ places) qs) → (b : Bool) → (refuseIf b AttributeAgain q >>= λ _. namedOnce (g ∷ earlier) gs) ≡ repeatedOutcome (pick b (At q) (repeatedIn m (q ∷ places) qs))
+    go later true = refl
+    go later false = later
+
+pub named-places : (m : List ℕ) {gs : List Given} {qs : List ℕ} {f : Place} → f ≡ repeatedIn m [] qs → Alike m gs qs → namedOnce [] gs ≡ repeatedOutcome f
+unfolding any
+named-places m e a = named-as m [] [] (λ n. refl) a ∙ ap repeatedOutcome (sym e)
+
+-- ---- The checks one after the other
+
+module _ (k : Known) (p t title : ℕ) (labels : Labels) (gs : List Given) (c : Context) (st : State) where
+  not-known : k .builtIn t ≡ false → addResource k p t title labels gs c st ≡ refused Unknown p
+  unfolding addResource refuseIf _>>=_
+  not-known e = rw e
+
+  there-already : k .builtIn t ≡ true → any (isEntry t title) (st .entries) ≡ true → addResource k p t title labels gs c st ≡ refused ResourceAgain p
+  unfolding addResource refuseIf _>>=_
+  there-already e f = rw (e, f)
+
+  named-twice : {q : ℕ} → k .builtIn t ≡ true → any (isEntry t title) (st .entries) ≡ false → namedOnce [] gs ≡ refused AttributeAgain q → addResource k p t title labels gs c st ≡ refused AttributeAgain q
+  unfolding addResource refuseIf _>>=_
+  named-twice e f g = rw (e, f, g)
+
+  all-right : k .builtIn t ≡ true → any (isEntry t title) (st .entries) ≡ false → namedOnce [] gs ≡ done tt → addResource k p t title labels gs c st ≡ addEntry p (entryFrom t title labels c st gs) st
+  unfolding addResource refuseIf _>>=_
+  all-right e f g = rw (e, f, g)
+
+under-for : (outer own : Labels) (c : Context) (st : State) (gs : List Given) → outer ≡ c .path ∪ st .trail → attributesUnder own c st gs ≡ attributesFor outer own gs
+unfolding attributesUnder attributesFor storedLabels
+under-for outer own c st [] e = refl
+under-for outer own c st (g ∷ gs) e =
+    (λ i. record { name = g .name; content = record { value = g .content .value; labels = (g .content .labels ∪ sym e i) ∪ own } } ∷ under-for outer own c st gs e i)
+
+entry-for : (t title : ℕ) (labels outer own : Labels) (c : Context) (st : State) (gs : List Given) → outer ≡ c .path ∪ st .trail → own ≡ labels ∪ outer → entryFrom t title labels c st gs ≡ entry t title own (attributesFor outer own gs)
+unfolding entryFrom storedLabels
+entry-for t title labels outer own c st gs e f =
+    let set : labels ∪ (c .path ∪ st .trail) ≡ own = ap (λ (l : Labels). labels ∪ l) (sym e) ∙ sym f in
+    ap (λ (l : Labels). entry t title l (attributesUnder l c st gs)) set ∙ ap (entry t title own) (under-for outer own c st gs e)
+
+not-true : (b : Bool) → not b ≡ true → b ≡ false
+not-true true e = sym e
+not-true false e = refl
+
+not-false : (b : Bool) → not b ≡ false → b ≡ true
+not-false true e = refl
+not-false false e = sym e
+
+-- ---- The ways
+
+module _ (m out : List ℕ) (fill size room p first end : ℕ) (built : Bool) (title : ℕ) (own : Labels) where
+  pub check-unknown : {r : Ran} → not built ≡ true → r ≡ Refused Unknown p → Checks m out out fill size room p first end built title own r
+  check-unknown {r} is answer = record {
+    kept = kept-all out fill;
+    says = λ w k c es n gs labels outer b written u o1 o2 h fits a.
+        subst (λ (v : Ran). Means w out fill room n es (addResource k p (two m (p + 3)) title labels gs c (stateOf w es n room)) v) (sym answer)
+        (refusedSo (not-known k p (two m (p + 3)) title labels gs c (stateOf w es n room) (b ∙ not-true built is)));
+  }
+
+  module _ (known : not built ≡ false) {kind : ℕ} (read : kind ≡ two m (p + 3)) {has : Bool} (looked : (es : List Entry) → Written out fill es → has ≡ any (isEntry kind title) es) where
+    is : built ≡ true
+    is = not-false built known
+
+    found : (es : List Entry) → Written out fill (onto es []) → UniqueEntries es → has ≡ any (isEntry (two m (p + 3)) title) es
+    found es written u = looked (onto es []) written ∙ any-in-order kind title es u ∙ ap (λ (t : ℕ). any (isEntry t title) es) read
+
+    pub check-again : {r : Ran} → has ≡ true → r ≡ Refused ResourceAgain p → Checks m out out fill size room p first end built title own r
+    unfolding stateOf
+    check-again {r} there answer = record {
+      kept = kept-all out fill;
+      says = λ w k c es n gs labels outer b written u o1 o2 h fits a.
+          subst (λ (v : Ran). Means w out fill room n es (addResource k p (two m (p + 3)) title labels gs c (stateOf w es n room)) v) (sym answer)
+          (refusedSo (there-already k p (two m (p + 3)) title labels gs c (stateOf w es n room) (b ∙ is) (sym (found es written u) ∙ there)));
+    }
+
+    module _ (no : has ≡ false) {f : Place} (repeated : f ≡ repeatedIn m [] (fieldsIn m first end)) where
+      pub check-twice : {q : ℕ} {r : Ran} → f ≡ At q → r ≡ Refused AttributeAgain q → Checks m out out fill size room p first end built title own r
+      unfolding stateOf repeatedOutcome
+      check-twice {q} {r} at answer = record {
+        kept = kept-all out fill;
+        says = λ w k c es n gs labels outer b written u o1 o2 h fits a.
+            subst (λ (v : Ran). Means w out fill room n es (addResource k p (two m (p + 3)) title labels gs c (stateOf w es n room)) v) (sym answer)
+            (refusedSo (named-twice k p (two m (p + 3)) title labels gs c (stateOf w es n room) (b ∙ is) (sym (found es written u) ∙ no) (named-places m repeated a ∙ ap repeatedOutcome at)));
+      }
+
+      means-entered : {out′ : List ℕ} {r : Ran} (w : List ℕ) (n : ℕ) (es : List Entry) (ats : List Attribute) → UniqueEntries es → any (isEntry kind title) es ≡ false → Entered out′ fill room p (onto es []) (entry kind title own ats) r → Means w out′ fill room n es (addEntry p (entry kind title own ats) (stateOf w es n room)) r
+      unfolding addEntry stateOf withEntry refuseIf _>>=_
+      means-entered w n es ats u new (full e) = refusedSo {r = OutputFull} {p = p} (rw e)
+      means-entered {out′} w n es ats u new (entered {f = g} size-is e written) =
+          let left : room - length (entryBytes (entry kind title own ats)) ≡ room - (g - fill) = omega arith in
+          doneSo {f = g} (entry kind title own ats) (rw (e, left)) (subst (λ (l : List Entry). Written out′ g l) (sym (onto-last (entry kind title own ats) es)) written) (unique new u)
+
+      pub check-rest : {out′ : List ℕ} {r : Ran} → f ≡ Nothing → Kept out out′ fill → ((ats : List Attribute) (es : List Entry) → Holding (drop fill out) size ats → Each FitsAttribute ats → Written out fill es → Entered out′ fill room p es (entry kind title own ats) r)
+          → Checks m out out′ fill size room p first end built title own r
+      unfolding stateOf repeatedOutcome
+      check-rest {out′} {r} none kept finished = record {
+        kept = kept;
+        says = λ w k c es n gs labels outer b written u o1 o2 h fits a.
+            let st = stateOf w es n room in
+            let new : any (isEntry kind title) es ≡ false = sym (any-in-order kind title es u) ∙ sym (looked (onto es []) written) ∙ no in
+            let same : addResource k p (two m (p + 3)) title labels gs c (stateOf w es n room) ≡ addEntry p (entry kind title own (attributesFor outer own gs)) (stateOf w es n room) =
+            all-right k p (two m (p + 3)) title labels gs c (stateOf w es n room) (b ∙ is) (sym (found es written u) ∙ no) (named-places m repeated a ∙ ap repeatedOutcome none)
+            ∙ ap (λ (e : Entry). addEntry p e (stateOf w es n room)) (entry-for (two m (p + 3)) title labels outer own c (stateOf w es n room) gs o1 o2)
+            ∙ ap (λ (t : ℕ). addEntry p (entry t title own (attributesFor outer own gs)) (stateOf w es n room)) (sym read) in
+            subst (λ (o : Outcome State). Means w out′ fill room n es o r) (sym same) (means-entered w n es (attributesFor outer own gs) u new (finished (attributesFor outer own gs) (onto es []) h fits written));
+      }

@@ -1,0 +1,204 @@
+-- The ways of the functions that gather a resource's attributes. Assumes nothing.
+use Prim.Native.Nat.{ℕ, suc, _+_, _-_, _≤_, _<_}
+use mathlib.Core.Path.{_≡_, refl, sym, ap, _∙_, subst}
+use mathlib.Core.Bool.{Bool, true, false}
+use mathlib.Core.List.{List, [], _∷_, _++_, append-assoc, append-nil}
+use native.Mathlib.Omega.{arith}
+use borrow.Rule.Slice.PartMut.{midOf, putMid}
+use lib.Dec.{ltb}
+use lib.ListN.{length, take, drop, length-append, length-drop}
+use lib.Seq.{length-take-le}
+use Rattle.labels.specs.declared.Labels.{Labels}
+use Rattle.labels.specs.Sets.{_∪_, Words64}
+use Rattle.labels.proofs.Laws.{words-union}
+use Rattle.values.specs.declared.Labelled.{Labelled}
+use Rattle.values.specs.declared.Reason.{Reason}
+use Rattle.wire.specs.Bytes.{pick, two, endOf, fieldsIn}
+use Rattle.wire.specs.Runs.{over}
+use Rattle.wire.proofs.Laws.{over-length}
+use Rattle.rules.specs.Outcome.{Outcome, refused, done, _>>=_}
+use Rattle.rules.specs.State.{Attribute, Entry, Context, Known}
+use Rattle.rules.specs.Evaluate.{evaluate}
+use Rattle.rules.specs.Catalog.{attributeBytes}
+use Rattle.rules.specs.Run.{Given, evaluateAll}
+use Rattle.rules.specs.declared.Kind.the-variants.{Expression as ExpressionKind, Attribute as AttributeKind}
+use Rattle.rules.proofs.Lists.{Each, noneLeft, also}
+use Rattle.rules.proofs.ReadBack.{FitsValue, FitsAttribute}
+use Rattle.places.specs.At.{expressionAt, attributeAt, attributesAt, StandsAs, Siblings}
+use Rattle.places.proofs.Parts.{FirstSibling, first-sibling, no-sibling}
+use Rattle.places.proofs.Statements.{attribute-opens}
+use Rattle.cells.specs.Scopes.{scopeOf}
+use Rattle.cells.specs.Memory.{baseFor, stateOf}
+use Rattle.catalog.specs.Making.{stored, attribute, addAttribute, Holding}
+use Rattle.catalog.proofs.Growing.{holding-none, holding-more, attribute-grown, front-kept, rest-back, written-kept}
+use Rattle.catalog.proofs.Stores.{part-lent, part-back}
+use Rattle.evaluator.specs.declared.Evaluated.{Evaluated}
+use Rattle.evaluator.specs.declared.Evaluated.the-variants.{Value as Yields, Refused as NotEvaluated}
+use Rattle.evaluator.specs.Answers.{evaluated}
+use Rattle.evaluator.specs.Known.{Ready, Tells, Sized}
+use Rattle.evaluator.proofs.Expressions.{Small, operand-told}
+use Rattle.resources.specs.declared.Ran.{Ran}
+use Rattle.resources.specs.declared.Ran.the-variants.{Done, Refused}
+use Rattle.resources.specs.Attributes.{underBoth, attributesFor, Kept, Appended, Added, notAdded, added, Gathered, notGathered, gathered}
+
+-- ---- The way of `append`
+
+rest-long : (rest : List ℕ) (size : ℕ) (a : Attribute) {n : ℕ} {rest′ : List ℕ} → stored n rest′ ≡ addAttribute rest size a → length rest′ ≡ length rest
+unfolding addAttribute
+rest-long rest size a {n} {rest′} e = go (ltb (length rest) (size + length (attributeBytes a))) e
+  where
+    go : (b : Bool) → stored n rest′ ≡ stored (size + length (attributeBytes a)) (pick b rest (over rest size (attributeBytes a))) → length rest′ ≡ length rest
+    go true f = let same : rest′ ≡ rest = cc in ap length same
+    go false f = let same : rest′ ≡ over rest size (attributeBytes a) = cc in ap length same ∙ over-length rest size (attributeBytes a)
+
+pub appended : (out : List ℕ) (fill size name : ℕ) (x : Labelled) (outer own : Labels) {u v : Labels} {n : ℕ} {rest′ : List ℕ} → fill ≤ length out → u ≡ x .labels ∪ outer → v ≡ u ∪ own
+    → stored n rest′ ≡ addAttribute (midOf fill (length out - fill) out) size (attribute name (record { value = x .value; labels = v }))
+    → name < 65536 → FitsValue (x .value) → Words64 (x .labels) → Words64 outer → Words64 own
+    → Appended out (putMid fill (length out - fill) out rest′) fill size n (attribute name (underBoth outer own x))
+appended out fill size name x outer own {u} {v} {n} {rest′} within e f g small value set1 set2 set3 =
+    let set : v ≡ (x .labels ∪ outer) ∪ own = f ∙ ap (λ (l : Labels). l ∪ own) e in
+    let lent : stored n rest′ ≡ addAttribute (drop fill out) size (attribute name (underBoth outer own x)) =
+    g ∙ ap (λ (l : List ℕ). addAttribute l size (attribute name (record { value = x .value; labels = v }))) (part-lent out fill)
+    ∙ ap (λ (l : Labels). addAttribute (drop fill out) size (attribute name (record { value = x .value; labels = l }))) set in
+    record {
+      rest = ap (stored n) (rest-back out fill within rest′) ∙ lent;
+      kept = record {
+        front = front-kept out fill within rest′;
+        long = ap length (part-back out fill rest′) ∙ length-append (take fill out) rest′ ∙ omega (arith, rest-long (drop fill out) size _ lent, length-take-le fill out within, length-drop fill out);
+      };
+      fits = record { name = small; content = record { value = value; labels = words-union (x .labels ∪ outer) own (words-union (x .labels) outer set1 set2) set3 } };
+    }
+
+-- ---- The ways of `add_attribute`
+
+module _ (m w out : List ℕ) (fill size scope : ℕ) (node : Bool) (d q : ℕ) (outer own : Labels) (short : length m ≤ 65535) {t : ℕ} (small : Small t (q + 5)) (e : Evaluated) (told : StandsAs m d ExpressionKind t → Tells m w out fill scope node (evaluated e) (λ k c st. evaluate k c st (expressionAt m d t))) where
+  told-there : {o : Outcome Labelled} → evaluated e ≡ o → StandsAs m d ExpressionKind (q + 5) → Tells m w out fill scope node o (λ k c st. evaluate k c st (expressionAt m d (q + 5)))
+  told-there is s = subst (λ (a : Outcome Labelled). Tells m w out fill scope node a (λ k c st. evaluate k c st (expressionAt m d (q + 5)))) is (operand-told m w out fill scope node d (q + 5) short s small told)
+
+  pub attribute-stops : {r : Reason} {p : ℕ} → e ≡ NotEvaluated r p → Added m w out out fill size scope node d q outer own (Refused r p)
+  unfolding evaluated
+  attribute-stops is = notAdded refl (told-there (ap evaluated is))
+
+  pub attribute-goes-on : (x : Labelled) {n name : ℕ} {out′ : List ℕ} → e ≡ Yields x → name ≡ two m (q + 3) → Appended out out′ fill size n (attribute name (underBoth outer own x)) → Added m w out out′ fill size scope node d q outer own (Done n)
+  unfolding evaluated
+  attribute-goes-on x {n} {name} {out′} is named h = added x (subst (λ (k : ℕ). Appended out out′ fill size n (attribute k (underBoth outer own x))) named h) (told-there (ap evaluated is))
+
+-- ---- The ways of `gather`
+
+ready-kept : {m w out out′ : List ℕ} {fill : ℕ} {k : Known} {es : List Entry} → take fill out′ ≡ take fill out → Ready m w out fill k es → Ready m w out′ fill k es
+ready-kept same r = record { catalog = written-kept same (r .catalog); unique = r .unique; known = r .known }
+
+-- outcomes one after the other, with the attributes before them
+unfoldable pub after : List Given → Outcome (List Given) → Outcome (List Given)
+after gs o = o >>= λ hs. done (gs ++ hs)
+
+after-one : (gs : List Given) (g : Given) (o : Outcome (List Given)) → after gs (o >>= λ hs. done (g ∷ hs)) ≡ after (gs ++ (g ∷ [])) o
+unfolding after _>>=_
+after-one gs g (refused r p) = refl
+after-one gs g (done hs) = ap done (sym (append-assoc gs (g ∷ []) hs))
+
+attributes-more : (outer own : Labels) (gs : List Given) (g : Given) → attributesFor outer own (gs ++ (g ∷ [])) ≡ attributesFor outer own gs ++ (attribute (g .name) (underBoth outer own (g .content)) ∷ [])
+unfolding attributesFor
+attributes-more outer own [] g = refl
+attributes-more outer own (h ∷ gs) g = ap (λ (l : List Attribute). attribute (h .name) (underBoth outer own (h .content)) ∷ l) (attributes-more outer own gs g)
+
+each-last : {l : List Attribute} {a : Attribute} → Each FitsAttribute l → FitsAttribute a → Each FitsAttribute (l ++ (a ∷ []))
+each-last noneLeft f = also f noneLeft
+each-last (also g gs) f = also g (each-last gs f)
+
+-- what is left from q on says, after gs, what all of them say
+pub record Rest (m w out : List ℕ) (fill scope : ℕ) (node : Bool) (d first end q : ℕ) (gs : List Given) : Type 0 where
+  pub attributes : Siblings m d AttributeKind q end
+  pub says : (k : Known) (c : Context) (es : List Entry) (n r : ℕ) → Ready m w out fill k es → c .scope ≡ scopeOf scope → c .base ≡ baseFor node
+      → after gs (evaluateAll k c (stateOf w es n r) (attributesAt m d (fieldsIn m q end))) ≡ evaluateAll k c (stateOf w es n r) (attributesAt m d (fieldsIn m first end))
+
+-- the attributes up to q are appended, from the output out₀ to out
+pub record Gathering (m w out₀ out : List ℕ) (fill scope : ℕ) (node : Bool) (d first end : ℕ) (outer own : Labels) (size q : ℕ) : Type 0 where
+  pub gs : List Given
+  pub holding : Holding (drop fill out) size (attributesFor outer own gs)
+  pub fits : Each FitsAttribute (attributesFor outer own gs)
+  pub kept : Kept out₀ out fill
+  pub rest : Siblings m d AttributeKind first end → Rest m w out₀ fill scope node d first end q gs
+
+pub gathering-begins : (m w out : List ℕ) (fill scope : ℕ) (node : Bool) (d first end : ℕ) (outer own : Labels) → Gathering m w out out fill scope node d first end outer own 39 first
+unfolding attributesFor after _>>=_
+gathering-begins m w out fill scope node d first end outer own = record {
+  gs = [];
+  holding = holding-none (drop fill out);
+  fits = noneLeft;
+  kept = record { front = refl; long = refl };
+  rest = λ s. record { attributes = s; says = λ k c es n r h e b. same (evaluateAll k c (stateOf w es n r) (attributesAt m d (fieldsIn m first end))) };
+}
+  where
+    same : (o : Outcome (List Given)) → after [] o ≡ o
+    same (refused r p) = refl
+    same (done hs) = refl
+
+module _ {m w out₀ out : List ℕ} {fill scope : ℕ} {node : Bool} {d first end : ℕ} {outer own : Labels} {size q : ℕ} (so-far : Gathering m w out₀ out fill scope node d first end outer own size q) where
+  module _ (b : ℕ) (deep : d ≡ suc b) (more : q < end) where
+    here : (s : Siblings m d AttributeKind first end) → FirstSibling m d AttributeKind q end
+    here s = first-sibling (so-far .rest s .attributes) more
+
+    -- the answer for the attribute at q
+    answer : {o : Outcome Labelled} → (StandsAs m b ExpressionKind (q + 5) → Tells m w out fill scope node o (λ k c st. evaluate k c st (expressionAt m b (q + 5)))) → Siblings m d AttributeKind first end
+        → (k : Known) (c : Context) (es : List Entry) (n r : ℕ) → Ready m w out₀ fill k es → c .scope ≡ scopeOf scope → c .base ≡ baseFor node
+        → after (so-far .gs) (o >>= λ x. evaluateAll k c (stateOf w es n r) (attributesAt m d (fieldsIn m (endOf m q) end)) >>= λ hs. done (record { place = q; name = two m (q + 3); content = x } ∷ hs))
+        ≡ evaluateAll k c (stateOf w es n r) (attributesAt m d (fieldsIn m first end))
+    unfolding evaluateAll attributesAt attributeAt
+    answer {o} told s k c es n r h e f =
+        let below : b ≡ d - 1 = omega arith in
+        let st = stateOf w es n r in
+        let it : o ≡ evaluate k c st (expressionAt m (d - 1) (q + 5)) = told (attribute-opens (here s .here) deep .expression) .says k c es n r (ready-kept (so-far .kept .front) h) e f ∙ ap (λ (j : ℕ). evaluate k c st (expressionAt m j (q + 5))) below in
+        ap (λ (u : Outcome Labelled). after (so-far .gs) (u >>= λ x. evaluateAll k c st (attributesAt m d (fieldsIn m (endOf m q) end)) >>= λ hs. done (record { place = q; name = two m (q + 3); content = x } ∷ hs))) it
+        ∙ ap (λ (qs : List ℕ). after (so-far .gs) (evaluateAll k c st (attributesAt m d qs))) (sym (here s .places))
+        ∙ so-far .rest s .says k c es n r h e f
+
+    pub gathering-on : {out′ : List ℕ} {s : Ran} {n r : ℕ} → Added m w out out′ fill size scope node b q outer own s → s ≡ Done n → r ≡ endOf m q → Gathering m w out₀ out′ fill scope node d first end outer own n r
+    unfolding _>>=_
+    gathering-on {out′} {s} {n} {r} a is next = subst (λ (j : ℕ). Gathering m w out₀ out′ fill scope node d first end outer own n j) (sym next) (go (subst (λ (v : Ran). Added m w out out′ fill size scope node b q outer own v) is a))
+      where
+        go : Added m w out out′ fill size scope node b q outer own (Done n) → Gathering m w out₀ out′ fill scope node d first end outer own n (endOf m q)
+        go (added x h told) =
+            let g : Given = record { place = q; name = two m (q + 3); content = x } in
+            let l : attributesFor outer own (so-far .gs ++ (g ∷ [])) ≡ attributesFor outer own (so-far .gs) ++ (attribute (two m (q + 3)) (underBoth outer own x) ∷ []) = attributes-more outer own (so-far .gs) g in
+            record {
+              gs = so-far .gs ++ (g ∷ []);
+              holding = subst (λ (z : List Attribute). Holding (drop fill out′) n z) (sym l) (holding-more (drop fill out) size (attributesFor outer own (so-far .gs)) (attribute (two m (q + 3)) (underBoth outer own x)) (so-far .holding) (h .rest));
+              fits = subst (λ (z : List Attribute). Each FitsAttribute z) (sym l) (each-last (so-far .fits) (h .fits));
+              kept = record { front = h .kept .front ∙ so-far .kept .front; long = h .kept .long ∙ so-far .kept .long };
+              rest = λ s. record {
+                attributes = here s .after;
+                says = λ k c es n r y e f. sym (after-one (so-far .gs) g (evaluateAll k c (stateOf w es n r) (attributesAt m d (fieldsIn m (endOf m q) end)))) ∙ answer told s k c es n r y e f;
+              };
+            }
+
+    pub gathering-stops : {out′ : List ℕ} {s : Ran} {r : Reason} {p : ℕ} → Added m w out out′ fill size scope node b q outer own s → s ≡ Refused r p → Gathered m w out₀ out′ fill scope node d first end outer own s
+    unfolding after _>>=_
+    gathering-stops {out′} {s} {r} {p} a is = subst (λ (v : Ran). Gathered m w out₀ out′ fill scope node d first end outer own v) (sym is) (go (subst (λ (v : Ran). Added m w out out′ fill size scope node b q outer own v) is a))
+      where
+        go : Added m w out out′ fill size scope node b q outer own (Refused r p) → Gathered m w out₀ out′ fill scope node d first end outer own (Refused r p)
+        go (notAdded same told) = notGathered (record { front = ap (take fill) same ∙ so-far .kept .front; long = ap length same ∙ so-far .kept .long }) (λ s. record { says = λ k c es n r y e f. answer told s k c es n r y e f })
+
+  pub gathering-ends : end ≤ q → Gathered m w out₀ out fill scope node d first end outer own (Done size)
+  unfolding evaluateAll attributesAt after _>>=_
+  gathering-ends over = gathered (so-far .gs) (so-far .kept) (so-far .holding) (so-far .fits) (λ s. record {
+    says = λ k c es n r y e f.
+        ap done (sym (append-nil (so-far .gs)))
+        ∙ ap (λ (qs : List ℕ). after (so-far .gs) (evaluateAll k c (stateOf w es n r) (attributesAt m d qs))) (sym (no-sibling (so-far .rest s .attributes) over .places))
+        ∙ so-far .rest s .says k c es n r y e f;
+  })
+
+-- the output is as long, and the entry grew by no more than 48 bytes
+pub added-kept : {m w out out′ : List ℕ} {fill size scope : ℕ} {node : Bool} {d q : ℕ} {outer own : Labels} {s : Ran} → Added m w out out′ fill size scope node d q outer own s → length out′ ≡ length out
+added-kept (notAdded same told) = ap length same
+added-kept (added x h told) = h .kept .long
+
+pub added-most : {m w out out′ : List ℕ} {fill size scope : ℕ} {node : Bool} {d q : ℕ} {outer own : Labels} {s : Ran} {n : ℕ} → Added m w out out′ fill size scope node d q outer own s → s ≡ Done n → n ≤ size + 48
+added-most {m} {w} {out} {out′} {fill} {size} {scope} {node} {d} {q} {outer} {own} {s} {n} a is = go (subst (λ (v : Ran). Added m w out out′ fill size scope node d q outer own v) is a)
+  where
+    go : Added m w out out′ fill size scope node d q outer own (Done n) → n ≤ size + 48
+    go (added x h told) = attribute-grown (drop fill out) size (attribute (two m (q + 3)) (underBoth outer own x)) (h .rest) .most
+
+-- the same lengths, at another place of the manifest and with the output as long
+pub sized-kept : {m w out out′ : List ℕ} {fill p q : ℕ} → Sized m w out fill p → length out′ ≡ length out → q ≤ p → Sized m w out′ fill q
+sized-kept s long l = record { memory = s .memory; filled = omega (arith, s .filled); short = s .short; manifest = s .manifest; place = omega (arith, s .place) }

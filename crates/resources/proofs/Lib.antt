@@ -1,0 +1,6 @@
+pub mod Ranges
+pub mod Gathering
+pub mod Repeats
+pub mod Finishing
+pub mod Checking
+pub mod Whole

@@ -1,0 +1,98 @@
+-- The ways of the functions that look for a name given twice. Assumes nothing.
+use Prim.Native.Nat.{ℕ, _+_, _≤_, _<_}
+use mathlib.Core.Path.{_≡_, refl, sym, ap, _∙_}
+use mathlib.Core.Bool.{Bool, true, false, _||_}
+use mathlib.Core.List.{List, [], _∷_}
+use native.Mathlib.Omega.{arith}
+use borrow.Author.Tests.{eq-eqb, ne-eqb}
+use Rattle.wire.specs.Bytes.{pick, two, endOf, fieldsIn}
+use Rattle.wire.proofs.Fields.{no-fields, field-first}
+use Rattle.rules.specs.Evaluate.{any}
+use Rattle.catalog.specs.declared.Place.the-variants.{At, Nothing}
+use Rattle.resources.specs.Names.{hasName, repeatedIn}
+
+-- ---- The ways of `is_named`: what is left from q on says what all of them say
+
+module _ (m : List ℕ) (first end name q : ℕ) where
+  named-here : q < end → any (hasName m name) (fieldsIn m q end) ≡ (hasName m name q || any (hasName m name) (fieldsIn m (endOf m q) end))
+  unfolding any
+  named-here more = ap (any (hasName m name)) (field-first m q end more)
+
+  pub named-found : any (hasName m name) (fieldsIn m q end) ≡ any (hasName m name) (fieldsIn m first end) → q < end → {n : ℕ} → n ≡ two m (q + 3) → n ≡ name → true ≡ any (hasName m name) (fieldsIn m first end)
+  named-found left more {n} read is = ap (λ (b : Bool). b || any (hasName m name) (fieldsIn m (endOf m q) end)) (sym (eq-eqb (two m (q + 3)) name (sym read ∙ is))) ∙ sym (named-here more) ∙ left
+
+  pub named-further : any (hasName m name) (fieldsIn m q end) ≡ any (hasName m name) (fieldsIn m first end) → q < end → {n r : ℕ} → n ≡ two m (q + 3) → (n ≡ name → ⊥) → r ≡ endOf m q → any (hasName m name) (fieldsIn m r end) ≡ any (hasName m name) (fieldsIn m first end)
+  named-further left more {n} {r} read is next =
+      ap (λ (p : ℕ). any (hasName m name) (fieldsIn m p end)) next
+      ∙ ap (λ (b : Bool). b || any (hasName m name) (fieldsIn m (endOf m q) end)) (sym (ne-eqb (two m (q + 3)) name (λ e. is (read ∙ e)))) ∙ sym (named-here more) ∙ left
+
+  pub named-nowhere : any (hasName m name) (fieldsIn m q end) ≡ any (hasName m name) (fieldsIn m first end) → end ≤ q → false ≡ any (hasName m name) (fieldsIn m first end)
+  unfolding any
+  named-nowhere left over = ap (any (hasName m name)) (sym (no-fields m q end over)) ∙ left
+
+-- ---- Fields reached from a place on
+
+pub data Reaches (m : List ℕ) (q : ℕ) : (p : ℕ) → Type 0 where
+  reached : Reaches m q q
+  further : {p : ℕ} → p < q → Reaches m q (endOf m p) → Reaches m q p
+
+reaches-low : {m : List ℕ} {q p : ℕ} → Reaches m q p → p ≤ q
+reaches-low reached = omega arith
+reaches-low (further l r) = omega arith
+
+pub reaches-next : {m : List ℕ} {q p : ℕ} → Reaches m q p → Reaches m (endOf m q) p
+reaches-next {q = q} reached = further {p = q} (omega arith) reached
+reaches-next (further {p = p} l r) = further {p = p} (omega arith) (reaches-next r)
+
+or-swap : (a b c : Bool) → (a || (b || c)) ≡ (b || (a || c))
+or-swap true true c = refl
+or-swap true false c = refl
+or-swap false true c = refl
+or-swap false false c = refl
+
+-- one more field
+any-next : {m : List ℕ} {q p : ℕ} (f : ℕ → Bool) → Reaches m q p → any f (fieldsIn m p (endOf m q)) ≡ (f q || any f (fieldsIn m p q))
+unfolding any
+any-next {m} {q} f reached = ap (any f) (field-first m q (endOf m q) (omega arith) ∙ ap (λ (l : List ℕ). q ∷ l) (no-fields m (endOf m q) (endOf m q) (omega arith))) ∙ ap (λ (l : List ℕ). f q || any f l) (sym (no-fields m q q (omega arith)))
+any-next {m} {q} {p} f (further l r) =
+    ap (any f) (field-first m p (endOf m q) (omega arith))
+    ∙ ap (λ (b : Bool). f p || b) (any-next f r)
+    ∙ or-swap (f p) (f q) (any f (fieldsIn m (endOf m p) q))
+    ∙ ap (λ (l : List ℕ). f q || any f l) (sym (field-first m p q l))
+
+-- ---- The ways of `find_repeated`: no name up to q is repeated
+
+pub record Single (m : List ℕ) (first end q : ℕ) : Type 0 where
+  pub earlier : List ℕ
+  pub reaches : Reaches m q first
+  pub same : (f : ℕ → Bool) → any f (fieldsIn m first q) ≡ any f earlier
+  pub left : repeatedIn m earlier (fieldsIn m q end) ≡ repeatedIn m [] (fieldsIn m first end)
+
+pub single-begins : (m : List ℕ) (first end : ℕ) → Single m first end first
+unfolding any
+single-begins m first end = record { earlier = []; reaches = reached; same = λ f. ap (any f) (no-fields m first first (omega arith)); left = refl }
+
+module _ {m : List ℕ} {first end q : ℕ} (s : Single m first end q) where
+  module _ (more : q < end) {n : ℕ} {b : Bool} (read : n ≡ two m (q + 3)) (named : b ≡ any (hasName m n) (fieldsIn m first q)) where
+    decided : b ≡ any (hasName m (two m (q + 3))) (s .earlier)
+    decided = named ∙ ap (λ (k : ℕ). any (hasName m k) (fieldsIn m first q)) read ∙ s .same (hasName m (two m (q + 3)))
+
+    choice : pick b (At q) (repeatedIn m (q ∷ s .earlier) (fieldsIn m (endOf m q) end)) ≡ repeatedIn m [] (fieldsIn m first end)
+    unfolding repeatedIn
+    choice = ap (λ (x : Bool). pick x (At q) (repeatedIn m (q ∷ s .earlier) (fieldsIn m (endOf m q) end))) decided ∙ ap (repeatedIn m (s .earlier)) (sym (field-first m q end more)) ∙ s .left
+
+    pub repeated-here : b ≡ true → At q ≡ repeatedIn m [] (fieldsIn m first end)
+    repeated-here is = rw is at choice
+
+    pub repeated-further : {r : ℕ} → b ≡ false → r ≡ endOf m q → Single m first end r
+    unfolding any
+    repeated-further {r} is next = rw next (record {
+      earlier = q ∷ s .earlier;
+      reaches = reaches-next (s .reaches);
+      same = λ f. any-next f (s .reaches) ∙ ap (λ (x : Bool). f q || x) (s .same f);
+      left = rw is at choice;
+    })
+
+  pub repeated-nowhere : end ≤ q → Nothing ≡ repeatedIn m [] (fieldsIn m first end)
+  unfolding repeatedIn
+  repeated-nowhere over = ap (repeatedIn m (s .earlier)) (sym (no-fields m q end over)) ∙ s .left

@@ -1,0 +1,81 @@
+-- `finish`: longer than the room, or the header in front of the attributes.
+use native.Mathlib.Omega.{arith}
+use Rattle.labels.specs.Sets.{Words64}
+use Rattle.resources.proofs.Finishing.{lent-kept, finish-early, finish-full, finish-fits, kept-all}
+use borrow.Author.Needs.{needs}
+use Rattle.resources.proofs.finish.Statement.{statement}
+use Rattle.resources.proofs.finish.Tie as tie
+
+refusal-requires : tie.Need-refusal-requires
+refusal-requires c κs = search needs
+
+returns : tie.Need-returns
+returns c =
+    let s = c .before .before .before in
+    let a = s .args in
+    (kept-all _ _, finish-early (a .out .now) (a .fill) (a .size) (a .room) (a .p) (a .kind) (a .title) (a .own) (s .pre .0) (c .before .if1 .taken) (c .refusal .ensures))
+
+sub-finish-entry : tie.Need-sub-finish-entry
+sub-finish-entry c = search needs
+
+part-finish-entry-start : tie.Need-part-finish-entry-start
+part-finish-entry-start c = search needs
+
+part-finish-entry-end : tie.Need-part-finish-entry-end
+part-finish-entry-end c = search needs
+
+finish-entry-requires : tie.Need-finish-entry-requires
+finish-entry-requires c κs = search needs
+
+enum-told : tie.Need-enum-told
+enum-told c = search needs
+
+refusal-requires-2 : tie.Need-refusal-requires-2
+refusal-requires-2 c κs = search needs
+
+enum-told-2 : tie.Need-enum-told-2
+enum-told-2 c = search needs
+
+add-t18 : tie.Need-add-t18
+add-t18 c = search needs
+
+same-length : tie.Need-same-length
+same-length c = search needs
+
+returns-2 : tie.Need-returns-2
+returns-2 c =
+    let s = c .before .before .before .before .before .before .before .before .before in
+    let a = s .args in
+    (lent-kept (a .out .now) (a .fill) (a .size) (a .room) (a .p) (a .kind) (a .title) (a .own) (s .pre .0) (s .pre .1 .1 .1 .1 .0) (c .before .before .before .before .before .finish-entry .ensures) (same-length c), finish-full (a .out .now) (a .fill) (a .size) (a .room) (a .p) (a .kind) (a .title) (a .own) (s .pre .0) (s .pre .1 .1 .1 .1 .0) (c .before .before .before .before .before .finish-entry .ensures) (same-length c) (c .before .enum-told .given .1) (c .refusal2 .ensures))
+
+same-length-2 : tie.Need-same-length-2
+same-length-2 c = search needs
+
+-- each word of the set fits its type
+words : (c : tie.Start) → Words64 (c .args .own)
+words c = record { small0 = omega arith; small1 = omega arith; small2 = omega arith; small3 = omega arith }
+
+returns-3 : tie.Need-returns-3
+returns-3 c =
+    let s = c .before .before .before .before .before .before .before .before in
+    let a = s .args in
+    (lent-kept (a .out .now) (a .fill) (a .size) (a .room) (a .p) (a .kind) (a .title) (a .own) (s .pre .0) (s .pre .1 .1 .1 .1 .0) (c .before .before .before .before .finish-entry .ensures) (same-length-2 c), finish-fits (a .out .now) (a .fill) (a .size) (a .room) (a .p) (a .kind) (a .title) (a .own) (s .pre .0) (s .pre .1 .1 .1 .1 .0) (c .before .before .before .before .finish-entry .ensures) (same-length-2 c) (c .enum-told2 .given .1) (omega (arith, s .fits .kind)) (omega (arith, s .fits .title)) (words s))
+
+pub finish-spec : {M : Type 1} → statement M
+finish-spec =
+    tie.close
+    (tie.spec
+    refusal-requires
+    returns
+    sub-finish-entry
+    part-finish-entry-start
+    part-finish-entry-end
+    finish-entry-requires
+    enum-told
+    refusal-requires-2
+    enum-told-2
+    add-t18
+    same-length
+    returns-2
+    same-length-2
+    returns-3)
