@@ -1,88 +1,30 @@
 -- Names in the working memory: the four reads that are the crate `memory`'s (with its laws), and which names are types and classes. Assumes nothing.
-use Prim.Native.Nat.{ℕ, _+_, _-_, _≤_, _<_}
+use Prim.Native.Nat.{ℕ, _≤_}
 use mathlib.Core.Path.{_≡_, refl, sym, ap, _∙_}
-use mathlib.Core.Bool.{Bool, true, false, not, _||_}
+use mathlib.Core.Bool.{Bool, true, false, _||_}
 use mathlib.Core.List.{List, []}
-use mathlib.Core.Option.{Option, none, some}
+use mathlib.Core.Option.{Option}
 use native.Mathlib.Omega.{arith}
-use borrow.Author.Tests.{ne-eqb, le-ltb, eq-eqb}
-use lib.Dec.{eqb, ltb}
-use lib.ListN.{length}
-use Rattle.wire.specs.Bytes.{pick, byte, two}
+use borrow.Author.Tests.{ne-eqb, le-ltb}
+use lib.Dec.{eqb}
+use Rattle.wire.specs.Bytes.{pick, byte}
 use Rattle.rules.specs.Tree.{TypeDefinition, ClassDefinition}
-use Rattle.rules.specs.State.{Base, baseScope, DeclaredClass, parentOfClass, parentOf, oneIf, Known, isSome}
+use Rattle.rules.specs.State.{Known, isSome}
 use Rattle.rules.specs.Evaluate.{findType, findClass, isType, isClass}
 use Rattle.rules.specs.Compile.{onto}
 use Rattle.rules.specs.Catalog.{catalogBytes}
 use Rattle.rules.proofs.Lists.{noneLeft}
 use Rattle.rules.proofs.Unique.{uniqueNone}
-use Rattle.cells.specs.Layout.{recordAt, table, NameRecord, blankRecord, nameAt, recordsOf}
-use Rattle.cells.specs.Scopes.{scopeOf}
-use Rattle.cells.specs.Memory.{baseFor, classFrom, classIn, definitionIn, builtInIn, classesOf, definitionOf, builtInOf}
-use Rattle.cells.proofs.Scopes.{scope-cases, top-scope, node-scope}
-use Rattle.cells.proofs.Tables.{table-in}
-use Rattle.evaluator.specs.declared.Above.the-variants.{At, Nothing}
-use Rattle.evaluator.specs.Names.{scopeAbove}
+use Rattle.cells.specs.Layout.{table, blankRecord, recordsOf}
+use Rattle.cells.specs.Memory.{definitionIn, builtInIn, definitionOf, builtInOf}
 use Rattle.evaluator.specs.Known.{DefinedAt, undefined, typeAt, classAt, KnownIn, Ready, definedTag}
 
 -- ---- A name's record
-
-record-in : (w : List ℕ) (k : ℕ) → k < 1024 → recordsOf w k ≡ nameAt w k
-unfolding recordsOf
-record-in w k h = table-in 1024 (nameAt w) blankRecord k h
 
 -- past the last name nothing is said
 record-out : (w : List ℕ) (k : ℕ) → 1024 ≤ k → recordsOf w k ≡ blankRecord
 unfolding recordsOf table
 record-out w k h = simp (le-ltb k 1024 h)
-
-class-read : (w : List ℕ) (k : ℕ) → k < 1024 → classesOf w k ≡ classFrom (byte w (recordAt k + 4)) (two w (recordAt k + 6))
-unfolding classesOf classIn nameAt
-class-read w k below = rw (record-in w k below) refl
-
-module _ (w : List ℕ) (k : ℕ) (room : 65536 ≤ length w) (below : k < 1024) where
-  pub definition-read : {r : ℕ} → r ≡ two w (recordAt k + 2) → r ≡ definitionOf w k
-  unfolding definitionOf definitionIn nameAt
-  definition-read e = rw (record-in w k below) e
-
-  pub built-in-read : {r : ℕ} → r ≡ byte w (recordAt k + 5) → not (eqb r 0) ≡ builtInOf w k
-  unfolding builtInOf builtInIn nameAt
-  built-in-read e = rw (record-in w k below, e) refl
-
--- ---- The ways of `parent_of`
-
-module _ (w : List ℕ) (b : Bool) (a : ℕ) where
-  pub above-top : a ≡ 0 → scopeAbove Nothing ≡ parentOf (classesOf w) (baseFor b) (scopeOf a)
-  unfolding scopeAbove parentOf
-  above-top e = scope-cases (λ s. none ≡ parentOf (classesOf w) (baseFor b) s) a (λ _. refl) (λ p. absurd (omega arith)) (λ p q. absurd (omega arith)) (λ p. absurd (omega arith))
-
-  pub above-node : a ≡ 1 → scopeAbove (At 0) ≡ parentOf (classesOf w) (baseFor b) (scopeOf a)
-  unfolding scopeAbove parentOf
-  above-node e = scope-cases (λ s. some (scopeOf 0) ≡ parentOf (classesOf w) (baseFor b) s) a (λ p. absurd (omega arith)) (λ _. ap some top-scope) (λ p q. absurd (omega arith)) (λ p. absurd (omega arith))
-
-  pub above-body : {r : ℕ} → 1026 ≤ a → r ≡ oneIf b → scopeAbove (At r) ≡ parentOf (classesOf w) (baseFor b) (scopeOf a)
-  unfolding scopeAbove parentOf oneIf baseFor baseScope
-  above-body {r} h e = scope-cases (λ s. some (scopeOf r) ≡ parentOf (classesOf w) (baseFor b) s) a (λ p. absurd (omega arith)) (λ p. absurd (omega arith)) (λ p q. absurd (omega arith)) (λ p. ap some (ap scopeOf e ∙ base b))
-    where
-      base : (b : Bool) → scopeOf (oneIf b) ≡ baseScope (baseFor b)
-      base true = node-scope
-      base false = top-scope
-
-  -- a class: its record is that of the name a - 2
-  above-class : (o : Option DeclaredClass) → 2 ≤ a → a < 1026 → classesOf w (a - 2) ≡ o → parentOf (classesOf w) (baseFor b) (scopeOf a) ≡ parentOfClass o
-  unfolding parentOf
-  above-class o h l e =
-      scope-cases (λ s. parentOf (classesOf w) (baseFor b) s ≡ parentOfClass o) a (λ p. absurd (omega arith)) (λ p. absurd (omega arith)) (λ p q. ap parentOfClass e) (λ p. absurd (omega arith))
-
-  pub above-unknown : {t : ℕ} → (a ≡ 0 → ⊥) → (a ≡ 1 → ⊥) → a < 1026 → t ≡ byte w (recordAt (a - 2) + 4) → t ≡ 0 → scopeAbove Nothing ≡ parentOf (classesOf w) (baseFor b) (scopeOf a)
-  unfolding scopeAbove parentOfClass classFrom
-  above-unknown {t} n0 n1 l e z = sym (above-class none (omega (arith, n0, n1)) l (class-read w (a - 2) (omega arith) ∙ rw (sym e, z) refl))
-
-  pub above-known : {t q : ℕ} → (a ≡ 0 → ⊥) → (a ≡ 1 → ⊥) → a < 1026 → t ≡ byte w (recordAt (a - 2) + 4) → (t ≡ 0 → ⊥) → q ≡ two w (recordAt (a - 2) + 6)
-      → scopeAbove (At q) ≡ parentOf (classesOf w) (baseFor b) (scopeOf a)
-  unfolding scopeAbove parentOfClass classFrom
-  above-known {t} {q} n0 n1 l e nz eq =
-      sym (above-class (some (record { parent = scopeOf q; base = baseFor (eqb t 2) })) (omega (arith, n0, n1)) l (class-read w (a - 2) (omega arith) ∙ rw (sym e, ne-eqb t 0 nz, sym eq) refl))
 
 -- ---- The ways of `defined_tag`
 

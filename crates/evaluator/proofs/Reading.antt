@@ -26,11 +26,11 @@ use Rattle.cells.specs.declared.Held.the-variants.{Empty, Holds}
 use Rattle.cells.specs.Scopes.{scopeOf}
 use Rattle.cells.specs.Memory.{heldOf, seenOf, cellsOf, classesOf, baseFor}
 use Rattle.cells.proofs.Scopes.{class-scope}
-use Rattle.evaluator.specs.declared.Above.{Above}
-use Rattle.evaluator.specs.declared.Above.the-variants.{At, Nothing}
+use Rattle.memory.specs.declared.Above.{Above}
+use Rattle.memory.specs.declared.Above.the-variants.{At, Nothing}
 use Rattle.evaluator.specs.declared.Evaluated.the-variants.{Value as Yields}
 use Rattle.evaluator.specs.Answers.{evaluated}
-use Rattle.evaluator.specs.Names.{scopeAbove}
+use Rattle.memory.specs.Names.{scopeAbove}
 use Rattle.catalog.specs.declared.Found.{Found}
 use Rattle.catalog.specs.declared.Found.the-variants.{Content, Nothing as NotFound}
 use Rattle.catalog.specs.Finding.{Written, lookUp, foundIn}

@@ -1,4 +1,3 @@
 pub mod Answers
 pub mod Operators
 pub mod Known
-pub mod Names

@@ -7,18 +7,17 @@ ghost use lib.ListN.{length};
 ghost use Rattle.wire.specs.Bytes.{byte, two, endOf, fieldsIn};
 ghost use Rattle.rules.specs.Outcome.{refused, plain, joining};
 ghost use Rattle.rules.specs.Read.{operatorFrom};
-ghost use Rattle.rules.specs.State.{Entry, Known, upward, parentOf, oneIf};
+ghost use Rattle.rules.specs.State.{Entry, Known, upward};
 ghost use Rattle.rules.specs.Evaluate.{isType, isClass, readIn, operate, ofConstant};
 ghost use Rattle.rules.specs.Evaluate as rules;
 ghost use Rattle.rules.specs.declared.Kind.the-variants.{Expression, Arm};
 ghost use Rattle.places.specs.At.{valueAt, constantAt, expressionAt, armsAt, StandsAs, Siblings};
 ghost use Rattle.places.proofs.Expressions.{OperationAt, NegationAt, AttributeReadAt, SelectorAt};
 ghost use Rattle.cells.specs.Scopes.{scopeOf};
-ghost use Rattle.cells.specs.Memory.{cellsOf, classesOf, baseFor, definitionOf, builtInOf};
+ghost use Rattle.cells.specs.Memory.{cellsOf, classesOf, baseFor};
 ghost use Rattle.evaluator.specs.Answers.{evaluated};
 ghost use Rattle.evaluator.specs.Operators.{beginInteger, beginBoolean, arithmetic, bothIntegers, rightBoolean, resultOf, computedAt};
 ghost use Rattle.evaluator.specs.Operators as operators;
-ghost use Rattle.evaluator.specs.Names.{scopeAbove};
 ghost use Rattle.evaluator.specs.Known.{KnownIn, Ready, Tells, Sized, definedTag, triedAt, classRead, attributeOf};
 use labels::Labels;
 use values::Computed;
@@ -219,58 +218,6 @@ fn negated(operand: usize, x: Value) -> Evaluated
     plain_value(Value::Boolean(!b))
 }
 
-// ---- Names in the working memory: the contracts are those of the crate `memory`, whose functions take the place of these four
-
-const NAMES: usize = 39456;
-
-// The number of the scope above another one.
-enum Above {
-    At(u16),
-    Nothing,
-}
-
-// 0 where the name has no definition.
-fn definition_at(work: &[u8], name: u16) -> u16
-    requires { ⌜ (65536 ≤ length (now work)) × (name < 1024) ⌝ }
-    ensures { λ r. ⌜ r ≡ definitionOf (now (work .entry)) name ⌝ }
-{
-    wire::two_at(work, NAMES + 8 * name as usize + 2)
-}
-
-fn built_in(work: &[u8], name: u16) -> bool
-    requires { ⌜ (65536 ≤ length (now work)) × (name < 1024) ⌝ }
-    ensures { λ r. ⌜ r ≡ builtInOf (now (work .entry)) name ⌝ }
-{
-    wire::byte_at(work, NAMES + 8 * name as usize + 5) != 0
-}
-
-fn base_scope(base_is_node: bool) -> u16
-    ensures { λ r. ⌜ r ≡ oneIf «base_is_node» ⌝ }
-{
-    base_is_node as u16
-}
-
-// The parent of a scope, for code whose base is node or top.
-fn parent_of(work: &[u8], base_is_node: bool, scope: u16) -> Above
-    requires { ⌜ 65536 ≤ length (now work) ⌝ }
-    ensures { λ r. ⌜ scopeAbove r ≡ parentOf (classesOf (now (work .entry))) (baseFor «base_is_node») (scopeOf scope) ⌝ }
-{
-    if scope == 0 {
-        return Above::Nothing;
-    }
-    if scope == 1 {
-        return Above::At(0);
-    }
-    if 1026 <= scope {
-        return Above::At(base_scope(base_is_node));
-    }
-    let record = NAMES + 8 * (scope - 2) as usize;
-    if wire::byte_at(work, record + 4) == 0 {
-        return Above::Nothing;
-    }
-    Above::At(wire::two_at(work, record + 6))
-}
-
 // ---- Reads
 
 // A variable in a scope, or else in those above it: at most so many are tried.
@@ -299,7 +246,7 @@ fn read_up(
             }
             cells::Held::Empty => {}
         }
-        let Above::At(q) = parent_of(work, base_is_node, at) else {
+        let memory::Above::At(q) = memory::parent_of(work, base_is_node, at) else {
             return refusal(Reason::NoValue, p);
         };
         at = q;
@@ -312,7 +259,7 @@ fn defined_tag(m: &[u8], work: &[u8], name: u16) -> u8
     requires { ⌜ (65536 ≤ length (now work)) × (name < 1024) ⌝ }
     ensures { λ r. ⌜ r ≡ definedTag (now (m .entry)) (now (work .entry)) name ⌝ }
 {
-    let q = definition_at(work, name);
+    let q = memory::definition_at(work, name);
     if q == 0 {
         return 0;
     }
@@ -336,7 +283,7 @@ fn is_type(m: &[u8], work: &[u8], name: u16) -> bool
     if 1024 <= name {
         return false;
     }
-    if built_in(work, name) {
+    if memory::built_in(work, name) {
         return true;
     }
     defined_tag(m, work, name) == 0x32
