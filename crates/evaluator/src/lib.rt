@@ -99,7 +99,7 @@ fn value_at(m: &[u8], p: usize) -> Value
     }
 }
 
-fn constant_at(m: &[u8], p: usize) -> Labelled
+pub fn constant_at(m: &[u8], p: usize) -> Labelled
     requires { ⌜ p < 4294967296 ⌝ }
     ensures { λ r. ⌜ r ≡ ofConstant (constantAt (now (m .entry)) p) ⌝ }
 {

@@ -1,5 +1,5 @@
 -- One law for each way through `store_answer`, `store` and `assign`.
-use Prim.Native.Nat.{ℕ, suc, _+_, _-_, _≤_}
+use Prim.Native.Nat.{ℕ, _+_, _-_, _≤_}
 use mathlib.Core.Path.{_≡_, refl, sym, ap, ap₂, _∙_}
 use mathlib.Core.Bool.{Bool}
 use mathlib.Core.List.{List}
@@ -17,10 +17,8 @@ use Rattle.rules.specs.State.{Scope, Entry, State, Context, Known}
 use Rattle.rules.specs.State as state
 use Rattle.rules.specs.Evaluate.{evaluate}
 use Rattle.rules.specs.Run.{Declare, run, store, stored, storedLabels}
-use Rattle.rules.specs.declared.Kind.{Kind}
 use Rattle.rules.specs.declared.Kind.the-variants.{Statement, Expression}
 use Rattle.places.specs.At.{expressionAt, statementAt, StandsAs}
-use Rattle.places.proofs.Open.{level, header-within}
 use Rattle.places.proofs.Statements.{AssignmentAt, assignment-opens}
 use Rattle.cells.specs.Layout.{trailOf}
 use Rattle.cells.specs.Scopes.{scopeOf}
@@ -31,7 +29,8 @@ use Rattle.cells.specs.declared.Stored.the-variants.{Done as Held, HasValue, No
 use Rattle.evaluator.specs.declared.Evaluated.{Evaluated}
 use Rattle.evaluator.specs.declared.Evaluated.the-variants.{Value as Yields, Refused as Fails}
 use Rattle.evaluator.specs.Answers.{evaluated}
-use Rattle.evaluator.specs.Known.{Ready, Tells, Sized}
+use Rattle.evaluator.specs.Known.{Ready, Tells}
+use Rattle.branches.proofs.Standing.{has-level, has-header}
 use Rattle.statements.specs.declared.Ran.{Ran}
 use Rattle.statements.specs.declared.Ran.the-variants.{Done, Refused}
 use Rattle.statements.specs.Answers.{ranAs, Keeps, Does, Runs}
@@ -52,17 +51,6 @@ ran-full p e st = rw e
 
 pub keeps-same : (w : List ℕ) → Keeps w w
 keeps-same w = record { names = refl; rest = refl; fine = λ f. f }
-
--- ---- Sizes
-
-pub resized : {m w out : List ℕ} {fill p q : ℕ} → Sized m w out fill p → q ≤ 65535 → Sized m w out fill q
-resized s l = record { memory = s .memory; filled = s .filled; short = s .short; manifest = s .manifest; place = l }
-
-pub has-level : {m : List ℕ} {d p : ℕ} {k : Kind} → StandsAs m d k p → d ≡ suc (d - 1)
-has-level s = level (s .stands)
-
-pub has-header : {m : List ℕ} {d p : ℕ} {k : Kind} → StandsAs m d k p → p + 3 ≤ length m
-has-header s = header-within (s .stands)
 
 -- ---- Stores
 

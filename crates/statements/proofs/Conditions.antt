@@ -34,6 +34,7 @@ use Rattle.evaluator.proofs.Operators.{not-boolean}
 use Rattle.evaluator.specs.Answers.{evaluated}
 use Rattle.evaluator.specs.Known.{Ready, Tells}
 use Rattle.branches.specs.Names.{names, namesIn, Small}
+use Rattle.branches.proofs.Standing.{has-level, has-header}
 use Rattle.branches.proofs.Folds.{small-same}
 use Rattle.branches.proofs.Marking.{conditional-names}
 use Rattle.statements.specs.declared.Ran.{Ran}
@@ -42,7 +43,7 @@ use Rattle.statements.specs.declared.Tested.{Tested}
 use Rattle.statements.specs.declared.Tested.the-variants.{Branch, Refused}
 use Rattle.statements.specs.Answers.{ranAs, Does}
 use Rattle.statements.specs.Tests.{Passed, passed, afterIf, decideIf, testIf, testIfAt, testedAs, Tests}
-use Rattle.statements.proofs.Assigning.{keeps-same, has-level, has-header}
+use Rattle.statements.proofs.Assigning.{keeps-same}
 
 -- ---- The law
 

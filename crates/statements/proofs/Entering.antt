@@ -1,24 +1,25 @@
--- One law for each way through `enter_if`: the marks, and the trail if a block declares.
+-- One law for each way through `enter_if` and `enter_case`: the marks, and the trail if a block declares.
 use Prim.Native.Nat.{ℕ}
 use mathlib.Core.Path.{_≡_, refl, sym, ap, _∙_}
 use mathlib.Core.Bool.{Bool, true, false, not, _||_}
 use mathlib.Core.List.{List, _++_}
 use Rattle.labels.specs.declared.Labels.{Labels}
 use Rattle.rules.specs.Outcome.{Outcome, refused, done, _>>=_}
-use Rattle.rules.specs.Tree.{Block}
+use Rattle.rules.specs.Tree.{Block, Branches}
 use Rattle.rules.specs.State.{Scope, Entry, State, Context, newCells, cellsFor, tested, trailWith}
-use Rattle.rules.specs.Run.{assignsIn, declaresIn, afterTest}
+use Rattle.rules.specs.Run.{assignsIn, assignsAny, declaresIn, declaresAny, afterTest}
 use Rattle.cells.specs.Scopes.{scopeOf}
 use Rattle.cells.specs.Memory.{stateOf, outcome, trailed, Becomes}
 use Rattle.cells.specs.declared.Stored.{Stored}
 use Rattle.cells.specs.declared.Stored.the-variants.{Done as Held, HasValue, NoRoom}
-use Rattle.branches.specs.Names.{namesIn, Small}
+use Rattle.branches.specs.Names.{namesIn, namesAny, Small}
 use Rattle.branches.specs.Marks.{Marks}
-use Rattle.branches.proofs.AfterTest.{both-answer}
+use Rattle.branches.proofs.AfterTest.{both-answer, any-answer}
 use Rattle.statements.specs.declared.Ran.{Ran}
 use Rattle.statements.specs.declared.Ran.the-variants.{Done}
 use Rattle.statements.specs.Answers.{ranAs, Keeps, Does}
 use Rattle.statements.specs.Tests.{afterIf}
+use Rattle.statements.specs.Cases.{afterCase}
 
 -- ---- The trail comes after the marks
 
@@ -96,3 +97,21 @@ module _ (p : ℕ) (x y : Block) {w w₁ : List ℕ} (scope : ℕ) {k : Labels} 
   pub if-trailed : {d : Bool} {w₂ : List ℕ} → a ≡ Held → d ≡ (declaresIn x || declaresIn y) → not d ≡ false → Becomes w₁ w₂ (trailed k) (λ ns. ns) → (path : Labels) → Does w w₂ scope path (ranAs Done) (afterIf p x y k)
   unfolding afterIf
   if-trailed {d} h e l t path = marks-trail p (λ n. assignsIn x n || assignsIn y n) (declaresIn x || declaresIn y) scope k a told (keeps-marks marks) h (sym e ∙ turned d l) t path
+
+-- ---- The branches of a case
+
+module _ (p : ℕ) (bs : Branches) {w w₁ : List ℕ} (scope : ℕ) {k : Labels} {a : Stored} (small : Small (namesAny bs)) (marks : Marks w w₁ a (scopeOf scope) (namesAny bs) k) where
+  told-any : (c : Context) (es : List Entry) (n r : ℕ) → c .scope ≡ scopeOf scope → outcome a p (stateOf w₁ es n r) ≡ afterTest p c (assignsAny bs) false k (stateOf w es n r)
+  told-any c es n r here = any-answer c here p es n r bs small marks
+
+  pub case-refused : (answer : Ran) → (a ≡ Held → ⊥) → ((st : State) → ranAs answer st ≡ outcome a p st) → (path : Labels) → Does w w₁ scope path (ranAs answer) (afterCase p bs k)
+  unfolding afterCase
+  case-refused answer h r path = marks-refused p (assignsAny bs) (declaresAny bs) scope k a told-any (keeps-marks marks) answer h r path
+
+  pub case-marked : {d : Bool} → a ≡ Held → d ≡ declaresAny bs → not d ≡ true → (path : Labels) → Does w w₁ scope path (ranAs Done) (afterCase p bs k)
+  unfolding afterCase
+  case-marked {d} h e l path = marks-only p (assignsAny bs) (declaresAny bs) scope k a told-any (keeps-marks marks) h (sym e ∙ turned d l) path
+
+  pub case-trailed : {d : Bool} {w₂ : List ℕ} → a ≡ Held → d ≡ declaresAny bs → not d ≡ false → Becomes w₁ w₂ (trailed k) (λ ns. ns) → (path : Labels) → Does w w₂ scope path (ranAs Done) (afterCase p bs k)
+  unfolding afterCase
+  case-trailed {d} h e l t path = marks-trail p (assignsAny bs) (declaresAny bs) scope k a told-any (keeps-marks marks) h (sym e ∙ turned d l) t path

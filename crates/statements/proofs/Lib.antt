@@ -1,3 +1,5 @@
 pub mod Assigning
 pub mod Entering
 pub mod Conditions
+pub mod Matching
+pub mod Cases

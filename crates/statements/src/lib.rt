@@ -5,19 +5,21 @@ ghost use mathlib.Core.List.{_++_};
 ghost use lib.ListN.{length};
 ghost use Rattle.labels.specs.declared.Labels.{Labels as LabelSet};
 ghost use Rattle.labels.specs.Sets.{_∪_};
-ghost use Rattle.wire.specs.Bytes.{byte, two, endOf};
+ghost use Rattle.wire.specs.Bytes.{byte, two, endOf, fieldsIn};
 ghost use Rattle.rules.specs.State.{State};
 ghost use Rattle.rules.specs.Run as rules;
-ghost use Rattle.rules.specs.declared.Kind.the-variants.{Statement, Block};
-ghost use Rattle.places.specs.At.{statementAt, blockAt, StandsAs};
+ghost use Rattle.rules.specs.declared.Kind.the-variants.{Statement, Block, Branch};
+ghost use Rattle.places.specs.At.{statementAt, blockAt, branchesAt, StandsAs, Siblings};
 ghost use Rattle.cells.specs.Layout.{trailOf};
 ghost use Rattle.cells.specs.Memory.{outcome};
 ghost use Rattle.evaluator.specs.Known.{Sized};
-ghost use Rattle.branches.specs.Names.{names, namesIn, Small};
+ghost use Rattle.branches.specs.Names.{names, namesIn, namesAny, Small};
+ghost use Rattle.statements.specs.Cases.{branchesOf, Matches, afterCase, decideCase, testCaseAt, caseAs, blockStands};
 ghost use Rattle.statements.specs.Tests.{afterIf, decideIf, testIfAt, testedAs, Tests};
 ghost use Rattle.statements.specs.Answers.{ranAs, Does, Runs};
 use cells::Stored;
 use evaluator::Evaluated;
+use evaluator::constant_at;
 use evaluator::evaluate;
 use labels::Labels;
 use values::Labelled;
@@ -32,6 +34,25 @@ pub enum Ran {
 pub enum Tested {
     Branch { yes: bool, set: Labels },
     Refused { reason: Reason, place: u16 },
+}
+
+// The place of the block that runs, or none, and the condition's set.
+pub enum TestedCase {
+    Branch { block: usize, set: Labels },
+    Nothing { set: Labels },
+    Refused { reason: Reason, place: u16 },
+}
+
+// The place of the block whose pattern matches.
+enum Choice {
+    At(usize),
+    Nothing,
+}
+
+// What the patterns tried tell.
+struct Matched {
+    at: Choice,
+    labels: Labels,
 }
 
 // What a store answers, for a statement at p.
@@ -175,5 +196,122 @@ pub fn test_if(
     match e {
         Evaluated::Refused { reason, place } => Tested::Refused { reason, place },
         Evaluated::Value(x) => decide_if(m, depth - 1, p, work, scope, x, path),
+    }
+}
+
+// ---- The test of a case
+
+// The first of the 24s from `from` to `end` whose pattern matches x.
+fn match_branches(m: &[u8], below: u8, from: usize, end: usize, x: Value) -> Matched
+    requires { ⌜ ((length (now m) ≤ 65535) × (end ≤ 65535)) × Siblings (now m) below Branch from end ⌝ }
+    ensures { λ r. ⌜ Matches (now (m .entry)) below from end x r ⌝ }
+{
+    let mut tried = Labels::EMPTY;
+    let mut q = from;
+    while q < end {
+        let pattern = q + 3;
+        if wire::byte_at(m, pattern) == 0x1b {
+            let block = wire::end_of(m, pattern);
+            return Matched {
+                at: Choice::At(block),
+                labels: tried,
+            };
+        }
+        let constant = constant_at(m, pattern);
+        let value = constant.value;
+        let labels = constant.labels;
+        tried = tried.union(labels);
+        if values::same_value(x, value) {
+            let block = wire::end_of(m, pattern);
+            return Matched {
+                at: Choice::At(block),
+                labels: tried,
+            };
+        }
+        q = wire::end_of(m, q);
+    }
+    Matched {
+        at: Choice::Nothing,
+        labels: tried,
+    }
+}
+
+// The marks and the trail after the test of the case at p, whose 24s are from `from` to `end`.
+fn enter_case(
+    m: &[u8],
+    below: u8,
+    from: usize,
+    end: usize,
+    work: &mut [u8],
+    p: usize,
+    scope: u16,
+    set: Labels,
+) -> Ran
+    requires { ⌜ (((length (now m) ≤ 65535) × (65536 ≤ length (now work))) × (p ≤ 65535)) × (Siblings (now m) below Branch from end × Small (namesAny (branchesAt (now m) below (fieldsIn (now m) from end)))) ⌝ }
+    ensures { λ r. ⌜ ((path : LabelSet) → Does (now (work .entry)) (now (work .exit)) scope path (ranAs r) (afterCase p (branchesAt (now (m .entry)) below (fieldsIn (now (m .entry)) from end)) set)) ⌝ }
+{
+    let stored = branches::mark_any(m, below, from, end, work, scope, set);
+    let Stored::Done = stored else {
+        return store_answer(stored, p);
+    };
+    if !branches::declares_any(m, below, from, end) {
+        return Ran::Done;
+    }
+    memory::join_trail(work, set);
+    Ran::Done
+}
+
+// The case at p, whose value is x.
+fn decide_case(
+    m: &[u8],
+    below: u8,
+    p: usize,
+    work: &mut [u8],
+    scope: u16,
+    x: Labelled,
+    path: Labels,
+) -> TestedCase
+    requires { ⌜ (((length (now m) ≤ 65535) × (65536 ≤ length (now work))) × ((p + 3 ≤ 65535) × (endOf (now m) p ≤ 65535))) × (Siblings (now m) below Branch (endOf (now m) (p + 3)) (endOf (now m) p) × Small (namesAny (branchesOf (now m) below p))) ⌝ }
+    ensures { λ r. ⌜ Does (now (work .entry)) (now (work .exit)) scope path (caseAs (now (m .entry)) (below - 1) r) (decideCase p (branchesOf (now (m .entry)) below p) x) × blockStands (now (m .entry)) (below - 1) r ⌝ }
+{
+    let value = x.value;
+    let own = x.labels;
+    let from = wire::end_of(m, p + 3);
+    let end = wire::end_of(m, p);
+    let matched = match_branches(m, below, from, end, value);
+    let tried = matched.labels;
+    let set = in_context(work, own.union(tried), path);
+    let entered = enter_case(m, below, from, end, work, p, scope, set);
+    match entered {
+        Ran::Refused { reason, place } => TestedCase::Refused { reason, place },
+        Ran::Done => {
+            let at = matched.at;
+            match at {
+                Choice::At(block) => TestedCase::Branch { block, set },
+                Choice::Nothing => TestedCase::Nothing { set },
+            }
+        }
+    }
+}
+
+// The test of the 23 at p, with `depth` levels left for it.
+pub fn test_case(
+    m: &[u8],
+    depth: u8,
+    p: usize,
+    work: &mut [u8],
+    out: &[u8],
+    fill: usize,
+    scope: u16,
+    base_is_node: bool,
+    path: Labels,
+) -> TestedCase
+    requires { ⌜ (Sized (now m) (now work) (now out) fill p × StandsAs (now m) depth Statement p) × ((byte (now m) p ≡ 0x23) × Small (names (statementAt (now m) depth p))) ⌝ }
+    ensures { λ r. ⌜ Tests (now (m .entry)) (now (work .entry)) (now (work .exit)) (now (out .entry)) fill scope «base_is_node» path (caseAs (now (m .entry)) (depth - 1 - 1) r) (testCaseAt (now (m .entry)) (depth - 1) p) × blockStands (now (m .entry)) (depth - 1 - 1) r ⌝ }
+{
+    let e = evaluate(m, depth - 1, p + 3, work, out, fill, scope, base_is_node);
+    match e {
+        Evaluated::Refused { reason, place } => TestedCase::Refused { reason, place },
+        Evaluated::Value(x) => decide_case(m, depth - 1, p, work, scope, x, path),
     }
 }

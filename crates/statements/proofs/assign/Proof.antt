@@ -1,5 +1,7 @@
 use native.Mathlib.Omega.{arith}
-use Rattle.statements.proofs.Assigning.{resized, has-level, value-place, assign-refused, assign-stored}
+use Rattle.branches.proofs.Standing.{has-level}
+use Rattle.evaluator.proofs.Expressions.{resized}
+use Rattle.statements.proofs.Assigning.{value-place, assign-refused, assign-stored}
 use borrow.Author.Needs.{needs}
 use Rattle.statements.proofs.assign.Statement.{statement}
 use Rattle.statements.proofs.assign.Tie as tie

@@ -1,5 +1,5 @@
 use native.Mathlib.Omega.{arith}
-use Rattle.statements.proofs.Assigning.{has-level}
+use Rattle.branches.proofs.Standing.{has-level}
 use Rattle.statements.proofs.Conditions.{conditional-here, condition-place, if-small, test-refused, test-decided}
 use borrow.Author.Needs.{needs}
 use Rattle.statements.proofs.test_if.Statement.{statement}

@@ -1,7 +1,7 @@
 -- Cases up to the block that runs. That `run` is this and then the block is in proofs/Cases.antt.
 use Prim.Native.Nat.{ℕ, _+_, _-_}
 use mathlib.Core.Path.{_≡_}
-use mathlib.Core.Bool.{Bool, true, false}
+use mathlib.Core.Bool.{true, false}
 use mathlib.Core.List.{List}
 use Rattle.labels.specs.declared.Labels.{Labels}
 use Rattle.labels.specs.Sets.{_∪_}
@@ -23,17 +23,22 @@ use Rattle.statements.specs.declared.TestedCase.{TestedCase}
 use Rattle.statements.specs.declared.TestedCase.the-variants.{Branch, Nothing as NoBlock, Refused}
 use Rattle.statements.specs.Tests.{Passed, passed}
 
--- the block of the first branch whose pattern matches; an empty one if none does
+-- the branches of the case at p, which have b levels left
+abbrev pub branchesOf : List ℕ → (b p : ℕ) → Branches
+branchesOf m b p = branchesAt m b (fieldsIn m (endOf m (p + 3)) (endOf m p))
+
+-- the block that runs: "Patterns are tried in written order and default matches where it is reached. A case without a match does nothing."
 unfoldable pub chosenBlock : Branches → Value → Block
 chosenBlock noBranch x = end
 chosenBlock (branch v b bs) x = elim (sameValue x (v .value)) [ true ↦ b | false ↦ chosenBlock bs x ]
 chosenBlock (defaultBranch b bs) x = b
 
--- a block with b levels left
+-- the block at the place chosen, with b levels left
 unfoldable pub blockFor : List ℕ → (b : ℕ) → Choice → Block
 blockFor m b (At q) = blockAt m b q
 blockFor m b Nothing = end
 
+-- it stands there
 unfoldable pub choiceStands : List ℕ → (b : ℕ) → Choice → Type 0
 choiceStands m b (At q) = StandsAs m b BlockKind q
 choiceStands m b Nothing = Unit {0}
@@ -44,9 +49,12 @@ pub record Matches (m : List ℕ) (d q e : ℕ) (x : Value) (r : Matched) : Type
   pub labels : r .labels ≡ triedLabels (branchesAt m d (fieldsIn m q e)) x
   pub stands : choiceStands m (d - 1) (r .at)
 
+-- the test of a case: its place p, its expression e, its branches bs
+
 unfoldable pub afterCase : (p : ℕ) → Branches → Labels → Context → State → Outcome State
 afterCase p bs k c st = afterTest p c (assignsAny bs) (declaresAny bs) k st
 
+-- its expression is x; "for case also the patterns tried" are in the set
 unfoldable pub decideCase : (p : ℕ) → Branches → Labelled → Context → State → Outcome (Passed Block)
 decideCase p bs x c st = afterCase p bs (conditionLabels c st (x .labels ∪ triedLabels bs (x .value))) c st >>= λ st′. done (passed (chosenBlock bs (x .value)) (conditionLabels c st (x .labels ∪ triedLabels bs (x .value))) st′)
 
@@ -55,7 +63,7 @@ testCase p e bs k c st = evaluate k c st e >>= λ x. decideCase p bs x c st
 
 -- the case at p, whose parts have b levels left
 unfoldable pub testCaseAt : List ℕ → (b p : ℕ) → Known → Context → State → Outcome (Passed Block)
-testCaseAt m b p = testCase p (expressionAt m b (p + 3)) (branchesAt m b (fieldsIn m (endOf m (p + 3)) (endOf m p)))
+testCaseAt m b p = testCase p (expressionAt m b (p + 3)) (branchesOf m b p)
 
 -- a block has b levels left
 unfoldable pub caseAs : List ℕ → (b : ℕ) → TestedCase → State → Outcome (Passed Block)

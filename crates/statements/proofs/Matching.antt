@@ -1,28 +1,25 @@
 -- One law for each way through the loop of `match_branches`.
-use Prim.Native.Nat.{ℕ, suc, _+_, _-_, _≤_, _<_}
-use mathlib.Core.Path.{_≡_, refl, sym, ap, ap₂, _∙_}
+use Prim.Native.Nat.{ℕ, _+_, _-_, _≤_, _<_}
+use mathlib.Core.Path.{_≡_, refl, sym, ap, _∙_}
 use mathlib.Core.Bool.{Bool, true, false}
-use mathlib.Core.List.{List, []}
-use native.Mathlib.Omega.{arith}
-use lib.Dec.{eqb}
+use mathlib.Core.List.{List}
 use lib.Bits.{or-zero-r}
-use borrow.Author.Tests.{eq-eqb, ne-eqb}
+use borrow.Author.Tests.{ne-eqb}
 use Rattle.labels.specs.declared.Labels.{Labels}
 use Rattle.labels.specs.Sets.{noLabels, oneLabel, _∪_}
 use Rattle.values.specs.declared.Value.{Value}
 use Rattle.values.specs.declared.Labelled.{Labelled}
-use Rattle.wire.specs.Bytes.{pick, byte, endOf, fieldsIn}
+use Rattle.wire.specs.Bytes.{byte, endOf, fieldsIn}
 use Rattle.rules.specs.Arithmetic.{sameValue}
-use Rattle.rules.specs.Tree.{Block, end, Branches, noBranch, branch, defaultBranch}
+use Rattle.rules.specs.Tree.{Branches, noBranch, branch, defaultBranch}
 use Rattle.rules.specs.Evaluate.{ofConstant}
 use Rattle.rules.specs.Run.{triedLabels}
-use Rattle.rules.specs.declared.Kind.the-variants.{Branch, Block as BlockKind}
-use Rattle.places.specs.At.{constantAt, blockAt, branchAt, branchesAt, StandsAs, Siblings}
+use Rattle.rules.specs.declared.Kind.the-variants.{Branch}
+use Rattle.places.specs.At.{constantAt, blockAt, branchAt, branchesAt, Siblings}
 use Rattle.places.proofs.Parts.{first-sibling, no-sibling}
 use Rattle.evaluator.proofs.Outcomes.{union-assoc, union-none}
 use Rattle.branches.proofs.Standing.{sibling-here, siblings-after, branch-block}
 use Rattle.statements.specs.declared.Choice.the-variants.{At, Nothing}
-use Rattle.statements.specs.declared.Matched.{Matched}
 use Rattle.statements.specs.Cases.{chosenBlock, blockFor, choiceStands, Matches}
 
 union-none-after : (a : Labels) → a ∪ noLabels ≡ a

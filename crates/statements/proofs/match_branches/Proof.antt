@@ -1,6 +1,5 @@
 use mathlib.Core.Path.{refl}
 use Prim.Native.Nat.{_-_}
-use native.Mathlib.Omega.{arith}
 use borrow.Author.Needs.{needs}
 use Rattle.labels.specs.Sets.{noLabels}
 use Rattle.statements.proofs.Matching.{Matching, matching-begins, matching-fails, matching-default, matching-ends, matching-on}
@@ -9,7 +8,7 @@ use Rattle.statements.proofs.match_branches.Tie as tie
 use Rattle.statements.proofs.match_branches.Reads as reads
 use Rattle.statements.proofs.match_branches.Lts as lts
 use Rattle.labels.proofs.Labels.union.Reads as union-reads
-use Rattle.statements.proofs.constant_at.Reads as constant-at-reads
+use Rattle.evaluator.proofs.constant_at.Reads as constant-at-reads
 use Rattle.values.proofs.same_value.Reads as same-value-reads
 use Rattle.wire.proofs.byte_at.Reads as byte-at-reads
 use Rattle.wire.proofs.end_of.Reads as end-of-reads

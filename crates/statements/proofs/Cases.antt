@@ -1,0 +1,186 @@
+-- The law of a case, `run` is its test and then the block chosen; and one law for each way through `decide_case` and `test_case`.
+use Prim.Native.Nat.{ℕ, _+_, _-_}
+use mathlib.Core.Path.{_≡_, refl, sym, ap, ap₂, _∙_, subst}
+use mathlib.Core.Bool.{Bool, true, false}
+use mathlib.Core.List.{List}
+use Rattle.labels.specs.declared.Labels.{Labels}
+use Rattle.labels.specs.Sets.{_∪_}
+use Rattle.values.specs.declared.Labelled.{Labelled}
+use Rattle.values.specs.declared.Value.{Value}
+use Rattle.values.specs.declared.Reason.{Reason}
+use Rattle.wire.specs.Bytes.{byte, endOf, fieldsIn}
+use Rattle.rules.specs.Outcome.{Outcome, refused, done, _>>=_}
+use Rattle.rules.specs.Arithmetic.{sameValue}
+use Rattle.rules.specs.Tree.{Expression, Statement, Block, Branches, noBranch, branch, defaultBranch, choice}
+use Rattle.rules.specs.State.{Entry, State, Context, Known}
+use Rattle.rules.specs.Evaluate.{evaluate}
+use Rattle.rules.specs.Run.{Declare, run, runBlock, runBranch, inBranch, triedLabels, conditionLabels, afterTest, assignsAny, declaresAny}
+use Rattle.rules.specs.declared.Kind.the-variants.{Statement as StatementKind, Expression as ExpressionKind, Branch as BranchKind}
+use Rattle.places.specs.At.{expressionAt, statementAt, blockAt, branchesAt, StandsAs, Siblings}
+use Rattle.places.proofs.Statements.{ChoiceAt, choice-opens}
+use Rattle.cells.specs.Layout.{trailOf}
+use Rattle.cells.specs.Scopes.{scopeOf}
+use Rattle.cells.specs.Memory.{baseFor, stateOf}
+use Rattle.evaluator.specs.declared.Evaluated.{Evaluated}
+use Rattle.evaluator.specs.declared.Evaluated.the-variants.{Value as Yields, Refused as Fails}
+use Rattle.evaluator.specs.Answers.{evaluated}
+use Rattle.evaluator.specs.Known.{Ready, Tells}
+use Rattle.branches.specs.Names.{names, namesAny, Small}
+use Rattle.branches.proofs.Standing.{has-level}
+use Rattle.branches.proofs.Folds.{small-same}
+use Rattle.branches.proofs.Marking.{choice-names}
+use Rattle.statements.specs.declared.Ran.{Ran}
+use Rattle.statements.specs.declared.Ran.the-variants.{Done as Entered, Refused as Stopped}
+use Rattle.statements.specs.Answers.{ranAs, Does}
+use Rattle.statements.proofs.Assigning.{keeps-same}
+use Rattle.statements.specs.declared.Choice.{Choice}
+use Rattle.statements.specs.declared.Choice.the-variants.{At, Nothing}
+use Rattle.statements.specs.declared.Matched.{Matched}
+use Rattle.statements.specs.declared.TestedCase.{TestedCase}
+use Rattle.statements.specs.declared.TestedCase.the-variants.{Branch, Nothing as NoBlock, Refused}
+use Rattle.statements.specs.Tests.{Passed, passed, Tests}
+use Rattle.statements.specs.Cases.{branchesOf, chosenBlock, blockFor, choiceStands, Matches, afterCase, decideCase, testCase, testCaseAt, caseAs, blockStands}
+
+-- ---- The law
+
+-- the block chosen, from the state after the test
+abbrev pub intoBlock : Known → Declare → Context → Passed Block → Outcome State
+intoBlock k declare c x = runBlock k declare (x .chosen) (inBranch (x .set) c) (x .state)
+
+branch-runs : (k : Known) (declare : Declare) (bs : Branches) (x : Value) (c : Context) (st : State) → runBranch k declare bs x c st ≡ runBlock k declare (chosenBlock bs x) c st
+unfolding run chosenBlock
+branch-runs k declare noBranch x c st = refl
+branch-runs k declare (branch v b bs) x c st = go (sameValue x (v .value)) (branch-runs k declare bs x c st)
+  where
+    go : (t : Bool) → runBranch k declare bs x c st ≡ runBlock k declare (chosenBlock bs x) c st → elim t [ true ↦ runBlock k declare b c st | false ↦ runBranch k declare bs x c st ] ≡ runBlock k declare (elim t [ true ↦ b | false ↦ chosenBlock bs x ]) c st
+    go true later = refl
+    go false later = later
+branch-runs k declare (defaultBranch b bs) x c st = refl
+
+pub case-runs : (k : Known) (declare : Declare) (p : ℕ) (e : Expression) (bs : Branches) (c : Context) (st : State) → run k declare (choice p e bs) c st ≡ (testCase p e bs k c st >>= intoBlock k declare c)
+unfolding run testCase decideCase afterCase _>>=_
+case-runs k declare p e bs c st = go (evaluate k c st e)
+  where
+    after : Labels → Outcome State
+    after set = afterTest p c (assignsAny bs) (declaresAny bs) set st
+
+    entered : (v : Value) (set : Labels) (o : Outcome State) → (o >>= λ st′. runBranch k declare bs v (inBranch set c) st′) ≡ ((o >>= λ st′. done (passed (chosenBlock bs v) set st′)) >>= intoBlock k declare c)
+    entered v set (refused r q) = refl
+    entered v set (done st′) = branch-runs k declare bs v (inBranch set c) st′
+
+    setOf : Labelled → Labels
+    setOf x = conditionLabels c st (x .labels ∪ triedLabels bs (x .value))
+
+    go : (o : Outcome Labelled) → (o >>= λ x. after (setOf x) >>= λ st′. runBranch k declare bs (x .value) (inBranch (setOf x) c) st′) ≡ ((o >>= λ x. after (setOf x) >>= λ st′. done (passed (chosenBlock bs (x .value)) (setOf x) st′)) >>= intoBlock k declare c)
+    go (refused r q) = refl
+    go (done x) = entered (x .value) (setOf x) (after (setOf x))
+
+-- ---- The ways of `decide_case`
+
+-- the branches, where the code found them
+pub branches-from : {m : List ℕ} {d f e a b : ℕ} → f ≡ a → e ≡ b → Siblings m d BranchKind a b × Small (namesAny (branchesAt m d (fieldsIn m a b))) → Siblings m d BranchKind f e × Small (namesAny (branchesAt m d (fieldsIn m f e)))
+branches-from found ends i = rw (found, ends) i
+
+module _ (m : List ℕ) (d p : ℕ) {f e : ℕ} (w : List ℕ) (scope : ℕ) (path : Labels) (x : Labelled) (found : f ≡ endOf m (p + 3)) (ends : e ≡ endOf m p) where
+  module _ {w′ : List ℕ} {r : Matched} {own set : Labels} (entered : Ran) (matches : Matches m d f e (x .value) r) (both : own ≡ x .labels ∪ r .labels) (joined : set ≡ own ∪ (path ∪ trailOf w)) (enter : (path : Labels) → Does w w′ scope path (ranAs entered) (afterCase p (branchesAt m d (fieldsIn m f e)) set)) where
+    same-set : (c : Context) (es : List Entry) (n i : ℕ) → c .path ≡ path → set ≡ conditionLabels c (stateOf w es n i) (x .labels ∪ triedLabels (branchesAt m d (fieldsIn m f e)) (x .value))
+    unfolding conditionLabels stateOf
+    same-set c es n i way = joined ∙ ap₂ (λ (k q : Labels). k ∪ (q ∪ trailOf w)) (both ∙ ap (λ (k : Labels). x .labels ∪ k) (matches .labels)) (sym way)
+
+    -- what follows the marks and the trail
+    abbrev after : Choice → Ran → State → Outcome (Passed Block)
+    after y o st = ranAs o st >>= λ st′. done (passed (blockFor m (d - 1) y) set st′)
+
+    case-decided : (c : Context) (es : List Entry) (n i : ℕ) → c .scope ≡ scopeOf scope → c .path ≡ path → after (r .at) entered (stateOf w′ es n i) ≡ decideCase p (branchesOf m d p) x c (stateOf w es n i)
+    unfolding decideCase
+    case-decided c es n i here way =
+        ap₂ (λ (o : Outcome State) (b : Block). o >>= λ st′. done (passed b set st′)) (enter path .says c es n i here way) (matches .block)
+        ∙ ap (λ (k : Labels). afterCase p (branchesAt m d (fieldsIn m f e)) k c (stateOf w es n i) >>= λ st′. done (passed (chosenBlock (branchesAt m d (fieldsIn m f e)) (x .value)) k st′)) (same-set c es n i way)
+        ∙ ap₂ (λ (a b : ℕ). decideCase p (branchesAt m d (fieldsIn m a b)) x c (stateOf w es n i)) found ends
+
+    pub case-stopped : (reason : Reason) (q : ℕ) → entered ≡ Stopped reason q → Does w w′ scope path (caseAs m (d - 1) (Refused reason q)) (decideCase p (branchesOf m d p) x) × blockStands m (d - 1) (Refused reason q)
+    unfolding caseAs ranAs _>>=_ blockStands
+    case-stopped reason q h = (
+      record {
+        says = λ c es n i here way. sym (ap (λ (o : Ran). after (r .at) o (stateOf w′ es n i)) h) ∙ case-decided c es n i here way;
+        keeps = enter path .keeps;
+      },
+      tt,
+    )
+
+    pub case-entered : (q : ℕ) → entered ≡ Entered → r .at ≡ At q → Does w w′ scope path (caseAs m (d - 1) (Branch q set)) (decideCase p (branchesOf m d p) x) × blockStands m (d - 1) (Branch q set)
+    unfolding caseAs ranAs _>>=_ blockStands blockFor choiceStands
+    case-entered q h g = (
+      record {
+        says = λ c es n i here way. sym (ap₂ (λ (y : Choice) (o : Ran). after y o (stateOf w′ es n i)) g h) ∙ case-decided c es n i here way;
+        keeps = enter path .keeps;
+      },
+      subst (choiceStands m (d - 1)) g (matches .stands),
+    )
+
+    pub case-unmatched : entered ≡ Entered → r .at ≡ Nothing → Does w w′ scope path (caseAs m (d - 1) (NoBlock set)) (decideCase p (branchesOf m d p) x) × blockStands m (d - 1) (NoBlock set)
+    unfolding caseAs ranAs _>>=_ blockStands blockFor
+    case-unmatched h g = (
+      record {
+        says = λ c es n i here way. sym (ap₂ (λ (y : Choice) (o : Ran). after y o (stateOf w′ es n i)) g h) ∙ case-decided c es n i here way;
+        keeps = enter path .keeps;
+      },
+      tt,
+    )
+
+-- ---- The ways of `test_case`
+
+pub choice-here : {m : List ℕ} {d p : ℕ} → StandsAs m d StatementKind p → byte m p ≡ 0x23 → ChoiceAt m d (d - 1) p
+choice-here s tag = choice-opens (s .stands) (has-level s) tag
+
+pub case-small : {m : List ℕ} {d p : ℕ} → StandsAs m d StatementKind p → byte m p ≡ 0x23 → Small (names (statementAt m d p)) → Small (namesAny (branchesOf m (d - 1) p))
+case-small s tag small = small-same small (choice-names s refl tag refl refl)
+
+module _ {m w out : List ℕ} {d p fill scope : ℕ} {node : Bool} (s : StandsAs m d StatementKind p) (tag : byte m p ≡ 0x23) (e : Evaluated) (told : StandsAs m (d - 1) ExpressionKind (p + 3) → Tells m w out fill scope node (evaluated e) (λ k c st. evaluate k c st (expressionAt m (d - 1) (p + 3)))) where
+  test-run : {o : Outcome Labelled} (k : Known) (c : Context) (es : List Entry) (n r : ℕ) → evaluated e ≡ o → Ready m w out fill k es → c .scope ≡ scopeOf scope → c .base ≡ baseFor node → (o >>= λ x. decideCase p (branchesOf m (d - 1) p) x c (stateOf w es n r)) ≡ testCaseAt m (d - 1) p k c (stateOf w es n r)
+  unfolding testCaseAt testCase
+  test-run k c es n r h ready here base =
+      ap (λ (o : Outcome Labelled). o >>= λ x. decideCase p (branchesOf m (d - 1) p) x c (stateOf w es n r)) (sym h ∙ told (choice-here s tag .scrutinee) .says k c es n r ready here base)
+
+  pub test-refused : {path : Labels} (r : Reason) (q : ℕ) → e ≡ Fails r q → Tests m w w out fill scope node path (caseAs m (d - 1 - 1) (Refused r q)) (testCaseAt m (d - 1) p) × blockStands m (d - 1 - 1) (Refused r q)
+  unfolding caseAs evaluated _>>=_ blockStands
+  test-refused reason q h = (
+    record {
+      says = λ k c es n r ready here base way. test-run k c es n r (ap evaluated h) ready here base;
+      keeps = keeps-same w;
+    },
+    tt,
+  )
+
+  pub test-decided : {path : Labels} {w′ : List ℕ} (answer : TestedCase) (x : Labelled) → e ≡ Yields x → Does w w′ scope path (caseAs m (d - 1 - 1) answer) (decideCase p (branchesOf m (d - 1) p) x) × blockStands m (d - 1 - 1) answer → Tests m w w′ out fill scope node path (caseAs m (d - 1 - 1) answer) (testCaseAt m (d - 1) p) × blockStands m (d - 1 - 1) answer
+  unfolding evaluated _>>=_
+  test-decided answer x h i = (
+    record {
+      says = λ k c es n r ready here base way. i .0 .says c es n r here way ∙ test-run k c es n r (ap evaluated h) ready here base;
+      keeps = i .0 .keeps;
+    },
+    i .1,
+  )
+
+-- ---- What a tested case comes to, for who runs its block
+
+module _ {m : List ℕ} {d p : ℕ} (s : StandsAs m d StatementKind p) (tag : byte m p ≡ 0x23) (k : Known) (declare : Declare) where
+  pub case-at-runs : (c : Context) (st : State) → run k declare (statementAt m d p) c st ≡ (testCaseAt m (d - 1) p k c st >>= intoBlock k declare c)
+  unfolding testCaseAt
+  case-at-runs c st = ap (λ (t : Statement). run k declare t c st) (choice-here s tag .tree) ∙ case-runs k declare p (expressionAt m (d - 1) (p + 3)) (branchesOf m (d - 1) p) c st
+
+  module _ {w w′ out : List ℕ} {fill scope : ℕ} {node : Bool} {path : Labels} (answer : TestedCase) (tests : Tests m w w′ out fill scope node path (caseAs m (d - 1 - 1) answer) (testCaseAt m (d - 1) p)) (c : Context) (es : List Entry) (n r : ℕ) (ready : Ready m w out fill k es) (here : c .scope ≡ scopeOf scope) (base : c .base ≡ baseFor node) (way : c .path ≡ path) where
+    tested-runs : {a : TestedCase} → answer ≡ a → run k declare (statementAt m d p) c (stateOf w es n r) ≡ (caseAs m (d - 1 - 1) a (stateOf w′ es n r) >>= intoBlock k declare c)
+    tested-runs h = case-at-runs c (stateOf w es n r) ∙ ap (λ (o : Outcome (Passed Block)). o >>= intoBlock k declare c) (sym (tests .says k c es n r ready here base way) ∙ ap (λ (a : TestedCase). caseAs m (d - 1 - 1) a (stateOf w′ es n r)) h)
+
+    pub case-refuses : (reason : Reason) (q : ℕ) → answer ≡ Refused reason q → run k declare (statementAt m d p) c (stateOf w es n r) ≡ refused reason q
+    unfolding caseAs _>>=_
+    case-refuses reason q h = tested-runs h
+
+    pub case-goes-on : (q : ℕ) (set : Labels) → answer ≡ Branch q set → run k declare (statementAt m d p) c (stateOf w es n r) ≡ runBlock k declare (blockAt m (d - 1 - 1) q) (inBranch set c) (stateOf w′ es n r)
+    unfolding caseAs _>>=_
+    case-goes-on q set h = tested-runs h
+
+    pub case-ends : (set : Labels) → answer ≡ NoBlock set → run k declare (statementAt m d p) c (stateOf w es n r) ≡ done (stateOf w′ es n r)
+    unfolding caseAs _>>=_ run
+    case-ends set h = tested-runs h
