@@ -105,7 +105,7 @@ fn find_free(work: &[u8]) -> Found
 
 // ---- Reads
 
-fn value_at(work: &[u8], state: u8, body: usize) -> Value
+pub fn value_at(work: &[u8], state: u8, body: usize) -> Value
     ensures { λ r. ⌜ r ≡ valueFrom state (wordAt (now (work .entry)) body) ⌝ }
 {
     if state == 2 {
@@ -168,7 +168,7 @@ fn claim(work: &mut [u8], i: usize, scope: u16, name: u16)
     wire::put_byte(work, i, 1);
 }
 
-fn kind_of(value: Value) -> u8
+pub fn kind_of(value: Value) -> u8
     ensures { λ r. ⌜ r ≡ kindOf value ⌝ }
 {
     match value {
@@ -178,7 +178,7 @@ fn kind_of(value: Value) -> u8
     }
 }
 
-fn put_payload(work: &mut [u8], body: usize, value: Value)
+pub fn put_payload(work: &mut [u8], body: usize, value: Value)
     ensures { λ _. ⌜ now (work .exit) ≡ over (now (work .entry)) body (highBytes 8 (payloadOf value)) ⌝ }
 {
     match value {

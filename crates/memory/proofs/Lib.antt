@@ -2,3 +2,4 @@ pub mod Records
 pub mod Trails
 pub mod Classes
 pub mod Start
+pub mod Titles

@@ -1,13 +1,19 @@
 -- What the functions on names change, and what they tell of a class.
-use Prim.Native.Nat.{ℕ}
+use Prim.Native.Nat.{ℕ, _-_}
+use mathlib.Core.Path.{_≡_}
+use mathlib.Core.List.{List}
+use lib.Dec.{eqb, ltb}
+use Rattle.wire.specs.Bytes.{pick, two}
 use mathlib.Core.Bool.{Bool, true, false}
 use mathlib.Core.Option.{Option, none, some}
-use Rattle.rules.specs.State.{Scope, Base, topBase, nodeBase, DeclaredClass}
-use Rattle.cells.specs.Layout.{putAt}
+use Rattle.rules.specs.State.{Scope, Base, topBase, nodeBase, DeclaredClass, Entry}
+use Rattle.cells.specs.Layout.{putAt, restOf}
 use Rattle.cells.specs.Scopes.{scopeOf}
-use Rattle.cells.specs.Memory.{baseFor, Names}
+use Rattle.cells.specs.Memory.{baseFor, Names, namesOf, stateOf, Fine}
 use Rattle.memory.specs.declared.Above.{Above}
 use Rattle.memory.specs.declared.Above.the-variants.{At, Nothing}
+use Rattle.memory.specs.declared.TitleName.{TitleName}
+use Rattle.memory.specs.declared.TitleName.the-variants.{At as TitleAt, Nothing as NoTitle}
 
 unfoldable pub withString : (name place : ℕ) → Names → Names
 withString k v ns = record { strings = putAt k v (ns .strings); definitions = ns .definitions; builtIns = ns .builtIns }
@@ -43,3 +49,24 @@ isNode nodeBase = true
 unfoldable pub atNode : Option DeclaredClass → Bool
 atNode none = false
 atNode (some d) = isNode (d .base)
+
+-- ---- The string "title"
+
+-- a number past the table is none
+unfoldable pub titleIn : ℕ → Option ℕ
+titleIn t = pick (eqb t 0) none (pick (ltb 1024 t) none (some (t - 1)))
+
+-- its number, kept where the names end
+unfoldable pub titleOf : List ℕ → Option ℕ
+titleOf w = titleIn (two (restOf w) 0)
+
+unfoldable pub titleFound : TitleName → Option ℕ
+titleFound (TitleAt n) = some n
+titleFound NoTitle = none
+
+-- from w to w′ the string "title" gets its number, and all else stays
+pub record TitleSet (w w′ : List ℕ) (name : ℕ) : Type 0 where
+  pub title : titleOf w′ ≡ some name
+  pub state : (es : List Entry) (n r : ℕ) → stateOf w′ es n r ≡ stateOf w es n r
+  pub names : namesOf w′ ≡ namesOf w
+  pub fine : Fine w → Fine w′

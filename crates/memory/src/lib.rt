@@ -8,15 +8,23 @@ ghost use Rattle.rules.specs.State.{Entry, oneIf, parentOf, isDeclared, declare
 ghost use Rattle.cells.specs.Layout.{trailOf};
 ghost use Rattle.cells.specs.Scopes.{scopeOf};
 ghost use Rattle.cells.specs.Memory.{baseFor, classesOf, stringPlaceOf, definitionOf, builtInOf, stateOf, trailed, Becomes};
-ghost use Rattle.memory.specs.Names.{withString, withDefinition, withBuiltIn, classState, placed, scopeAbove, atNode};
+ghost use Rattle.memory.specs.Names.{withString, withDefinition, withBuiltIn, classState, placed, scopeAbove, atNode, titleOf, titleFound, TitleSet};
 use labels::Labels;
 
 const TRAIL: usize = 39424;
 
 const NAMES: usize = 39456;
 
+const REST: usize = 47648;
+
 // The number of the scope above another one.
 pub enum Above {
+    At(u16),
+    Nothing,
+}
+
+// The number of the string "title".
+pub enum TitleName {
     At(u16),
     Nothing,
 }
@@ -89,6 +97,29 @@ pub fn set_built_in(work: &mut [u8], name: u16, yes: bool)
     ensures { λ _. ⌜ Becomes (now (work .entry)) (now (work .exit)) (λ st. st) (withBuiltIn name yes) ⌝ }
 {
     wire::put_byte(work, NAMES + 8 * name as usize + 5, yes as u8);
+}
+
+// ---- The number of the string "title": at the start of what follows the names, one more than it, or 0 where there is none
+
+pub fn title(work: &[u8]) -> TitleName
+    requires { ⌜ 65536 ≤ length (now work) ⌝ }
+    ensures { λ r. ⌜ titleFound r ≡ titleOf (now (work .entry)) ⌝ }
+{
+    let t = wire::two_at(work, REST);
+    if t == 0 {
+        return TitleName::Nothing;
+    }
+    if 1024 < t {
+        return TitleName::Nothing;
+    }
+    TitleName::At(t - 1)
+}
+
+pub fn set_title(work: &mut [u8], name: u16)
+    requires { ⌜ (65536 ≤ length (now work)) × (name < 1024) ⌝ }
+    ensures { λ _. ⌜ TitleSet (now (work .entry)) (now (work .exit)) name ⌝ }
+{
+    wire::put_two(work, REST, name + 1);
 }
 
 // ---- Classes

@@ -1,20 +1,19 @@
 -- The ways of `check`. Assumes nothing.
 use Prim.Native.Nat.{ℕ, _+_, _-_}
 use mathlib.Core.Path.{_≡_, refl, sym, ap, _∙_, subst}
-use mathlib.Core.Bool.{Bool, true, false, _||_, not}
+use mathlib.Core.Bool.{Bool, true, false, not}
 use mathlib.Core.List.{List, [], _∷_}
 use native.Mathlib.Omega.{arith}
-use lib.Dec.{eqb}
 use lib.ListN.{length, drop}
 use Rattle.labels.specs.declared.Labels.{Labels}
 use Rattle.labels.specs.Sets.{_∪_}
 use Rattle.values.specs.declared.Reason.the-variants.{Unknown, ResourceAgain, AttributeAgain, OutputFull}
-use Rattle.wire.specs.Bytes.{pick, two, fieldsIn}
+use Rattle.wire.specs.Bytes.{two, fieldsIn}
 use Rattle.rules.specs.Outcome.{Outcome, refused, done, _>>=_, refuseIf}
 use Rattle.rules.specs.State.{Attribute, Entry, State, Context, Known, withEntry}
 use Rattle.rules.specs.Evaluate.{any, isEntry}
 use Rattle.rules.specs.Catalog.{entryBytes}
-use Rattle.rules.specs.Run.{Given, isGiven, namedOnce, storedLabels, attributesUnder, entryFrom, addEntry, addResource}
+use Rattle.rules.specs.Run.{Given, namedOnce, storedLabels, attributesUnder, entryFrom, addEntry, addResource}
 use Rattle.rules.specs.Compile.{onto}
 use Rattle.rules.proofs.Lists.{Each}
 use Rattle.rules.proofs.ReadBack.{FitsAttribute}
@@ -25,35 +24,13 @@ use Rattle.catalog.specs.declared.Place.the-variants.{At, Nothing}
 use Rattle.catalog.specs.Making.{entry, Holding}
 use Rattle.catalog.specs.Finding.{Written}
 use Rattle.catalog.proofs.Order.{onto-last, any-in-order}
+use Rattle.attributes.specs.Names.{repeatedIn}
+use Rattle.attributes.proofs.Repeats.{repeatedOutcome, named-places}
 use Rattle.resources.specs.declared.Ran.{Ran}
 use Rattle.resources.specs.declared.Ran.the-variants.{Refused}
 use Rattle.resources.specs.Attributes.{attributesFor, Kept}
-use Rattle.resources.specs.Names.{hasName, repeatedIn, Alike, alikeNone, alike}
-use Rattle.resources.specs.Entries.{Entered, full, entered, Means, refusedSo, doneSo, Checks}
-use Rattle.resources.proofs.Finishing.{kept-all}
-
--- ---- Names by their places
-
-unfoldable pub repeatedOutcome : Place → Outcome (Unit {0})
-repeatedOutcome (At q) = refused AttributeAgain q
-repeatedOutcome Nothing = done tt
-
-named-as : (m : List ℕ) (earlier : List Given) (places : List ℕ) {gs : List Given} {qs : List ℕ} → ((n : ℕ) → any (isGiven n) earlier ≡ any (hasName m n) places) → Alike m gs qs → namedOnce earlier gs ≡ repeatedOutcome (repeatedIn m places qs)
-unfolding namedOnce repeatedIn repeatedOutcome any isGiven refuseIf _>>=_
-named-as m earlier places same alikeNone = refl
-named-as m earlier places same (alike {q = q} {x = x} {gs = gs} {qs = qs} a) =
-    ap (λ (b : Bool). refuseIf b AttributeAgain q >>= λ _. namedOnce (g ∷ earlier) gs) (same (two m (q + 3))) ∙ go (named-as m (g ∷ earlier) (q ∷ places) (λ n. ap (λ (b : Bool). eqb (two m (q + 3)) n || b) (same n)) a) (any (hasName m (two m (q + 3))) places)
-  where
-    g : Given
-    g = record { place = q; name = two m (q + 3); content = x }
-
-    go : namedOnce (g ∷ earlier) gs ≡ repeatedOutcome (repeatedIn m (q ∷ places) qs) → (b : Bool) → (refuseIf b AttributeAgain q >>= λ _. namedOnce (g ∷ earlier) gs) ≡ repeatedOutcome (pick b (At q) (repeatedIn m (q ∷ places) qs))
-    go later true = refl
-    go later false = later
-
-pub named-places : (m : List ℕ) {gs : List Given} {qs : List ℕ} {f : Place} → f ≡ repeatedIn m [] qs → Alike m gs qs → namedOnce [] gs ≡ repeatedOutcome f
-unfolding any
-named-places m e a = named-as m [] [] (λ n. refl) a ∙ ap repeatedOutcome (sym e)
+use Rattle.resources.specs.Entries.{Within, Entered, full, entered, Means, refusedSo, doneSo, Checks}
+use Rattle.resources.proofs.Finishing.{kept-all, within-refused}
 
 -- ---- The checks one after the other
 
@@ -100,6 +77,7 @@ module _ (m out : List ℕ) (fill size room p first end : ℕ) (built : Bool) (t
   pub check-unknown : {r : Ran} → not built ≡ true → r ≡ Refused Unknown p → Checks m out out fill size room p first end built title own r
   check-unknown {r} is answer = record {
     kept = kept-all out fill;
+    within = within-refused fill room answer;
     says = λ w k c es n gs labels outer b written u o1 o2 h fits a.
         subst (λ (v : Ran). Means w out fill room n es (addResource k p (two m (p + 3)) title labels gs c (stateOf w es n room)) v) (sym answer)
         (refusedSo (not-known k p (two m (p + 3)) title labels gs c (stateOf w es n room) (b ∙ not-true built is)));
@@ -116,6 +94,7 @@ module _ (m out : List ℕ) (fill size room p first end : ℕ) (built : Bool) (t
     unfolding stateOf
     check-again {r} there answer = record {
       kept = kept-all out fill;
+      within = within-refused fill room answer;
       says = λ w k c es n gs labels outer b written u o1 o2 h fits a.
           subst (λ (v : Ran). Means w out fill room n es (addResource k p (two m (p + 3)) title labels gs c (stateOf w es n room)) v) (sym answer)
           (refusedSo (there-already k p (two m (p + 3)) title labels gs c (stateOf w es n room) (b ∙ is) (sym (found es written u) ∙ there)));
@@ -126,6 +105,7 @@ module _ (m out : List ℕ) (fill size room p first end : ℕ) (built : Bool) (t
       unfolding stateOf repeatedOutcome
       check-twice {q} {r} at answer = record {
         kept = kept-all out fill;
+        within = within-refused fill room answer;
         says = λ w k c es n gs labels outer b written u o1 o2 h fits a.
             subst (λ (v : Ran). Means w out fill room n es (addResource k p (two m (p + 3)) title labels gs c (stateOf w es n room)) v) (sym answer)
             (refusedSo (named-twice k p (two m (p + 3)) title labels gs c (stateOf w es n room) (b ∙ is) (sym (found es written u) ∙ no) (named-places m repeated a ∙ ap repeatedOutcome at)));
@@ -138,11 +118,12 @@ module _ (m out : List ℕ) (fill size room p first end : ℕ) (built : Bool) (t
           let left : room - length (entryBytes (entry kind title own ats)) ≡ room - (g - fill) = omega arith in
           doneSo {f = g} (entry kind title own ats) (rw (e, left)) (subst (λ (l : List Entry). Written out′ g l) (sym (onto-last (entry kind title own ats) es)) written) (unique new u)
 
-      pub check-rest : {out′ : List ℕ} {r : Ran} → f ≡ Nothing → Kept out out′ fill → ((ats : List Attribute) (es : List Entry) → Holding (drop fill out) size ats → Each FitsAttribute ats → Written out fill es → Entered out′ fill room p es (entry kind title own ats) r)
+      pub check-rest : {out′ : List ℕ} {r : Ran} → f ≡ Nothing → Kept out out′ fill → Within fill room r → ((ats : List Attribute) (es : List Entry) → Holding (drop fill out) size ats → Each FitsAttribute ats → Written out fill es → Entered out′ fill room p es (entry kind title own ats) r)
           → Checks m out out′ fill size room p first end built title own r
       unfolding stateOf repeatedOutcome
-      check-rest {out′} {r} none kept finished = record {
+      check-rest {out′} {r} none kept within finished = record {
         kept = kept;
+        within = within;
         says = λ w k c es n gs labels outer b written u o1 o2 h fits a.
             let st = stateOf w es n room in
             let new : any (isEntry kind title) es ≡ false = sym (any-in-order kind title es u) ∙ sym (looked (onto es []) written) ∙ no in

@@ -10,6 +10,7 @@ use Rattle.labels.specs.declared.Labels.{Labels}
 use Rattle.labels.specs.Sets.{Words64}
 use Rattle.labels.specs.Bytes.{labelBytes}
 use Rattle.labels.proofs.Laws.{label-length}
+use Rattle.values.specs.declared.Reason.{Reason}
 use Rattle.values.specs.declared.Reason.the-variants.{OutputFull}
 use Rattle.wire.specs.Numbers.{highBytes}
 use Rattle.wire.proofs.Laws.{high-length}
@@ -25,7 +26,7 @@ use Rattle.catalog.proofs.Growing.{holding-lent, front-kept, entry-joined, entr
 use Rattle.resources.specs.declared.Ran.{Ran}
 use Rattle.resources.specs.declared.Ran.the-variants.{Done, Refused}
 use Rattle.resources.specs.Attributes.{Kept}
-use Rattle.resources.specs.Entries.{Entered, full, entered}
+use Rattle.resources.specs.Entries.{Within, Entered, full, entered}
 
 entry-size : (size t n : ℕ) (k : Labels) (ats : List Attribute) → size ≡ 39 + length (attributesBytes ats) → length (entryBytes (entry t n k ats)) ≡ size
 unfolding entryBytes
@@ -67,3 +68,13 @@ module _ (out : List ℕ) (fill size room p kind title : ℕ) (own : Labels) (wi
 -- nothing changed
 pub kept-all : (out : List ℕ) (fill : ℕ) → Kept out out fill
 kept-all out fill = record { front = refl; long = refl }
+
+-- ---- The fill point
+
+pub within-refused : (fill room : ℕ) {r : Ran} {reason : Reason} {p : ℕ} → r ≡ Refused reason p → Within fill room r
+unfolding Within
+within-refused fill room e = subst (λ (v : Ran). Within fill room v) (sym e) tt
+
+pub within-done : (fill size room : ℕ) → size ≤ room → Within fill room (Done (fill + size))
+unfolding Within
+within-done fill size room l = (omega arith, omega arith)

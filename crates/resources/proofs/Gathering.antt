@@ -2,7 +2,7 @@
 use Prim.Native.Nat.{ℕ, suc, _+_, _-_, _≤_, _<_}
 use mathlib.Core.Path.{_≡_, refl, sym, ap, _∙_, subst}
 use mathlib.Core.Bool.{Bool, true, false}
-use mathlib.Core.List.{List, [], _∷_, _++_, append-assoc, append-nil}
+use mathlib.Core.List.{List, [], _∷_, _++_}
 use native.Mathlib.Omega.{arith}
 use borrow.Rule.Slice.PartMut.{midOf, putMid}
 use lib.Dec.{ltb}
@@ -13,22 +13,18 @@ use Rattle.labels.specs.Sets.{_∪_, Words64}
 use Rattle.labels.proofs.Laws.{words-union}
 use Rattle.values.specs.declared.Labelled.{Labelled}
 use Rattle.values.specs.declared.Reason.{Reason}
-use Rattle.wire.specs.Bytes.{pick, two, endOf, fieldsIn}
+use Rattle.wire.specs.Bytes.{pick, two, endOf}
 use Rattle.wire.specs.Runs.{over}
 use Rattle.wire.proofs.Laws.{over-length}
-use Rattle.rules.specs.Outcome.{Outcome, refused, done, _>>=_}
-use Rattle.rules.specs.State.{Attribute, Entry, Context, Known}
+use Rattle.rules.specs.Outcome.{Outcome}
+use Rattle.rules.specs.State.{Attribute, Entry, State, Context, Known}
 use Rattle.rules.specs.Evaluate.{evaluate}
 use Rattle.rules.specs.Catalog.{attributeBytes}
-use Rattle.rules.specs.Run.{Given, evaluateAll}
+use Rattle.rules.specs.Run.{Given}
 use Rattle.rules.specs.declared.Kind.the-variants.{Expression as ExpressionKind, Attribute as AttributeKind}
 use Rattle.rules.proofs.Lists.{Each, noneLeft, also}
 use Rattle.rules.proofs.ReadBack.{FitsValue, FitsAttribute}
-use Rattle.places.specs.At.{expressionAt, attributeAt, attributesAt, StandsAs, Siblings}
-use Rattle.places.proofs.Parts.{FirstSibling, first-sibling, no-sibling}
-use Rattle.places.proofs.Statements.{attribute-opens}
-use Rattle.cells.specs.Scopes.{scopeOf}
-use Rattle.cells.specs.Memory.{baseFor, stateOf}
+use Rattle.places.specs.At.{expressionAt, StandsAs, Siblings}
 use Rattle.catalog.specs.Making.{stored, attribute, addAttribute, Holding}
 use Rattle.catalog.proofs.Growing.{holding-none, holding-more, attribute-grown, front-kept, rest-back, written-kept}
 use Rattle.catalog.proofs.Stores.{part-lent, part-back}
@@ -37,6 +33,7 @@ use Rattle.evaluator.specs.declared.Evaluated.the-variants.{Value as Yields, Re
 use Rattle.evaluator.specs.Answers.{evaluated}
 use Rattle.evaluator.specs.Known.{Ready, Tells, Sized}
 use Rattle.evaluator.proofs.Expressions.{Small, operand-told}
+use Rattle.attributes.proofs.Evaluating.{Rest, rest-begins, rest-on, rest-stops, rest-ends}
 use Rattle.resources.specs.declared.Ran.{Ran}
 use Rattle.resources.specs.declared.Ran.the-variants.{Done, Refused}
 use Rattle.resources.specs.Attributes.{underBoth, attributesFor, Kept, Appended, Added, notAdded, added, Gathered, notGathered, gathered}
@@ -88,14 +85,8 @@ module _ (m w out : List ℕ) (fill size scope : ℕ) (node : Bool) (d q : ℕ) 
 ready-kept : {m w out out′ : List ℕ} {fill : ℕ} {k : Known} {es : List Entry} → take fill out′ ≡ take fill out → Ready m w out fill k es → Ready m w out′ fill k es
 ready-kept same r = record { catalog = written-kept same (r .catalog); unique = r .unique; known = r .known }
 
--- outcomes one after the other, with the attributes before them
-unfoldable pub after : List Given → Outcome (List Given) → Outcome (List Given)
-after gs o = o >>= λ hs. done (gs ++ hs)
-
-after-one : (gs : List Given) (g : Given) (o : Outcome (List Given)) → after gs (o >>= λ hs. done (g ∷ hs)) ≡ after (gs ++ (g ∷ [])) o
-unfolding after _>>=_
-after-one gs g (refused r p) = refl
-after-one gs g (done hs) = ap done (sym (append-assoc gs (g ∷ []) hs))
+tells-kept : {m w out out′ : List ℕ} {fill scope : ℕ} {node : Bool} {a : Outcome Labelled} {f : Known → Context → State → Outcome Labelled} → take fill out′ ≡ take fill out → Tells m w out′ fill scope node a f → Tells m w out fill scope node a f
+tells-kept same t = record { says = λ k c es n r h e b. t .says k c es n r (ready-kept same h) e b }
 
 attributes-more : (outer own : Labels) (gs : List Given) (g : Given) → attributesFor outer own (gs ++ (g ∷ [])) ≡ attributesFor outer own gs ++ (attribute (g .name) (underBoth outer own (g .content)) ∷ [])
 unfolding attributesFor
@@ -106,12 +97,6 @@ each-last : {l : List Attribute} {a : Attribute} → Each FitsAttribute l → Fi
 each-last noneLeft f = also f noneLeft
 each-last (also g gs) f = also g (each-last gs f)
 
--- what is left from q on says, after gs, what all of them say
-pub record Rest (m w out : List ℕ) (fill scope : ℕ) (node : Bool) (d first end q : ℕ) (gs : List Given) : Type 0 where
-  pub attributes : Siblings m d AttributeKind q end
-  pub says : (k : Known) (c : Context) (es : List Entry) (n r : ℕ) → Ready m w out fill k es → c .scope ≡ scopeOf scope → c .base ≡ baseFor node
-      → after gs (evaluateAll k c (stateOf w es n r) (attributesAt m d (fieldsIn m q end))) ≡ evaluateAll k c (stateOf w es n r) (attributesAt m d (fieldsIn m first end))
-
 -- the attributes up to q are appended, from the output out₀ to out
 pub record Gathering (m w out₀ out : List ℕ) (fill scope : ℕ) (node : Bool) (d first end : ℕ) (outer own : Labels) (size q : ℕ) : Type 0 where
   pub gs : List Given
@@ -121,40 +106,12 @@ pub record Gathering (m w out₀ out : List ℕ) (fill scope : ℕ) (node : Bool
   pub rest : Siblings m d AttributeKind first end → Rest m w out₀ fill scope node d first end q gs
 
 pub gathering-begins : (m w out : List ℕ) (fill scope : ℕ) (node : Bool) (d first end : ℕ) (outer own : Labels) → Gathering m w out out fill scope node d first end outer own 39 first
-unfolding attributesFor after _>>=_
-gathering-begins m w out fill scope node d first end outer own = record {
-  gs = [];
-  holding = holding-none (drop fill out);
-  fits = noneLeft;
-  kept = record { front = refl; long = refl };
-  rest = λ s. record { attributes = s; says = λ k c es n r h e b. same (evaluateAll k c (stateOf w es n r) (attributesAt m d (fieldsIn m first end))) };
-}
-  where
-    same : (o : Outcome (List Given)) → after [] o ≡ o
-    same (refused r p) = refl
-    same (done hs) = refl
+unfolding attributesFor
+gathering-begins m w out fill scope node d first end outer own = record { gs = []; holding = holding-none (drop fill out); fits = noneLeft; kept = record { front = refl; long = refl }; rest = rest-begins }
 
 module _ {m w out₀ out : List ℕ} {fill scope : ℕ} {node : Bool} {d first end : ℕ} {outer own : Labels} {size q : ℕ} (so-far : Gathering m w out₀ out fill scope node d first end outer own size q) where
   module _ (b : ℕ) (deep : d ≡ suc b) (more : q < end) where
-    here : (s : Siblings m d AttributeKind first end) → FirstSibling m d AttributeKind q end
-    here s = first-sibling (so-far .rest s .attributes) more
-
-    -- the answer for the attribute at q
-    answer : {o : Outcome Labelled} → (StandsAs m b ExpressionKind (q + 5) → Tells m w out fill scope node o (λ k c st. evaluate k c st (expressionAt m b (q + 5)))) → Siblings m d AttributeKind first end
-        → (k : Known) (c : Context) (es : List Entry) (n r : ℕ) → Ready m w out₀ fill k es → c .scope ≡ scopeOf scope → c .base ≡ baseFor node
-        → after (so-far .gs) (o >>= λ x. evaluateAll k c (stateOf w es n r) (attributesAt m d (fieldsIn m (endOf m q) end)) >>= λ hs. done (record { place = q; name = two m (q + 3); content = x } ∷ hs))
-        ≡ evaluateAll k c (stateOf w es n r) (attributesAt m d (fieldsIn m first end))
-    unfolding evaluateAll attributesAt attributeAt
-    answer {o} told s k c es n r h e f =
-        let below : b ≡ d - 1 = omega arith in
-        let st = stateOf w es n r in
-        let it : o ≡ evaluate k c st (expressionAt m (d - 1) (q + 5)) = told (attribute-opens (here s .here) deep .expression) .says k c es n r (ready-kept (so-far .kept .front) h) e f ∙ ap (λ (j : ℕ). evaluate k c st (expressionAt m j (q + 5))) below in
-        ap (λ (u : Outcome Labelled). after (so-far .gs) (u >>= λ x. evaluateAll k c st (attributesAt m d (fieldsIn m (endOf m q) end)) >>= λ hs. done (record { place = q; name = two m (q + 3); content = x } ∷ hs))) it
-        ∙ ap (λ (qs : List ℕ). after (so-far .gs) (evaluateAll k c st (attributesAt m d qs))) (sym (here s .places))
-        ∙ so-far .rest s .says k c es n r h e f
-
     pub gathering-on : {out′ : List ℕ} {s : Ran} {n r : ℕ} → Added m w out out′ fill size scope node b q outer own s → s ≡ Done n → r ≡ endOf m q → Gathering m w out₀ out′ fill scope node d first end outer own n r
-    unfolding _>>=_
     gathering-on {out′} {s} {n} {r} a is next = subst (λ (j : ℕ). Gathering m w out₀ out′ fill scope node d first end outer own n j) (sym next) (go (subst (λ (v : Ran). Added m w out out′ fill size scope node b q outer own v) is a))
       where
         go : Added m w out out′ fill size scope node b q outer own (Done n) → Gathering m w out₀ out′ fill scope node d first end outer own n (endOf m q)
@@ -166,27 +123,17 @@ module _ {m w out₀ out : List ℕ} {fill scope : ℕ} {node : Bool} {d first e
               holding = subst (λ (z : List Attribute). Holding (drop fill out′) n z) (sym l) (holding-more (drop fill out) size (attributesFor outer own (so-far .gs)) (attribute (two m (q + 3)) (underBoth outer own x)) (so-far .holding) (h .rest));
               fits = subst (λ (z : List Attribute). Each FitsAttribute z) (sym l) (each-last (so-far .fits) (h .fits));
               kept = record { front = h .kept .front ∙ so-far .kept .front; long = h .kept .long ∙ so-far .kept .long };
-              rest = λ s. record {
-                attributes = here s .after;
-                says = λ k c es n r y e f. sym (after-one (so-far .gs) g (evaluateAll k c (stateOf w es n r) (attributesAt m d (fieldsIn m (endOf m q) end)))) ∙ answer told s k c es n r y e f;
-              };
+              rest = λ s. rest-on (so-far .rest s) b deep more (λ stands. tells-kept (so-far .kept .front) (told stands)) x refl;
             }
 
     pub gathering-stops : {out′ : List ℕ} {s : Ran} {r : Reason} {p : ℕ} → Added m w out out′ fill size scope node b q outer own s → s ≡ Refused r p → Gathered m w out₀ out′ fill scope node d first end outer own s
-    unfolding after _>>=_
     gathering-stops {out′} {s} {r} {p} a is = subst (λ (v : Ran). Gathered m w out₀ out′ fill scope node d first end outer own v) (sym is) (go (subst (λ (v : Ran). Added m w out out′ fill size scope node b q outer own v) is a))
       where
         go : Added m w out out′ fill size scope node b q outer own (Refused r p) → Gathered m w out₀ out′ fill scope node d first end outer own (Refused r p)
-        go (notAdded same told) = notGathered (record { front = ap (take fill) same ∙ so-far .kept .front; long = ap length same ∙ so-far .kept .long }) (λ s. record { says = λ k c es n r y e f. answer told s k c es n r y e f })
+        go (notAdded same told) = notGathered (record { front = ap (take fill) same ∙ so-far .kept .front; long = ap length same ∙ so-far .kept .long }) (λ s. rest-stops (so-far .rest s) b deep more (λ stands. tells-kept (so-far .kept .front) (told stands)) refl)
 
   pub gathering-ends : end ≤ q → Gathered m w out₀ out fill scope node d first end outer own (Done size)
-  unfolding evaluateAll attributesAt after _>>=_
-  gathering-ends over = gathered (so-far .gs) (so-far .kept) (so-far .holding) (so-far .fits) (λ s. record {
-    says = λ k c es n r y e f.
-        ap done (sym (append-nil (so-far .gs)))
-        ∙ ap (λ (qs : List ℕ). after (so-far .gs) (evaluateAll k c (stateOf w es n r) (attributesAt m d qs))) (sym (no-sibling (so-far .rest s .attributes) over .places))
-        ∙ so-far .rest s .says k c es n r y e f;
-  })
+  gathering-ends over = gathered (so-far .gs) (so-far .kept) (so-far .holding) (so-far .fits) (λ s. rest-ends (so-far .rest s) over)
 
 -- the output is as long, and the entry grew by no more than 48 bytes
 pub added-kept : {m w out out′ : List ℕ} {fill size scope : ℕ} {node : Bool} {d q : ℕ} {outer own : Labels} {s : Ran} → Added m w out out′ fill size scope node d q outer own s → length out′ ≡ length out

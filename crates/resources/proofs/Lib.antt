@@ -1,6 +1,5 @@
 pub mod Ranges
 pub mod Gathering
-pub mod Repeats
 pub mod Finishing
 pub mod Checking
 pub mod Whole

@@ -13,7 +13,7 @@ use Rattle.values.specs.declared.Labelled.{Labelled}
 use Rattle.values.specs.declared.Value.{Value}
 use Rattle.values.specs.declared.Value.the-variants.{Integer, String, Boolean}
 use Rattle.values.specs.declared.Reason.{Reason}
-use Rattle.values.specs.declared.Reason.the-variants.{WrongKind}
+use Rattle.values.specs.declared.Reason.the-variants.{WrongKind, Malformed}
 use Rattle.wire.specs.Bytes.{byte, two, endOf, fieldsIn}
 use Rattle.rules.specs.Outcome.{Outcome, refused, done, _>>=_, at}
 use Rattle.rules.specs.Arithmetic.{stringIn}
@@ -38,9 +38,9 @@ use Rattle.evaluator.proofs.Expressions.{Small, operand-told}
 use Rattle.resources.specs.declared.Ran.{Ran}
 use Rattle.resources.specs.declared.Ran.the-variants.{Done, Refused}
 use Rattle.resources.specs.Attributes.{Kept, Gathered, notGathered, gathered}
-use Rattle.resources.specs.Names.{Alike, alikeNone, alike}
+use Rattle.attributes.specs.Names.{Alike, alikeNone, alike}
 use Rattle.resources.specs.Entries.{Means, refusedSo, Checks, RunsTitled, Runs}
-use Rattle.resources.proofs.Finishing.{kept-all}
+use Rattle.resources.proofs.Finishing.{kept-all, within-refused}
 
 -- what is evaluated stands at the places
 all-alike : (m : List ℕ) (d : ℕ) (k : Known) (c : Context) (st : State) (qs : List ℕ) → All (λ (gs : List Given). Alike m gs qs) (evaluateAll k c st (attributesAt m d qs))
@@ -67,6 +67,7 @@ module _ (m w out : List ℕ) (fill room scope : ℕ) (node : Bool) (inner p : �
   pub titled-wrong : {q : ℕ} {r : Ran} → (tagOf the-type (x .value) ≡ 1 → ⊥) → Small q (p + 5) → r ≡ Refused WrongKind q → RunsTitled m w out out fill room scope node inner p x built path trail r
   titled-wrong {q} {r} unlike small answer = record {
     kept = kept-all out fill;
+    within = within-refused fill room answer;
     says = λ s l e b t k c es n h e1 e2 e3. subst (λ (v : Ran). Means w out fill room n es (titledRun k c es n) v) (sym answer) (refusedSo {r = WrongKind} {p = q} (wrong-run k c es n (λ t v. unlike (ap (tagOf the-type) v)) ∙ ap (refused WrongKind) (sym (small .1 l))));
   }
 
@@ -101,6 +102,7 @@ module _ (m w out : List ℕ) (fill room scope : ℕ) (node : Bool) (inner p : �
     unfolding _>>=_
     titled-stops {r} {q} stop = record {
       kept = gathered-kept;
+      within = within-refused fill room stop;
       says = λ s l e b t k c es n h e1 e2 e3. subst (λ (v : Ran). Means w out1 fill room n es (titledRun k c es n) v) (sym stop) (refusedSo {r = r} {p = q} (sym (string-run k c es n (told (subst (λ (v : Ran). Gathered m w out out1 fill scope node (suc inner) (endOf m (p + 5)) (endOf m p) outer own v) stop (here e)) s k c es n h e1 e2))));
     }
       where
@@ -112,6 +114,7 @@ module _ (m w out : List ℕ) (fill room scope : ℕ) (node : Bool) (inner p : �
     unfolding _>>=_
     titled-goes-on {size} {out2} {r} went checks = record {
       kept = record { front = checks .kept .front ∙ gathered-kept .front; long = checks .kept .long ∙ gathered-kept .long };
+      within = checks .within;
       says = λ s l e b t k c es n h e1 e2 e3. go (subst (λ (v : Ran). Gathered m w out out1 fill scope node (suc inner) (endOf m (p + 5)) (endOf m p) outer own v) went (here e)) e s b t k c es n h e1 e2 e3;
     }
       where
@@ -129,9 +132,10 @@ module _ (m w out : List ℕ) (fill room scope : ℕ) (node : Bool) (inner p : �
 
 module _ (m w out : List ℕ) (fill room scope : ℕ) (node : Bool) (d p : ℕ) (built : Bool) (path trail : Labels) where
   -- a resource and its title have a level each
-  pub resource-flat : (r : Ran) → d < 2 → Runs m w out out fill room scope node d p built path trail r
-  resource-flat r flat = record {
+  pub resource-flat : {r : Ran} → d < 2 → r ≡ Refused Malformed p → Runs m w out out fill room scope node d p built path trail r
+  resource-flat flat answer = record {
     kept = kept-all out fill;
+    within = within-refused fill room answer;
     says = λ s by b t k declare c es n h e1 e2 e3. absurd (omega (arith, level s, level (resource-opens s (level s) by .title .stands)));
   }
 
@@ -151,6 +155,7 @@ module _ (m w out : List ℕ) (fill room scope : ℕ) (node : Bool) (d p : ℕ) 
     unfolding evaluated _>>=_
     resource-stops {r} {l} is = record {
       kept = kept-all out fill;
+      within = within-refused fill room {reason = r} {p = l} refl;
       says = λ s by b t k declare c es n h e1 e2 e3. refusedSo {r = r} {p = l} (sym (rw is at (resource-run s by k declare c es n h e1 e2)));
     }
 
@@ -158,6 +163,7 @@ module _ (m w out : List ℕ) (fill room scope : ℕ) (node : Bool) (d p : ℕ) 
     unfolding evaluated _>>=_
     resource-goes-on x {out′} {r} {inner} is above titled = record {
       kept = titled .kept;
+      within = titled .within;
       says = λ s by y t k declare c es n h e1 e2 e3.
           let o = resource-opens s deep by in
           subst (λ (u : Outcome State). Means w out′ fill room n es u r) (rw (is, above) at (resource-run s by k declare c es n h e1 e2))

@@ -9,19 +9,17 @@ use Rattle.labels.specs.Sets.{_∪_}
 use Rattle.values.specs.declared.Reason.{Reason}
 use Rattle.values.specs.declared.Labelled.{Labelled}
 use Rattle.wire.specs.Bytes.{two, fieldsIn}
-use Rattle.rules.specs.Outcome.{Outcome, refused, done}
-use Rattle.rules.specs.Tree.{AttributeField}
-use Rattle.rules.specs.State.{Attribute, Entry, Context, Known}
+use Rattle.rules.specs.Outcome.{refused, done}
+use Rattle.rules.specs.State.{Attribute}
 use Rattle.rules.specs.Evaluate.{evaluate}
 use Rattle.rules.specs.Run.{Given, evaluateAll}
 use Rattle.rules.specs.declared.Kind.the-variants.{Expression as ExpressionKind, Attribute as AttributeKind}
 use Rattle.rules.proofs.Lists.{Each}
 use Rattle.rules.proofs.ReadBack.{FitsAttribute}
 use Rattle.places.specs.At.{expressionAt, attributesAt, StandsAs, Siblings}
-use Rattle.cells.specs.Scopes.{scopeOf}
-use Rattle.cells.specs.Memory.{baseFor, stateOf}
 use Rattle.catalog.specs.Making.{stored, attribute, addAttribute, Holding}
-use Rattle.evaluator.specs.Known.{Ready, Tells}
+use Rattle.evaluator.specs.Known.{Tells}
+use Rattle.attributes.specs.Evaluated.{TellsIn}
 use Rattle.resources.specs.declared.Ran.{Ran}
 use Rattle.resources.specs.declared.Ran.the-variants.{Done, Refused}
 
@@ -57,15 +55,11 @@ pub data Added (m w out out′ : List ℕ) (fill size scope : ℕ) (node : Bool)
 
 -- ---- All of them
 
--- an answer is what the definition gives, in every state that the bytes stand for
-pub record TellsAll (m w out : List ℕ) (fill scope : ℕ) (node : Bool) (answer : Outcome (List Given)) (ats : List AttributeField) : Type 0 where
-  pub says : (k : Known) (c : Context) (es : List Entry) (n r : ℕ) → Ready m w out fill k es → c .scope ≡ scopeOf scope → c .base ≡ baseFor node → answer ≡ evaluateAll k c (stateOf w es n r) ats
-
 -- the 26s from `first` to `end`, with d levels, were evaluated and appended: the size of the entry so far, or the first refusal
 pub data Gathered (m w out out′ : List ℕ) (fill scope : ℕ) (node : Bool) (d first end : ℕ) (outer own : Labels) : Ran → Type 0 where
   notGathered : {r : Reason} {p : ℕ} → Kept out out′ fill
-      → (Siblings m d AttributeKind first end → TellsAll m w out fill scope node (refused r p) (attributesAt m d (fieldsIn m first end)))
+      → (Siblings m d AttributeKind first end → TellsIn m w out fill scope node (refused r p) (λ k c st. evaluateAll k c st (attributesAt m d (fieldsIn m first end))))
       → Gathered m w out out′ fill scope node d first end outer own (Refused r p)
   gathered : {size : ℕ} (gs : List Given) → Kept out out′ fill → Holding (drop fill out′) size (attributesFor outer own gs) → Each FitsAttribute (attributesFor outer own gs)
-      → (Siblings m d AttributeKind first end → TellsAll m w out fill scope node (done gs) (attributesAt m d (fieldsIn m first end)))
+      → (Siblings m d AttributeKind first end → TellsIn m w out fill scope node (done gs) (λ k c st. evaluateAll k c st (attributesAt m d (fieldsIn m first end))))
       → Gathered m w out out′ fill scope node d first end outer own (Done size)

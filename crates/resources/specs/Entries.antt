@@ -31,7 +31,12 @@ use Rattle.evaluator.specs.Known.{Ready}
 use Rattle.resources.specs.declared.Ran.{Ran}
 use Rattle.resources.specs.declared.Ran.the-variants.{Done, Refused}
 use Rattle.resources.specs.Attributes.{attributesFor, Kept}
-use Rattle.resources.specs.Names.{Alike}
+use Rattle.attributes.specs.Names.{Alike}
+
+-- a new fill point is within the room
+unfoldable pub Within : (fill room : ℕ) → Ran → Type 0
+Within fill room (Done f) = (fill ≤ f) × (f ≤ fill + room)
+Within fill room (Refused r p) = Unit {0}
 
 -- the entry e goes after the entries es: it is longer than the room, or it stands up to the new fill point
 pub data Entered (out′ : List ℕ) (fill room p : ℕ) (es : List Entry) (e : Entry) : Ran → Type 0 where
@@ -46,6 +51,7 @@ pub data Means (w out′ : List ℕ) (fill room n : ℕ) (es : List Entry) (o : 
 -- 9, 20, 21 and 23, for the resource at p whose 26s stand from `first` to `end`: `outer` is path and trail, `own` with the title's set
 pub record Checks (m out out′ : List ℕ) (fill size room p first end : ℕ) (built : Bool) (title : ℕ) (own : Labels) (r : Ran) : Type 0 where
   pub kept : Kept out out′ fill
+  pub within : Within fill room r
   pub says : (w : List ℕ) (k : Known) (c : Context) (es : List Entry) (n : ℕ) (gs : List Given) (labels outer : Labels) → k .builtIn (two m (p + 3)) ≡ built → Written out fill (onto es []) → UniqueEntries es
       → outer ≡ c .path ∪ trailOf w → own ≡ labels ∪ outer → Holding (drop fill out) size (attributesFor outer own gs) → Each FitsAttribute (attributesFor outer own gs) → Alike m gs (fieldsIn m first end)
       → Means w out′ fill room n es (addResource k p (two m (p + 3)) title labels gs c (stateOf w es n room)) r
@@ -53,6 +59,7 @@ pub record Checks (m out out′ : List ℕ) (fill size room p first end : ℕ) (
 -- the same after its title x was evaluated, for expressions with `inner` levels in its 26s
 pub record RunsTitled (m w out out′ : List ℕ) (fill room scope : ℕ) (node : Bool) (inner p : ℕ) (x : Labelled) (built : Bool) (path trail : Labels) (r : Ran) : Type 0 where
   pub kept : Kept out out′ fill
+  pub within : Within fill room r
   pub says : Siblings m (suc inner) AttributeKind (endOf m (p + 5)) (endOf m p) → p + 5 ≤ 65535 → endOf m p ≤ 65535 → built ≡ builtInOf w (two m (p + 3)) → trail ≡ trailOf w
       → (k : Known) (c : Context) (es : List Entry) (n : ℕ) → Ready m w out fill k es → c .scope ≡ scopeOf scope → c .base ≡ baseFor node → c .path ≡ path
       → Means w out′ fill room n es (at (p + 5) (stringIn (x .value)) >>= λ t. evaluateAll k c (stateOf w es n room) (attributesAt m (suc inner) (fieldsIn m (endOf m (p + 5)) (endOf m p))) >>= λ gs. addResource k p (two m (p + 3)) t (x .labels) gs c (stateOf w es n room)) r
@@ -60,6 +67,7 @@ pub record RunsTitled (m w out out′ : List ℕ) (fill room scope : ℕ) (node 
 -- the 25 at p, with d levels: whatever is known and whatever a declaration does, the answer means what the definition's run gives
 pub record Runs (m w out out′ : List ℕ) (fill room scope : ℕ) (node : Bool) (d p : ℕ) (built : Bool) (path trail : Labels) (r : Ran) : Type 0 where
   pub kept : Kept out out′ fill
+  pub within : Within fill room r
   pub says : Stands m d p → byte m p ≡ 0x25 → built ≡ builtInOf w (two m (p + 3)) → trail ≡ trailOf w
       → (k : Known) (declare : Declare) (c : Context) (es : List Entry) (n : ℕ) → Ready m w out fill k es → c .scope ≡ scopeOf scope → c .base ≡ baseFor node → c .path ≡ path
       → Means w out′ fill room n es (run k declare (statementAt m d p) c (stateOf w es n room)) r

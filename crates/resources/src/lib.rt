@@ -1,20 +1,17 @@
 // A resource of a built-in type, after its step: its parts evaluated over the manifest's bytes in place, and its entry written to the output.
 ghost use mathlib.Core.Path.{_≡_};
-ghost use mathlib.Core.List.{List, []};
+ghost use mathlib.Core.List.{List};
 ghost use Prim.Native.Nat.{ℕ, suc, _+_, _-_, _≤_, _<_};
 ghost use lib.ListN.{length, drop};
-ghost use Rattle.wire.specs.Bytes.{two, endOf, fieldsIn};
-ghost use Rattle.rules.specs.Evaluate.{any};
 ghost use Rattle.rules.specs.State.{Attribute, Entry};
 ghost use Rattle.rules.proofs.Lists.{Each};
 ghost use Rattle.rules.proofs.ReadBack.{FitsAttribute};
 ghost use Rattle.catalog.specs.Making.{attribute, entry, Holding};
-ghost use Rattle.catalog.specs.Finding.{Below, Written};
+ghost use Rattle.catalog.specs.Finding.{Written};
 ghost use Rattle.evaluator.specs.Known.{Sized};
 ghost use Rattle.resources.specs.declared.Ran.the-variants.{Refused};
 ghost use Rattle.resources.specs.Attributes.{underBoth, Kept, Appended, Added, Gathered};
-ghost use Rattle.resources.specs.Entries.{Entered, Checks, RunsTitled, Runs};
-ghost use Rattle.resources.specs.Names.{hasName, repeatedIn};
+ghost use Rattle.resources.specs.Entries.{Within, Entered, Checks, RunsTitled, Runs};
 use labels::Labels;
 use values::Labelled;
 use values::Reason;
@@ -123,39 +120,6 @@ fn gather(
     Ran::Done(size)
 }
 
-// ---- Names
-
-// Whether one of the attributes between two places has this name.
-fn is_named(m: &[u8], first: usize, end: usize, name: u16) -> bool
-    requires { ⌜ end ≤ 65535 ⌝ }
-    ensures { λ r. ⌜ r ≡ any (hasName (now (m .entry)) name) (fieldsIn (now (m .entry)) first end) ⌝ }
-{
-    let mut q = first;
-    while q < end {
-        if wire::two_at(m, q + 3) == name {
-            return true;
-        }
-        q = wire::end_of(m, q);
-    }
-    false
-}
-
-// The first of the attributes between two places whose name one before it has. An entry that fits the output has less than 1,600, and so
-// all those that do take less than two million comparisons.
-fn find_repeated(m: &[u8], first: usize, end: usize) -> catalog::Place
-    requires { ⌜ end ≤ 65535 ⌝ }
-    ensures { λ r. ⌜ (r ≡ repeatedIn (now (m .entry)) [] (fieldsIn (now (m .entry)) first end)) × Below end r ⌝ }
-{
-    let mut q = first;
-    while q < end {
-        if is_named(m, first, q, wire::two_at(m, q + 3)) {
-            return catalog::Place::At(q);
-        }
-        q = wire::end_of(m, q);
-    }
-    catalog::Place::Nothing
-}
-
 // ---- The entry
 
 fn refusal(reason: Reason, p: usize) -> Ran
@@ -180,7 +144,7 @@ fn finish(
     own: Labels,
 ) -> Ran
     requires { ⌜ (fill ≤ length (now out)) × ((fill ≤ 65535) × ((39 ≤ size) × ((room ≤ 65535) × ((room ≤ length (now out) - fill) × (p ≤ 65535))))) ⌝ }
-    ensures { λ r. ⌜ Kept (now (out .entry)) (now (out .exit)) fill × ((ats : List Attribute) (es : List Entry) → Holding (drop fill (now (out .entry))) size ats → Each FitsAttribute ats → Written (now (out .entry)) fill es → Entered (now (out .exit)) fill room p es (entry kind title own ats) r) ⌝ }
+    ensures { λ r. ⌜ Kept (now (out .entry)) (now (out .exit)) fill × (Within fill room r × ((ats : List Attribute) (es : List Entry) → Holding (drop fill (now (out .entry))) size ats → Each FitsAttribute ats → Written (now (out .entry)) fill es → Entered (now (out .exit)) fill room p es (entry kind title own ats) r)) ⌝ }
 {
     if room < size {
         return refusal(Reason::OutputFull, p);
@@ -216,7 +180,7 @@ fn check(
     if catalog::has_entry(out, fill, kind, title) {
         return refusal(Reason::ResourceAgain, p);
     }
-    let again = find_repeated(m, first, end);
+    let again = attributes::find_repeated(m, first, end);
     match again {
         catalog::Place::At(q) => refusal(Reason::AttributeAgain, q),
         catalog::Place::Nothing => finish(out, fill, size, room, p, kind, title, own),

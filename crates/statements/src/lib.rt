@@ -85,7 +85,7 @@ fn in_context(work: &[u8], set: Labels, path: Labels) -> Labels
 // ---- Assignments
 
 // Gives a variable the value x, for a statement at p.
-fn store(work: &mut [u8], p: usize, scope: u16, name: u16, x: Labelled, path: Labels) -> Ran
+pub fn store(work: &mut [u8], p: usize, scope: u16, name: u16, x: Labelled, path: Labels) -> Ran
     requires { ⌜ (65536 ≤ length (now work)) × ((name < 1024) × (p ≤ 65535)) ⌝ }
     ensures { λ r. ⌜ Does (now (work .entry)) (now (work .exit)) scope path (ranAs r) (λ c. rules.store c p name x) ⌝ }
 {

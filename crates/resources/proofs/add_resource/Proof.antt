@@ -10,7 +10,7 @@ refusal-requires : tie.Need-refusal-requires
 refusal-requires c κs = search needs
 
 returns : tie.Need-returns
-returns c = resource-flat _ _ _ _ _ _ _ _ _ _ _ _ _ (c .before .if1 .taken)
+returns c = resource-flat _ _ _ _ _ _ _ _ _ _ _ _ (c .before .if1 .taken) (c .refusal .ensures)
 
 sub-evaluate : tie.Need-sub-evaluate
 sub-evaluate c = search needs

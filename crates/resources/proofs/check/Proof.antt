@@ -55,7 +55,7 @@ same-length-3 : tie.Need-same-length-3
 same-length-3 c = search needs
 
 returns-4 : tie.Need-returns-4
-returns-4 c = check-rest _ _ _ _ _ _ _ _ _ _ _ (c .before .before .before .before .before .before .before .before .before .before .before .if1 .left) (c .before .before .before .before .before .before .before .before .before .before .two-at .ensures) (c .before .before .before .before .before .before .before .before .has-entry .ensures) (c .before .before .before .before .before .before .before .if2 .left) (c .before .before .before .before .before .before .find-repeated .ensures .0) (c .before .before .before .before .enum-told .given .1) (c .before .before .finish .ensures .0) (c .before .before .finish .ensures .1)
+returns-4 c = check-rest _ _ _ _ _ _ _ _ _ _ _ (c .before .before .before .before .before .before .before .before .before .before .before .if1 .left) (c .before .before .before .before .before .before .before .before .before .before .two-at .ensures) (c .before .before .before .before .before .before .before .before .has-entry .ensures) (c .before .before .before .before .before .before .before .if2 .left) (c .before .before .before .before .before .before .find-repeated .ensures .0) (c .before .before .before .before .enum-told .given .1) (c .before .before .finish .ensures .0) (c .before .before .finish .ensures .1 .0) (c .before .before .finish .ensures .1 .1)
 
 pub check-spec : {M : Type 1} → statement M
 check-spec =

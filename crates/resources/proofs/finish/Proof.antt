@@ -1,7 +1,7 @@
 -- `finish`: longer than the room, or the header in front of the attributes.
 use native.Mathlib.Omega.{arith}
 use Rattle.labels.specs.Sets.{Words64}
-use Rattle.resources.proofs.Finishing.{lent-kept, finish-early, finish-full, finish-fits, kept-all}
+use Rattle.resources.proofs.Finishing.{lent-kept, finish-early, finish-full, finish-fits, kept-all, within-refused, within-done}
 use borrow.Author.Needs.{needs}
 use Rattle.resources.proofs.finish.Statement.{statement}
 use Rattle.resources.proofs.finish.Tie as tie
@@ -13,7 +13,7 @@ returns : tie.Need-returns
 returns c =
     let s = c .before .before .before in
     let a = s .args in
-    (kept-all _ _, finish-early (a .out .now) (a .fill) (a .size) (a .room) (a .p) (a .kind) (a .title) (a .own) (s .pre .0) (c .before .if1 .taken) (c .refusal .ensures))
+    (kept-all _ _, (within-refused _ _ (c .refusal .ensures), finish-early (a .out .now) (a .fill) (a .size) (a .room) (a .p) (a .kind) (a .title) (a .own) (s .pre .0) (c .before .if1 .taken) (c .refusal .ensures)))
 
 sub-finish-entry : tie.Need-sub-finish-entry
 sub-finish-entry c = search needs
@@ -46,7 +46,7 @@ returns-2 : tie.Need-returns-2
 returns-2 c =
     let s = c .before .before .before .before .before .before .before .before .before in
     let a = s .args in
-    (lent-kept (a .out .now) (a .fill) (a .size) (a .room) (a .p) (a .kind) (a .title) (a .own) (s .pre .0) (s .pre .1 .1 .1 .1 .0) (c .before .before .before .before .before .finish-entry .ensures) (same-length c), finish-full (a .out .now) (a .fill) (a .size) (a .room) (a .p) (a .kind) (a .title) (a .own) (s .pre .0) (s .pre .1 .1 .1 .1 .0) (c .before .before .before .before .before .finish-entry .ensures) (same-length c) (c .before .enum-told .given .1) (c .refusal2 .ensures))
+    (lent-kept (a .out .now) (a .fill) (a .size) (a .room) (a .p) (a .kind) (a .title) (a .own) (s .pre .0) (s .pre .1 .1 .1 .1 .0) (c .before .before .before .before .before .finish-entry .ensures) (same-length c), (within-refused _ _ (c .refusal2 .ensures), finish-full (a .out .now) (a .fill) (a .size) (a .room) (a .p) (a .kind) (a .title) (a .own) (s .pre .0) (s .pre .1 .1 .1 .1 .0) (c .before .before .before .before .before .finish-entry .ensures) (same-length c) (c .before .enum-told .given .1) (c .refusal2 .ensures)))
 
 same-length-2 : tie.Need-same-length-2
 same-length-2 c = search needs
@@ -59,7 +59,7 @@ returns-3 : tie.Need-returns-3
 returns-3 c =
     let s = c .before .before .before .before .before .before .before .before in
     let a = s .args in
-    (lent-kept (a .out .now) (a .fill) (a .size) (a .room) (a .p) (a .kind) (a .title) (a .own) (s .pre .0) (s .pre .1 .1 .1 .1 .0) (c .before .before .before .before .finish-entry .ensures) (same-length-2 c), finish-fits (a .out .now) (a .fill) (a .size) (a .room) (a .p) (a .kind) (a .title) (a .own) (s .pre .0) (s .pre .1 .1 .1 .1 .0) (c .before .before .before .before .finish-entry .ensures) (same-length-2 c) (c .enum-told2 .given .1) (omega (arith, s .fits .kind)) (omega (arith, s .fits .title)) (words s))
+    (lent-kept (a .out .now) (a .fill) (a .size) (a .room) (a .p) (a .kind) (a .title) (a .own) (s .pre .0) (s .pre .1 .1 .1 .1 .0) (c .before .before .before .before .finish-entry .ensures) (same-length-2 c), (within-done _ _ _ (c .before .before .before .before .before .before .if1 .left), finish-fits (a .out .now) (a .fill) (a .size) (a .room) (a .p) (a .kind) (a .title) (a .own) (s .pre .0) (s .pre .1 .1 .1 .1 .0) (c .before .before .before .before .finish-entry .ensures) (same-length-2 c) (c .enum-told2 .given .1) (omega (arith, s .fits .kind)) (omega (arith, s .fits .title)) (words s)))
 
 pub finish-spec : {M : Type 1} → statement M
 finish-spec =

@@ -2,9 +2,9 @@
 use Prim.Native.Nat.{_-_}
 use native.Mathlib.Omega.{arith}
 use Rattle.catalog.specs.Finding.{Below}
-use Rattle.resources.proofs.Repeats.{Single, single-begins, repeated-here, repeated-further, repeated-nowhere}
-use Rattle.resources.proofs.find_repeated.Statement.{statement}
-use Rattle.resources.proofs.find_repeated.Tie as tie
+use Rattle.attributes.proofs.Repeats.{Single, single-begins, repeated-here, repeated-further, repeated-nowhere}
+use Rattle.attributes.proofs.find_repeated.Statement.{statement}
+use Rattle.attributes.proofs.find_repeated.Tie as tie
 
 abbrev Inv-loop : tie.InvT-loop
 Inv-loop m first end q₀ q = Single m first end q

@@ -1,15 +1,20 @@
--- The ways of the functions that look for a name given twice. Assumes nothing.
+-- The ways of the functions that look for a name given twice, and what they say of the evaluated 26s. Assumes nothing.
 use Prim.Native.Nat.{ℕ, _+_, _≤_, _<_}
 use mathlib.Core.Path.{_≡_, refl, sym, ap, _∙_}
 use mathlib.Core.Bool.{Bool, true, false, _||_}
 use mathlib.Core.List.{List, [], _∷_}
 use native.Mathlib.Omega.{arith}
 use borrow.Author.Tests.{eq-eqb, ne-eqb}
+use lib.Dec.{eqb}
+use Rattle.values.specs.declared.Reason.the-variants.{AttributeAgain}
 use Rattle.wire.specs.Bytes.{pick, two, endOf, fieldsIn}
 use Rattle.wire.proofs.Fields.{no-fields, field-first}
+use Rattle.rules.specs.Outcome.{Outcome, refused, done, _>>=_, refuseIf}
 use Rattle.rules.specs.Evaluate.{any}
+use Rattle.rules.specs.Run.{Given, isGiven, namedOnce}
+use Rattle.catalog.specs.declared.Place.{Place}
 use Rattle.catalog.specs.declared.Place.the-variants.{At, Nothing}
-use Rattle.resources.specs.Names.{hasName, repeatedIn}
+use Rattle.attributes.specs.Names.{hasName, repeatedIn, Alike, alikeNone, alike}
 
 -- ---- The ways of `is_named`: what is left from q on says what all of them say
 
@@ -96,3 +101,27 @@ module _ {m : List ℕ} {first end q : ℕ} (s : Single m first end q) where
   pub repeated-nowhere : end ≤ q → Nothing ≡ repeatedIn m [] (fieldsIn m first end)
   unfolding repeatedIn
   repeated-nowhere over = ap (repeatedIn m (s .earlier)) (sym (no-fields m q end over)) ∙ s .left
+
+-- ---- The evaluated 26s by their places
+
+-- "An attribute is named twice in one body", at the later one
+unfoldable pub repeatedOutcome : Place → Outcome (Unit {0})
+repeatedOutcome (At q) = refused AttributeAgain q
+repeatedOutcome Nothing = done tt
+
+named-as : (m : List ℕ) (earlier : List Given) (places : List ℕ) {gs : List Given} {qs : List ℕ} → ((n : ℕ) → any (isGiven n) earlier ≡ any (hasName m n) places) → Alike m gs qs → namedOnce earlier gs ≡ repeatedOutcome (repeatedIn m places qs)
+unfolding namedOnce repeatedIn repeatedOutcome any isGiven refuseIf _>>=_
+named-as m earlier places same alikeNone = refl
+named-as m earlier places same (alike {q = q} {x = x} {gs = gs} {qs = qs} a) =
+    ap (λ (b : Bool). refuseIf b AttributeAgain q >>= λ _. namedOnce (g ∷ earlier) gs) (same (two m (q + 3))) ∙ go (named-as m (g ∷ earlier) (q ∷ places) (λ n. ap (λ (b : Bool). eqb (two m (q + 3)) n || b) (same n)) a) (any (hasName m (two m (q + 3))) places)
+  where
+    g : Given
+    g = record { place = q; name = two m (q + 3); content = x }
+
+    go : namedOnce (g ∷ earlier) gs ≡ repeatedOutcome (repeatedIn m (q ∷ places) qs) → (b : Bool) → (refuseIf b AttributeAgain q >>= λ _. namedOnce (g ∷ earlier) gs) ≡ repeatedOutcome (pick b (At q) (repeatedIn m (q ∷ places) qs))
+    go later true = refl
+    go later false = later
+
+pub named-places : (m : List ℕ) {gs : List Given} {qs : List ℕ} {f : Place} → f ≡ repeatedIn m [] qs → Alike m gs qs → namedOnce [] gs ≡ repeatedOutcome f
+unfolding any
+named-places m e a = named-as m [] [] (λ n. refl) a ∙ ap repeatedOutcome (sym e)

@@ -4,10 +4,10 @@ use mathlib.Core.Path.{_≡_, refl}
 use native.Mathlib.Omega.{arith}
 use Rattle.wire.specs.Bytes.{fieldsIn}
 use Rattle.rules.specs.Evaluate.{any}
-use Rattle.resources.specs.Names.{hasName}
-use Rattle.resources.proofs.Repeats.{named-found, named-further, named-nowhere}
-use Rattle.resources.proofs.is_named.Statement.{statement}
-use Rattle.resources.proofs.is_named.Tie as tie
+use Rattle.attributes.specs.Names.{hasName}
+use Rattle.attributes.proofs.Repeats.{named-found, named-further, named-nowhere}
+use Rattle.attributes.proofs.is_named.Statement.{statement}
+use Rattle.attributes.proofs.is_named.Tie as tie
 
 abbrev Inv-loop : tie.InvT-loop
 Inv-loop m first end name q₀ q = any (hasName m name) (fieldsIn m q end) ≡ any (hasName m name) (fieldsIn m first end)

@@ -1,0 +1,4 @@
+pub mod Table
+pub mod Repeats
+pub mod Evaluating
+pub mod Titled

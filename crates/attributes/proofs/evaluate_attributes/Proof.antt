@@ -1,0 +1,86 @@
+-- `evaluate_attributes`: at the loop's head the attributes up to q are evaluated into the table, which is as long as it was.
+use Prim.Native.Nat.{_-_}
+use mathlib.Core.Path.{_≡_, refl}
+use native.Mathlib.Omega.{arith}
+use borrow.Author.Needs.{needs}
+use lib.ListN.{length}
+use Rattle.attributes.proofs.Evaluating.{Evaluating, evaluating-begins, deep, expression-sized, evaluating-stops, evaluating-on, evaluating-ends}
+use Rattle.attributes.proofs.evaluate_attributes.Statement.{statement}
+use Rattle.attributes.proofs.evaluate_attributes.Tie as tie
+
+abbrev Inv-loop : tie.InvT-loop
+Inv-loop m depth first end work out fill scope base-is-node table₀ q₀ table q = Evaluating m work out fill scope base-is-node depth first end q table × (length table ≡ length table₀)
+
+abbrev μ-loop : tie.MeasureT-loop
+μ-loop m depth first end work out fill scope base-is-node table₀ q₀ table q = end - q
+
+loop-holds : tie.Need-loop-holds Inv-loop μ-loop
+loop-holds c = (evaluating-begins (c .before .before .before .before .pre .0 .1) (c .before .before .before .before .pre .1 .1), refl)
+
+sub-evaluate : tie.Need-sub-evaluate Inv-loop μ-loop
+sub-evaluate c = omega (arith, deep (c .before .loop .inv .0) (c .loop-test .taken))
+
+add-evaluate : tie.Need-add-evaluate Inv-loop μ-loop
+add-evaluate c = omega (arith, c .loop-test .taken, c .before .before .before .before .before .before .pre .0 .0 .place)
+
+evaluate-requires : tie.Need-evaluate-requires Inv-loop μ-loop
+evaluate-requires c κs = expression-sized (c .before .loop .inv .0) (c .loop-test .taken) (c .before .before .before .before .before .before .pre .0 .0)
+
+enum-known-e : tie.Need-enum-known-e Inv-loop μ-loop
+enum-known-e c = search needs
+
+same-length : tie.Need-same-length Inv-loop μ-loop
+same-length c = c .before .before .before .before .before .loop .inv .1
+
+returns : tie.Need-returns Inv-loop μ-loop
+returns c = evaluating-stops (c .before .before .before .before .before .loop .inv .0) (c .before .before .before .before .loop-test .taken) (c .before .before .before .evaluate .ensures) (c .before .e .given .1)
+
+enum-known-e-2 : tie.Need-enum-known-e-2 Inv-loop μ-loop
+enum-known-e-2 c = search needs
+
+add-two-at : tie.Need-add-two-at Inv-loop μ-loop
+add-two-at c = omega (arith, c .before .before .before .before .before .loop-test .taken, c .before .before .before .before .before .before .before .before .before .before .before .pre .0 .0 .place)
+
+two-at-requires : tie.Need-two-at-requires Inv-loop μ-loop
+two-at-requires c κs = tt
+
+add-given-requires : tie.Need-add-given-requires Inv-loop μ-loop
+add-given-requires c κs = omega (arith, c .before .before .before .before .before .before .before .loop .inv .1, c .before .before .before .before .before .before .before .before .before .before .before .before .pre .1 .0)
+
+end-of-requires : tie.Need-end-of-requires Inv-loop μ-loop
+end-of-requires c κs = omega (arith, c .before .before .before .before .before .before .before .before .before .loop-test .taken, c .before .before .before .before .before .before .before .before .before .before .before .before .before .before .before .pre .0 .0 .place)
+
+loop-less : tie.Need-loop-less Inv-loop μ-loop
+loop-less c = omega (arith, c .before .before .before .before .before .before .before .before .before .before .loop-test .taken, c .end-of .ensures)
+
+loop-again : tie.Need-loop-again Inv-loop μ-loop
+loop-again c = (evaluating-on (c .before .before .before .before .before .before .before .before .before .before .before .loop .inv .0) (c .before .before .before .before .before .before .before .before .before .before .loop-test .taken) (c .before .before .before .before .before .before .before .before .before .evaluate .ensures) _ (c .before .before .before .before .before .before .before .e2 .given .1) (c .before .before .before .before .two-at .ensures) (c .before .before .before .add-given .ensures) (c .end-of .ensures), omega arith)
+
+same-length-2 : tie.Need-same-length-2 Inv-loop μ-loop
+same-length-2 c = c .before .loop .inv .1
+
+returns-2 : tie.Need-returns-2 Inv-loop μ-loop
+returns-2 c = evaluating-ends (c .before .loop .inv .0) (c .loop-test .left)
+
+pub evaluate-attributes-spec : {M : Type 1} → statement M
+evaluate-attributes-spec =
+    tie.close
+    (tie.spec
+    Inv-loop
+    μ-loop
+    loop-holds
+    sub-evaluate
+    add-evaluate
+    evaluate-requires
+    enum-known-e
+    same-length
+    returns
+    enum-known-e-2
+    add-two-at
+    two-at-requires
+    add-given-requires
+    end-of-requires
+    loop-less
+    loop-again
+    same-length-2
+    returns-2)

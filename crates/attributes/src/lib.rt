@@ -1,0 +1,190 @@
+// The attributes (26) of a declaration: evaluated in written order into a table by name, and the first of them that repeats a name.
+ghost use mathlib.Core.Path.{_≡_};
+ghost use mathlib.Core.List.{[]};
+ghost use mathlib.Core.Option.{none, some};
+ghost use Prim.Native.Nat.{ℕ, _-_, _≤_, _<_};
+ghost use lib.Dec.{eqb};
+ghost use lib.ListN.{length};
+ghost use Rattle.wire.specs.Bytes.{pick, byte, fieldsIn};
+ghost use Rattle.rules.specs.Evaluate.{any};
+ghost use Rattle.rules.specs.declared.Kind.the-variants.{Attribute, Statement};
+ghost use Rattle.places.specs.At.{StandsAs, Siblings};
+ghost use Rattle.cells.specs.Memory.{heldOf};
+ghost use Rattle.catalog.specs.Finding.{Below};
+ghost use Rattle.evaluator.specs.Known.{Sized};
+ghost use Rattle.attributes.specs.Names.{hasName, repeatedIn};
+ghost use Rattle.attributes.specs.Table.{tableSize, givenAt, Adds};
+ghost use Rattle.attributes.specs.Evaluated.{GivenIn, TitledIn};
+use cells::Held;
+use evaluator::Evaluated;
+use values::Labelled;
+use values::Reason;
+use values::Value;
+
+pub enum Gathered {
+    Done,
+    Refused { reason: Reason, place: u16 },
+}
+
+// ---- Names
+
+// Whether one of the attributes between two places has this name.
+pub fn is_named(m: &[u8], first: usize, end: usize, name: u16) -> bool
+    requires { ⌜ end ≤ 65535 ⌝ }
+    ensures { λ r. ⌜ r ≡ any (hasName (now (m .entry)) name) (fieldsIn (now (m .entry)) first end) ⌝ }
+{
+    let mut q = first;
+    while q < end {
+        if wire::two_at(m, q + 3) == name {
+            return true;
+        }
+        q = wire::end_of(m, q);
+    }
+    false
+}
+
+// The first of the attributes between two places whose name one before it has.
+pub fn find_repeated(m: &[u8], first: usize, end: usize) -> catalog::Place
+    requires { ⌜ end ≤ 65535 ⌝ }
+    ensures { λ r. ⌜ (r ≡ repeatedIn (now (m .entry)) [] (fieldsIn (now (m .entry)) first end)) × Below end r ⌝ }
+{
+    let mut q = first;
+    while q < end {
+        if is_named(m, first, q, wire::two_at(m, q + 3)) {
+            return catalog::Place::At(q);
+        }
+        q = wire::end_of(m, q);
+    }
+    catalog::Place::Nothing
+}
+
+// ---- The table
+
+// How many bytes a table has.
+pub const TABLE: usize = 41984;
+
+// The value given to a name.
+pub fn given(table: &[u8], name: u16) -> Held
+    ensures { λ r. ⌜ (name < 1024 → r ≡ heldOf (givenAt (now (table .entry)) name)) ⌝ }
+{
+    if table.len() < TABLE {
+        return Held::Empty;
+    }
+    if 1024 <= name {
+        return Held::Empty;
+    }
+    let place = 41 * name as usize;
+    let kind = wire::byte_at(table, place);
+    if kind <= 1 {
+        return Held::Empty;
+    }
+    let value = cells::value_at(table, kind, place + 1);
+    let labels = cells::labels_at(table, place + 9);
+    Held::Holds(Labelled { value, labels })
+}
+
+// Gives a value to a name.
+fn put_given(table: &mut [u8], name: u16, x: Labelled)
+    requires { ⌜ (tableSize ≤ length (now table)) × (name < 1024) ⌝ }
+    ensures { λ _. ⌜ ((n : ℕ) → n < 1024 → givenAt (now (table .exit)) n ≡ pick (eqb n name) (some x) (givenAt (now (table .entry)) n)) ⌝ }
+{
+    let place = 41 * name as usize;
+    let value = x.value;
+    let labels = x.labels;
+    cells::put_payload(table, place + 1, value);
+    cells::put_labels(table, place + 9, labels);
+    wire::put_byte(table, place, cells::kind_of(value));
+}
+
+// Gives a value to a name that has none yet.
+fn add_given(table: &mut [u8], name: u16, x: Labelled)
+    requires { ⌜ tableSize ≤ length (now table) ⌝ }
+    ensures { λ _. ⌜ Adds (now (table .entry)) (now (table .exit)) name x ⌝ }
+{
+    if 1024 <= name {
+        return;
+    }
+    let held = given(table, name);
+    match held {
+        Held::Holds(_) => {}
+        Held::Empty => put_given(table, name, x),
+    }
+}
+
+// ---- Evaluation
+
+// The attributes from `first` to `end`, with `depth` levels left for them, into a table that gives nothing yet.
+pub fn evaluate_attributes(
+    m: &[u8],
+    depth: u8,
+    first: usize,
+    end: usize,
+    work: &[u8],
+    out: &[u8],
+    fill: usize,
+    scope: u16,
+    base_is_node: bool,
+    table: &mut [u8],
+) -> Gathered
+    requires { ⌜ (Sized (now m) (now work) (now out) fill end × Siblings (now m) depth Attribute first end) × ((tableSize ≤ length (now table)) × ((n : ℕ) → n < 1024 → givenAt (now table) n ≡ none)) ⌝ }
+    ensures { λ r. ⌜ GivenIn (now (m .entry)) (now (work .entry)) (now (out .entry)) fill scope «base_is_node» depth first end (now (table .exit)) r ⌝ }
+{
+    let mut q = first;
+    while q < end {
+        let e = evaluator::evaluate(m, depth - 1, q + 5, work, out, fill, scope, base_is_node);
+        match e {
+            Evaluated::Refused { reason, place } => {
+                return Gathered::Refused { reason, place };
+            }
+            Evaluated::Value(x) => add_given(table, wire::two_at(m, q + 3), x),
+        }
+        q = wire::end_of(m, q);
+    }
+    Gathered::Done
+}
+
+// The title and the attributes of the 27 at p, with `depth` levels left for it.
+pub fn evaluate_titled(
+    m: &[u8],
+    depth: u8,
+    p: usize,
+    work: &[u8],
+    out: &[u8],
+    fill: usize,
+    scope: u16,
+    base_is_node: bool,
+    table: &mut [u8],
+) -> Evaluated
+    requires { ⌜ ((Sized (now m) (now work) (now out) fill p × StandsAs (now m) depth Statement p) × (byte (now m) p ≡ 0x27)) × ((tableSize ≤ length (now table)) × ((n : ℕ) → n < 1024 → givenAt (now table) n ≡ none)) ⌝ }
+    ensures { λ r. ⌜ TitledIn (now (m .entry)) (now (work .entry)) (now (out .entry)) fill scope «base_is_node» (depth - 1) p (now (table .exit)) r ⌝ }
+{
+    let t = evaluator::evaluate(m, depth - 1, p + 5, work, out, fill, scope, base_is_node);
+    let Evaluated::Value(x) = t else {
+        return t;
+    };
+    let value = x.value;
+    let Value::String(_) = value else {
+        return Evaluated::Refused {
+            reason: Reason::WrongKind,
+            place: (p + 5) as u16,
+        };
+    };
+    let first = wire::end_of(m, p + 5);
+    let end = wire::end_of(m, p);
+    let g = evaluate_attributes(
+        m,
+        depth - 1,
+        first,
+        end,
+        work,
+        out,
+        fill,
+        scope,
+        base_is_node,
+        table,
+    );
+    match g {
+        Gathered::Refused { reason, place } => Evaluated::Refused { reason, place },
+        Gathered::Done => Evaluated::Value(x),
+    }
+}

@@ -1,0 +1,4 @@
+pub mod Laws
+pub mod Searches
+pub mod Checking
+pub mod Storing

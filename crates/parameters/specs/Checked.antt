@@ -1,0 +1,39 @@
+-- The checks of what is given to a definition's parameters, and the parameters assigned.
+use Prim.Native.Nat.{ℕ, _+_, _<_}
+use mathlib.Core.Path.{_≡_}
+use mathlib.Core.List.{List, []}
+use mathlib.Core.Option.{some}
+use Rattle.labels.specs.declared.Labels.{Labels}
+use Rattle.values.specs.declared.Reason.{Reason}
+use Rattle.values.specs.declared.Labelled.{Labelled}
+use Rattle.wire.specs.Bytes.{two, fieldsIn}
+use Rattle.rules.specs.Outcome.{Outcome, refused, done, _>>=_}
+use Rattle.rules.specs.Tree.{Parameter}
+use Rattle.rules.specs.Run.{Given, namedOnce, parametersKnown, parameterValues, store, storeAll}
+use Rattle.rules.proofs.Lists.{Each}
+use Rattle.places.specs.At.{parametersAt}
+use Rattle.statements.specs.declared.Ran.{Ran}
+use Rattle.statements.specs.declared.Ran.the-variants.{Done, Refused}
+use Rattle.statements.specs.Answers.{ranAs, Does}
+use Rattle.attributes.specs.Table.{Gives}
+use Rattle.parameters.specs.Places.{parameterValue}
+
+-- 11, 12, then 21: the parameters with their values
+unfoldable pub checkGiven : List Parameter → List Given → Outcome (List Given)
+checkGiven ps gs = parametersKnown ps gs >>= λ _. parameterValues ps gs >>= λ vs. namedOnce [] gs >>= λ _. done vs
+
+pub data Checked (ps : List Parameter) (gs : List Given) : Ran → Type 0 where
+  refusedSo : {r : Reason} {p : ℕ} → checkGiven ps gs ≡ refused r p → Checked ps gs (Refused r p)
+  checkedSo : (vs : List Given) → checkGiven ps gs ≡ done vs → Checked ps gs Done
+
+-- the names of the 33s at these places are below 1,024
+abbrev pub SmallNames : List ℕ → List ℕ → Type 0
+SmallNames m qs = Each (λ (q : ℕ). two m (q + 3) < 1024) qs
+
+-- the parameter of the 33 at q is assigned, whatever its value is
+pub record Stores (m t w w′ : List ℕ) (q scope : ℕ) (path : Labels) (answer : Ran) : Type 0 where
+  pub does : (x : Labelled) → parameterValue m t q ≡ some x → Does w w′ scope path (ranAs answer) (λ c. store c q (two m (q + 3)) x)
+
+-- the parameters of the 33s from `from` to `to` are assigned, whatever the table gives
+pub record Assigns (m t w w′ : List ℕ) (from to scope : ℕ) (path : Labels) (answer : Ran) : Type 0 where
+  pub does : (gs vs : List Given) → Gives t gs → parameterValues (parametersAt m (fieldsIn m from to)) gs ≡ done vs → Does w w′ scope path (ranAs answer) (λ c. storeAll c vs)

@@ -1,0 +1,170 @@
+// The parameters (33) of a definition: what a declaration gives them checked (11, 12, 21), and assigned in the order of the 33s.
+ghost use mathlib.Core.Path.{_≡_};
+ghost use Prim.Native.Nat.{ℕ, _+_, _≤_, _<_};
+ghost use mathlib.Core.List.{List};
+ghost use lib.ListN.{length};
+ghost use Rattle.wire.specs.Bytes.{two, fieldsIn};
+ghost use Rattle.rules.specs.Run.{Given};
+ghost use Rattle.rules.specs.declared.Kind.the-variants.{Parameter};
+ghost use Rattle.places.specs.At.{parametersAt, Siblings};
+ghost use Rattle.places.proofs.Items.{BlockEnds};
+ghost use Rattle.cells.specs.Memory.{heldOf};
+ghost use Rattle.catalog.specs.Finding.{Below};
+ghost use Rattle.statements.specs.declared.Ran.the-variants.{Refused};
+ghost use Rattle.attributes.specs.Names.{Alike};
+ghost use Rattle.attributes.specs.Table.{Gives};
+ghost use Rattle.parameters.specs.Places.{unknownIn, parameterValue, missingIn};
+ghost use Rattle.parameters.specs.Checked.{Checked, SmallNames, Stores, Assigns};
+use cells::Held;
+use labels::Labels;
+use statements::Ran;
+use values::Reason;
+
+// Where the parameters that begin at `from` end: the definition's block stands there.
+pub fn end_of_parameters(m: &[u8], from: usize) -> usize
+    requires { ⌜ (length (now m) ≤ 65535) × (from ≤ 65535) ⌝ }
+    ensures { λ r. ⌜ ((to e : ℕ) → Siblings (now (m .entry)) 31 Parameter from to → BlockEnds (now (m .entry)) 31 to e → r ≡ to) ⌝ }
+{
+    let mut q = from;
+    while wire::byte_at(m, q) == 0x33 {
+        q = wire::end_of(m, q);
+    }
+    q
+}
+
+fn refusal(reason: Reason, p: usize) -> Ran
+    requires { ⌜ p ≤ 65535 ⌝ }
+    ensures { λ r. ⌜ r ≡ Refused reason p ⌝ }
+{
+    Ran::Refused {
+        reason,
+        place: p as u16,
+    }
+}
+
+// ---- Checks
+
+// The first attribute from `first` to `end` that names no parameter from `from` to `to`.
+fn find_unknown(m: &[u8], first: usize, end: usize, from: usize, to: usize) -> catalog::Place
+    requires { ⌜ (end ≤ 65535) × (to ≤ 65535) ⌝ }
+    ensures { λ r. ⌜ (r ≡ unknownIn (now (m .entry)) (fieldsIn (now (m .entry)) from to) (fieldsIn (now (m .entry)) first end)) × Below end r ⌝ }
+{
+    let mut q = first;
+    while q < end {
+        if !attributes::is_named(m, from, to, wire::two_at(m, q + 3)) {
+            return catalog::Place::At(q);
+        }
+        q = wire::end_of(m, q);
+    }
+    catalog::Place::Nothing
+}
+
+// The value of the parameter at q: the one given, or else its default.
+fn value_of(m: &[u8], q: usize, table: &[u8]) -> Held
+    requires { ⌜ q ≤ 65535 ⌝ }
+    ensures { λ r. ⌜ (two (now (m .entry)) (q + 3) < 1024 → r ≡ heldOf (parameterValue (now (m .entry)) (now (table .entry)) q)) ⌝ }
+{
+    let held = attributes::given(table, wire::two_at(m, q + 3));
+    match held {
+        Held::Holds(_) => return held,
+        Held::Empty => {}
+    }
+    if wire::end_of(m, q) <= q + 5 {
+        return Held::Empty;
+    }
+    Held::Holds(evaluator::constant_at(m, q + 5))
+}
+
+// The first parameter from `from` to `to` without a value.
+fn find_missing(m: &[u8], from: usize, to: usize, table: &[u8]) -> catalog::Place
+    requires { ⌜ to ≤ 65535 ⌝ }
+    ensures { λ r. ⌜ (SmallNames (now (m .entry)) (fieldsIn (now (m .entry)) from to) → r ≡ missingIn (now (m .entry)) (now (table .entry)) (fieldsIn (now (m .entry)) from to)) × Below to r ⌝ }
+{
+    let mut q = from;
+    while q < to {
+        let held = value_of(m, q, table);
+        match held {
+            Held::Empty => return catalog::Place::At(q),
+            Held::Holds(_) => {}
+        }
+        q = wire::end_of(m, q);
+    }
+    catalog::Place::Nothing
+}
+
+// What the attributes from `first` to `end`, whose values are in the table, give to the parameters from `from` to `to`: 11, 12, then 21.
+pub fn check_parameters(
+    m: &[u8],
+    first: usize,
+    end: usize,
+    from: usize,
+    to: usize,
+    table: &[u8],
+) -> Ran
+    requires { ⌜ (length (now m) ≤ 65535) × ((end ≤ 65535) × (to ≤ 65535)) ⌝ }
+    ensures { λ r. ⌜ ((gs : List Given) → Gives (now (table .entry)) gs → Alike (now (m .entry)) gs (fieldsIn (now (m .entry)) first end) → Siblings (now (m .entry)) 31 Parameter from to → SmallNames (now (m .entry)) (fieldsIn (now (m .entry)) from to) → Checked (parametersAt (now (m .entry)) (fieldsIn (now (m .entry)) from to)) gs r) ⌝ }
+{
+    let unknown = find_unknown(m, first, end, from, to);
+    match unknown {
+        catalog::Place::At(q) => return refusal(Reason::UnknownParameter, q),
+        catalog::Place::Nothing => {}
+    }
+    let missing = find_missing(m, from, to, table);
+    match missing {
+        catalog::Place::At(q) => return refusal(Reason::MissingParameter, q),
+        catalog::Place::Nothing => {}
+    }
+    let again = attributes::find_repeated(m, first, end);
+    match again {
+        catalog::Place::At(q) => refusal(Reason::AttributeAgain, q),
+        catalog::Place::Nothing => Ran::Done,
+    }
+}
+
+// ---- Stores
+
+// The parameter at q, assigned as a 21 would do it.
+fn store_parameter(
+    m: &[u8],
+    q: usize,
+    table: &[u8],
+    work: &mut [u8],
+    scope: u16,
+    path: Labels,
+) -> Ran
+    requires { ⌜ (q ≤ 65535) × ((65536 ≤ length (now work)) × (two (now m) (q + 3) < 1024)) ⌝ }
+    ensures { λ r. ⌜ Stores (now (m .entry)) (now (table .entry)) (now (work .entry)) (now (work .exit)) q scope path r ⌝ }
+{
+    let held = value_of(m, q, table);
+    match held {
+        Held::Empty => refusal(Reason::MissingParameter, q),
+        Held::Holds(x) => statements::store(work, q, scope, wire::two_at(m, q + 3), x, path),
+    }
+}
+
+// The parameters from `from` to `to`.
+pub fn store_parameters(
+    m: &[u8],
+    from: usize,
+    to: usize,
+    table: &[u8],
+    work: &mut [u8],
+    scope: u16,
+    path: Labels,
+) -> Ran
+    requires { ⌜ ((to ≤ 65535) × ((65536 ≤ length (now work)) × (length (now m) ≤ 65535))) × (Siblings (now m) 31 Parameter from to × SmallNames (now m) (fieldsIn (now m) from to)) ⌝ }
+    ensures { λ r. ⌜ Assigns (now (m .entry)) (now (table .entry)) (now (work .entry)) (now (work .exit)) from to scope path r ⌝ }
+{
+    let mut q = from;
+    while q < to {
+        let r = store_parameter(m, q, table, work, scope, path);
+        match r {
+            Ran::Refused { reason, place } => {
+                return Ran::Refused { reason, place };
+            }
+            Ran::Done => {}
+        }
+        q = wire::end_of(m, q);
+    }
+    Ran::Done
+}
