@@ -30,10 +30,11 @@ use Rattle.parameters.proofs.Searches.{held-value, held-nothing, small-
 
 module _ {m t w : List ℕ} {q scope : ℕ} {path : Labels} (small : two m (q + 3) < 1024) {h : Held} (read : two m (q + 3) < 1024 → h ≡ heldOf (parameterValue m t q)) where
   pub store-nothing : (answer : Ran) → h ≡ Empty → Stores m t w w q scope path answer
-  store-nothing answer is = record { does = λ x e. absurd (let n = held-nothing (parameterValue m t q) (read small) is in let z : _≡_ {A = ℕ} 0 1 = cc in omega arith) }
+  store-nothing answer is = record { keeps = keeps-same w; does = λ x e. absurd (let n = held-nothing (parameterValue m t q) (read small) is in let z : _≡_ {A = ℕ} 0 1 = cc in omega arith) }
 
   pub store-value : {w′ : List ℕ} {n : ℕ} {y : Labelled} (answer : Ran) → h ≡ Holds y → n ≡ two m (q + 3) → Does w w′ scope path (ranAs answer) (λ c. store c q n y) → Stores m t w w′ q scope path answer
   store-value {w′} {n} {y} answer is name stored = record {
+    keeps = stored .keeps;
     does = λ x e.
         let same : y ≡ x = let v = held-value (parameterValue m t q) (read small) is in cc in
         record { says = λ c es k r here way. stored .says c es k r here way ∙ ap₂ (λ (a : ℕ) (b : Labelled). store c q a b (stateOf w es k r)) name same; keeps = stored .keeps };
@@ -49,14 +50,14 @@ pub record Left (m w₀ w : List ℕ) (q to scope : ℕ) (path : Labels) (gs vs 
   pub values : List Given
   pub are : parameterValues (parametersAt m (fieldsIn m q to)) gs ≡ done values
   pub same : (c : Context) (es : List Entry) (n r : ℕ) → c .scope ≡ scopeOf scope → c .path ≡ path → storeAll c values (stateOf w es n r) ≡ storeAll c vs (stateOf w₀ es n r)
-  pub keeps : Keeps w₀ w
 
 pub record Storing (m t w₀ w : List ℕ) (from to q scope : ℕ) (path : Labels) : Type 0 where
   pub small : SmallNames m (fieldsIn m q to)
+  pub keeps : Keeps w₀ w
   pub left : (gs vs : List Given) → Gives t gs → parameterValues (parametersAt m (fieldsIn m from to)) gs ≡ done vs → Left m w₀ w q to scope path gs vs
 
 pub storing-begins : (m t w : List ℕ) (from to scope : ℕ) (path : Labels) → SmallNames m (fieldsIn m from to) → Storing m t w w from to from scope path
-storing-begins m t w from to scope path s = record { small = s; left = λ gs vs g e. record { values = vs; are = e; same = λ c es n r here way. refl; keeps = keeps-same w } }
+storing-begins m t w from to scope path s = record { small = s; keeps = keeps-same w; left = λ gs vs g e. record { values = vs; are = e; same = λ c es n r here way. refl } }
 
 module _ {m t w₀ w : List ℕ} {from to q scope : ℕ} {path : Labels} (i : Storing m t w₀ w from to q scope path) where
   module _ (more : q < to) where
@@ -74,13 +75,14 @@ module _ {m t w₀ w : List ℕ} {from to q scope : ℕ} {path : Labels} (i : St
     pub store-refused : {w′ : List ℕ} {a : Ran} (r : Reason) (p : ℕ) → Stores m t w w′ q scope path a → a ≡ Refused r p → Assigns m t w₀ w′ from to scope path (Refused r p)
     unfolding ranAs _>>=_
     store-refused {w′} reason p stored is = record {
+      keeps = keeps-then (i .keeps) (stored .keeps);
       does = λ gs vs g e.
           let l = i .left gs vs g e in
           let f = first-left g l in
           let d = stored .does (f .content) (f .value) in
           record {
             says = λ c es n r here way. store-first l f c es n r here way (ap (λ (a : Ran). ranAs a (stateOf w′ es n r)) (sym is) ∙ d .says c es n r here way);
-            keeps = keeps-then (l .keeps) (d .keeps);
+            keeps = keeps-then (i .keeps) (d .keeps);
           };
     }
 
@@ -88,6 +90,7 @@ module _ {m t w₀ w : List ℕ} {from to q scope : ℕ} {path : Labels} (i : St
     unfolding ranAs _>>=_
     store-further {w′} stored is next = rw next (record {
       small = small-rest m more (i .small);
+      keeps = keeps-then (i .keeps) (stored .keeps);
       left = λ gs vs g e.
           let l = i .left gs vs g e in
           let f = first-left g l in
@@ -96,15 +99,15 @@ module _ {m t w₀ w : List ℕ} {from to q scope : ℕ} {path : Labels} (i : St
             values = f .others;
             are = f .rest;
             same = λ c es n r here way. store-first l f c es n r here way (ap (λ (a : Ran). ranAs a (stateOf w′ es n r)) (sym is) ∙ d .says c es n r here way);
-            keeps = keeps-then (l .keeps) (d .keeps);
           };
     })
 
   pub store-ends : to ≤ q → Assigns m t w₀ w from to scope path Done
   unfolding ranAs storeAll
   store-ends over = record {
+    keeps = i .keeps;
     does = λ gs vs g e.
         let l = i .left gs vs g e in
         let empty = no-values m gs (ap (λ (qs : List ℕ). parameterValues (parametersAt m qs) gs) (sym (no-fields m q to over)) ∙ l .are) in
-        record { says = λ c es n r here way. ap (λ (us : List Given). storeAll c us (stateOf w es n r)) (sym empty) ∙ l .same c es n r here way; keeps = l .keeps };
+        record { says = λ c es n r here way. ap (λ (us : List Given). storeAll c us (stateOf w es n r)) (sym empty) ∙ l .same c es n r here way; keeps = i .keeps };
   }

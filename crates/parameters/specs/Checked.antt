@@ -14,7 +14,7 @@ use Rattle.rules.proofs.Lists.{Each}
 use Rattle.places.specs.At.{parametersAt}
 use Rattle.statements.specs.declared.Ran.{Ran}
 use Rattle.statements.specs.declared.Ran.the-variants.{Done, Refused}
-use Rattle.statements.specs.Answers.{ranAs, Does}
+use Rattle.statements.specs.Answers.{ranAs, Keeps, Does}
 use Rattle.attributes.specs.Table.{Gives}
 use Rattle.parameters.specs.Places.{parameterValue}
 
@@ -32,8 +32,10 @@ SmallNames m qs = Each (λ (q : ℕ). two m (q + 3) < 1024) qs
 
 -- the parameter of the 33 at q is assigned, whatever its value is
 pub record Stores (m t w w′ : List ℕ) (q scope : ℕ) (path : Labels) (answer : Ran) : Type 0 where
+  pub keeps : Keeps w w′
   pub does : (x : Labelled) → parameterValue m t q ≡ some x → Does w w′ scope path (ranAs answer) (λ c. store c q (two m (q + 3)) x)
 
 -- the parameters of the 33s from `from` to `to` are assigned, whatever the table gives
 pub record Assigns (m t w w′ : List ℕ) (from to scope : ℕ) (path : Labels) (answer : Ran) : Type 0 where
+  pub keeps : Keeps w w′
   pub does : (gs vs : List Given) → Gives t gs → parameterValues (parametersAt m (fieldsIn m from to)) gs ≡ done vs → Does w w′ scope path (ranAs answer) (λ c. storeAll c vs)

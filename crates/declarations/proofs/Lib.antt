@@ -1,0 +1,6 @@
+pub mod Outcomes
+pub mod Laws
+pub mod Standing
+pub mod Checks
+pub mod Types
+pub mod Classes

@@ -1,0 +1,3 @@
+pub mod Standing
+pub mod Types
+pub mod Classes
