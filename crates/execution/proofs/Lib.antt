@@ -1,0 +1,6 @@
+pub mod Ends
+pub mod Names
+pub mod Statements
+pub mod Blocks
+pub mod Types
+pub mod Classes
