@@ -29,7 +29,7 @@ use Rattle.catalog.specs.declared.Place.{Place}
 use Rattle.catalog.specs.declared.Place.the-variants.{At, Nothing}
 use Rattle.catalog.specs.Finding.{Written, Stands, EntryAt, Listed, placeWith, entryPlace, attributePlace, Below, labelsAt, valueAt, contentAt}
 use Rattle.catalog.proofs.Standing.{stands-first, stands-next, stands-same, stands-within, stands-byte, stands-two, stands-run, field-end, field-body}
-use Rattle.catalog.proofs.Search.{Left, here, further, gone, Hit, hits}
+use Rattle.catalog.proofs.Search.{Left, here, further, gone, Hit, hits, FirstListed, first-listed}
 
 -- ---- An entry that stands at p
 
@@ -47,17 +47,18 @@ entry-length e =
     ap length (entry-is e) ∙ field-length 0x40 (entryBody e) ∙ omega arith
 
 module _ (m : List ℕ) {p : ℕ} (e : Entry) (stands : Stands m p (entryBytes e)) where
-  entry-body : Stands m (p + 3) (highBytes 2 (e .type) ++ (highBytes 2 (e .title) ++ (labelBytes (e .labels) ++ attributesBytes (e .attributes))))
+  pub entry-body : Stands m (p + 3) (highBytes 2 (e .type) ++ (highBytes 2 (e .title) ++ (labelBytes (e .labels) ++ attributesBytes (e .attributes))))
   unfolding entryBody
   entry-body = field-body m 0x40 (entryBody e) (stands-same m (entry-is e) stands)
 
-  after-type : Stands m (p + 5) (highBytes 2 (e .title) ++ (labelBytes (e .labels) ++ attributesBytes (e .attributes)))
+  pub after-type : Stands m (p + 5) (highBytes 2 (e .title) ++ (labelBytes (e .labels) ++ attributesBytes (e .attributes)))
   after-type = stands-next m (highBytes 2 (e .type)) (highBytes 2 (e .title) ++ (labelBytes (e .labels) ++ attributesBytes (e .attributes))) (omega (arith, high-length 2 (e .type))) entry-body
 
+  pub after-title : Stands m (p + 7) (labelBytes (e .labels) ++ attributesBytes (e .attributes))
+  after-title = stands-next m {p = p + 5} (highBytes 2 (e .title)) (labelBytes (e .labels) ++ attributesBytes (e .attributes)) {q = p + 7} (omega (arith, high-length 2 (e .title))) after-type
+
   attributes-stand : Stands m (p + 39) (attributesBytes (e .attributes))
-  attributes-stand =
-      stands-next m (labelBytes (e .labels)) (attributesBytes (e .attributes)) (omega (arith, label-length (e .labels)))
-      (stands-next m {p = p + 5} (highBytes 2 (e .title)) (labelBytes (e .labels) ++ attributesBytes (e .attributes)) {q = p + 7} (omega (arith, high-length 2 (e .title))) after-type)
+  attributes-stand = stands-next m (labelBytes (e .labels)) (attributesBytes (e .attributes)) (omega (arith, label-length (e .labels))) after-title
 
   entry-test : (t n : ℕ) → FitsEntry e → (eqb (two m (p + 3)) t && eqb (two m (p + 5)) n) ≡ isEntry t n e
   unfolding isEntry
@@ -86,14 +87,14 @@ unfolding attributeBytes attributeBody
 attribute-is a = refl
 
 module _ (m : List ℕ) {p : ℕ} (a : Attribute) (stands : Stands m p (attributeBytes a)) where
-  attribute-body : Stands m (p + 3) (highBytes 2 (a .name) ++ (labelBytes (a .content .labels) ++ valueBytes (a .content .value)))
+  pub attribute-body : Stands m (p + 3) (highBytes 2 (a .name) ++ (labelBytes (a .content .labels) ++ valueBytes (a .content .value)))
   unfolding attributeBody
   attribute-body = field-body m 0x41 (attributeBody a) (stands-same m (attribute-is a) stands)
 
   after-name : Stands m (p + 5) (labelBytes (a .content .labels) ++ valueBytes (a .content .value))
   after-name = stands-next m (highBytes 2 (a .name)) (labelBytes (a .content .labels) ++ valueBytes (a .content .value)) (omega (arith, high-length 2 (a .name))) attribute-body
 
-  after-labels : Stands m (p + 37) (valueBytes (a .content .value))
+  pub after-labels : Stands m (p + 37) (valueBytes (a .content .value))
   after-labels = stands-next m (labelBytes (a .content .labels)) (valueBytes (a .content .value)) (omega (arith, label-length (a .content .labels))) after-name
 
   attribute-test : (n : ℕ) → FitsAttribute a → eqb (two m (p + 3)) n ≡ isAttribute n a
@@ -101,7 +102,7 @@ module _ (m : List ℕ) {p : ℕ} (a : Attribute) (stands : Stands m p (attribut
   attribute-test n f = rw (stands-two m (a .name) _ (f .name) attribute-body)
 
 -- the set and the value are read back
-labels-back : (m : List ℕ) (p : ℕ) (k : Labels) (b : List ℕ) → Words64 k → Stands m p (labelBytes k ++ b) → labelsAt m p ≡ k
+pub labels-back : (m : List ℕ) (p : ℕ) (k : Labels) (b : List ℕ) → Words64 k → Stands m p (labelBytes k ++ b) → labelsAt m p ≡ k
 unfolding labelsAt
 labels-back m p k b words s =
     let wide : length (labelBytes k) ≡ 32 = label-length k in
@@ -250,3 +251,13 @@ pub attribute-hits : (m : List ℕ) (p : ℕ) (e : Entry) (n : ℕ) → EntryAt 
 unfolding attributesBytes attributePlace
 attribute-hits m p e n s =
     hits 0x41 attributeBody attributeBytes attributesBytes FitsAttribute (isAttribute n) attribute-is refl (λ x xs. refl) m (e .attributes) (attributes-listed m p e refl s)
+
+-- ---- The first entry and the first attribute of those listed
+
+pub entry-first : (m : List ℕ) {p end : ℕ} (e : Entry) (es : List Entry) → Listed FitsEntry catalogBytes m p end (e ∷ es) → FirstListed entryBytes FitsEntry catalogBytes m p end e es
+unfolding catalogBytes
+entry-first m e es l = first-listed 0x40 entryBody entryBytes catalogBytes FitsEntry (isEntry 0 0) entry-is refl (λ x xs. refl) m e es l
+
+pub attribute-first : (m : List ℕ) {p end : ℕ} (a : Attribute) (ats : List Attribute) → Listed FitsAttribute attributesBytes m p end (a ∷ ats) → FirstListed attributeBytes FitsAttribute attributesBytes m p end a ats
+unfolding attributesBytes
+attribute-first m a ats l = first-listed 0x41 attributeBody attributeBytes attributesBytes FitsAttribute (isAttribute 0) attribute-is refl (λ x xs. refl) m a ats l

@@ -45,6 +45,14 @@ module _ {A : Type 0} {bytesOf : A → List ℕ} {Fits : A → Type 0} {m : List
   hit-at p missed e = let z : _≡_ {A = ℕ} 0 1 = cc in absurd (omega arith)
   hit-at p (hit {x = x} {p = p′} f s l) e = let same : p′ ≡ p = cc in record { x = x; first = refl; fits = f; stands = rw same at s; short = l }
 
+-- the first of those listed, where it stands, and the others after it
+pub record FirstListed {A : Type 0} (bytesOf : A → List ℕ) (Fits : A → Type 0) (allOf : List A → List ℕ) (m : List ℕ) (p end : ℕ) (x : A) (xs : List A) : Type 0 where
+  pub stands : Stands m p (bytesOf x)
+  pub short : length (bytesOf x) ≤ 65535
+  pub fits : Fits x
+  pub ends : endOf m p ≡ p + length (bytesOf x)
+  pub others : Listed Fits allOf m (endOf m p) end xs
+
 module _ {A : Type 0} (tag : ℕ) (body : A → List ℕ) (bytesOf : A → List ℕ) (allOf : List A → List ℕ) (Fits : A → Type 0) (test : A → Bool)
     (is-field : (x : A) → bytesOf x ≡ fieldBytes tag (body x)) (all-none : allOf [] ≡ []) (all-more : (x : A) (xs : List A) → allOf (x ∷ xs) ≡ bytesOf x ++ allOf xs) (m : List ℕ) where
   size-none : length (allOf []) ≡ 0
@@ -76,6 +84,13 @@ module _ {A : Type 0} (tag : ℕ) (body : A → List ℕ) (bytesOf : A → List 
 
   first-fits : (x : A) (xs : List A) → Each Fits (x ∷ xs) → Fits x
   first-fits x xs (also f fs) = f
+
+  pub first-listed : (x : A) (xs : List A) {p end : ℕ} → Listed Fits allOf m p end (x ∷ xs) → FirstListed bytesOf Fits allOf m p end x xs
+  first-listed x xs {p} {end} l =
+      let stands : Stands m p (bytesOf x) = first-stands x xs (l .stands) in
+      let short : length (bytesOf x) ≤ 65535 = omega (arith, size-more x xs, l .short) in
+      let ends : endOf m p ≡ p + length (bytesOf x) = first-end x short stands in
+      record { stands = stands; short = short; fits = first-fits x xs (l .fits); ends = ends; others = rw ends (others-listed x xs l) }
 
   -- ---- A turn of the loop at p, with the answer b of its test
 

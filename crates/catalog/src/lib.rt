@@ -195,7 +195,7 @@ pub fn find_attribute(out: &[u8], at: usize, name: u16) -> Place
     attribute_between(out, at + ENTRY_HEADER, at + 3 + body as usize, name)
 }
 
-fn labels_at(out: &[u8], at: usize) -> Labels
+pub fn labels_at(out: &[u8], at: usize) -> Labels
     requires { ⌜ at ≤ 4294967400 ⌝ }
     ensures { λ r. ⌜ r ≡ labelsAt (now (out .entry)) at ⌝ }
 {

@@ -1,7 +1,7 @@
 -- Blocks: at the head of the loop, what runs the statements that are left runs the whole.
 use Prim.Native.Nat.{ℕ, _+_, _-_, _<_, _≤_}
 use mathlib.Core.Path.{_≡_, refl, sym, ap, _∙_, subst}
-use mathlib.Core.List.{List, [], _∷_}
+use mathlib.Core.List.{List}
 use native.Mathlib.Omega.{arith}
 use lib.ListN.{length}
 use borrow.Author.Tests.{eqb-true}
@@ -10,8 +10,8 @@ use Rattle.wire.specs.Bytes.{byte, endOf, fieldsIn}
 use Rattle.rules.specs.Outcome.{Outcome, refused, done, _>>=_}
 use Rattle.rules.specs.Format.{allowed, forms, formIn, formOf, size, headSize}
 use Rattle.rules.specs.Tree.{Block}
-use Rattle.rules.specs.State.{Entry, State, Context, Known, takeStep}
-use Rattle.rules.specs.Run.{statementPlace, run, runBlock, declaration}
+use Rattle.rules.specs.State.{State, Context, Known, takeStep}
+use Rattle.rules.specs.Run.{run, runBlock, declaration}
 use Rattle.rules.specs.declared.Kind.the-variants.{Statement as StatementKind, Block as BlockKind}
 use Rattle.places.specs.At.{statementAt, blockAt, statementsAt, StandsAs, Siblings}
 use Rattle.places.proofs.Parts.{first-sibling, no-sibling}
@@ -20,7 +20,7 @@ use Rattle.branches.proofs.Standing.{has-level, block-statements, sibling-here,
 use Rattle.resources.specs.declared.Ran.{Ran}
 use Rattle.resources.specs.declared.Ran.the-variants.{Done, Refused}
 use Rattle.declarations.specs.Standing.{NamesKnown}
-use Rattle.execution.specs.Executed.{Able, Stage, stateWith, Executes, begun}
+use Rattle.execution.specs.Executed.{Able, stateWith, Executes, begun}
 use Rattle.execution.proofs.Ends.{stops, executes-as, then-runs, never-runs, able-after}
 use Rattle.execution.proofs.Names.{known-in, known-past}
 

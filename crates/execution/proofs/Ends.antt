@@ -1,27 +1,21 @@
 -- What runs, and then what comes after it: one law for each way in which the code goes on, its premises as the callees ensure them.
-use Prim.Native.Nat.{ℕ, _-_, _≤_}
-use mathlib.Core.Path.{_≡_, refl, sym, ap, _∙_, subst}
+use Prim.Native.Nat.{ℕ, _≤_}
+use mathlib.Core.Path.{_≡_, sym, ap, _∙_, subst}
 use mathlib.Core.Bool.{Bool}
 use mathlib.Core.List.{List}
-use mathlib.Core.Option.{Option}
 use native.Mathlib.Omega.{arith}
 use lib.ListN.{length}
 use Rattle.labels.specs.declared.Labels.{Labels}
 use Rattle.values.specs.declared.Reason.{Reason}
 use Rattle.rules.specs.Outcome.{Outcome, refused, done, _>>=_}
-use Rattle.rules.specs.Tree.{TypeDefinition, ClassDefinition}
 use Rattle.rules.specs.State.{Entry, State, Context, Known}
 use Rattle.rules.specs.Evaluate.{findType, findClass}
-use Rattle.rules.specs.Compile.{roomIn}
-use Rattle.cells.specs.Layout.{restOf}
-use Rattle.cells.specs.Memory.{Names, stateOf, namesOf, definitionOf, builtInOf, Fine}
-use Rattle.memory.specs.Names.{titleOf}
+use Rattle.cells.specs.Memory.{Names, namesOf}
 use Rattle.memory.proofs.Titles.{title-kept}
-use Rattle.evaluator.specs.Known.{DefinedAt, KnownIn, Ready}
+use Rattle.evaluator.specs.Known.{DefinedAt, KnownIn}
 use Rattle.statements.specs.Answers.{Keeps}
 use Rattle.resources.specs.declared.Ran.{Ran}
 use Rattle.resources.specs.declared.Ran.the-variants.{Done, Refused}
-use Rattle.declarations.specs.Standing.{Set}
 use Rattle.declarations.proofs.Laws.{set-kept}
 use Rattle.execution.specs.Executed.{Able, Stage, stateWith, Here, Under, Ends, refusedSo, doneSo, AbleAfter, Executes}
 

@@ -10,11 +10,9 @@ use borrow.Author.Tests.{eqb-true}
 use Rattle.wire.specs.Bytes.{byte, two, endOf, fieldsIn}
 use Rattle.rules.specs.Format.{allowed, forms, formIn, formOf, size, headSize}
 use Rattle.rules.specs.Check.{stringPlaces}
-use Rattle.rules.specs.declared.Kind.{Kind}
 use Rattle.rules.specs.declared.Kind.the-variants.{Statement as StatementKind, Block as BlockKind, Branch}
 use Rattle.rules.specs.declared.Parts.{Parts}
 use Rattle.rules.specs.declared.Piece.the-variants.{Name}
-use Rattle.rules.specs.declared.Rest.the-variants.{Fields}
 use Rattle.places.specs.At.{statementAt, blockAt, branchesAt, statementsAt, Stands, StandsAs, Siblings, ended, sibling}
 use Rattle.places.proofs.Tags.{IsStatementTag, assignmentTag, conditionalTag, choiceTag, resourceTag, definedTag, classTag, includeTag, statement-tag}
 use Rattle.places.proofs.Open.{Line, header-within}
@@ -22,7 +20,7 @@ use Rattle.places.proofs.Statements.{conditional-opens, choice-opens, branch-op
 use Rattle.syntax.proofs.NamesKnown.{known-inside, known-after, its-names, first-name}
 use Rattle.cells.specs.Memory.{listed}
 use Rattle.branches.specs.Names.{names, namesIn, namesAny, Small}
-use Rattle.branches.proofs.Standing.{has-level, has-header, block-statements}
+use Rattle.branches.proofs.Standing.{has-level, block-statements}
 use Rattle.branches.proofs.Folds.{listed-append, small-same}
 use Rattle.branches.proofs.Marking.{assignment-names, conditional-names, choice-names, other-names, block-names, statements-names, no-statement-names, branches-names, no-branch-names}
 use Rattle.statements.specs.Cases.{BranchBlock, blockHere, blockLater}

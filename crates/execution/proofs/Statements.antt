@@ -1,16 +1,16 @@
 -- Statements and blocks: one law for each way through the functions that run them, its premises as the callees ensure them.
-use Prim.Native.Nat.{ℕ, zero, suc, _+_, _-_, _<_, _≤_}
-use mathlib.Core.Path.{_≡_, refl, sym, ap, ap₂, _∙_, subst}
+use Prim.Native.Nat.{ℕ, suc, _+_, _-_, _<_, _≤_}
+use mathlib.Core.Path.{_≡_, refl, sym, ap, _∙_, subst}
 use mathlib.Core.Bool.{Bool, true, false}
-use mathlib.Core.List.{List, [], _∷_}
+use mathlib.Core.List.{List, _∷_}
 use native.Mathlib.Omega.{arith}
 use lib.ListN.{length}
 use Rattle.labels.specs.declared.Labels.{Labels}
 use Rattle.labels.specs.Sets.{_∪_}
 use Rattle.values.specs.declared.Reason.{Reason}
 use Rattle.values.specs.declared.Reason.the-variants.{StepLimit}
-use Rattle.wire.specs.Bytes.{pick, byte, two, endOf, fieldsIn}
-use Rattle.rules.specs.Outcome.{Outcome, refused, done, _>>=_}
+use Rattle.wire.specs.Bytes.{pick, byte, two, endOf}
+use Rattle.rules.specs.Outcome.{Outcome, done, _>>=_}
 use Rattle.rules.specs.Tree.{Statement, Block, include}
 use Rattle.rules.specs.State.{Entry, State, Context, Known, takeStep}
 use Rattle.rules.specs.Run.{run, runBlock, inBranch, declaration}
@@ -23,9 +23,8 @@ use Rattle.places.proofs.Tags.{IsStatementTag, assignmentTag, conditionalTag, c
 use Rattle.places.proofs.Open.{opened-leaf}
 use Rattle.places.proofs.Statements.{ConditionalAt, conditional-opens, choice-opens, include-opens}
 use Rattle.cells.specs.Layout.{trailOf}
-use Rattle.cells.specs.Scopes.{scopeOf}
-use Rattle.cells.specs.Memory.{baseFor, builtInOf, stateOf}
-use Rattle.evaluator.specs.Known.{Ready, Sized}
+use Rattle.cells.specs.Memory.{builtInOf, stateOf}
+use Rattle.evaluator.specs.Known.{Sized}
 use Rattle.branches.proofs.Standing.{has-level, has-header}
 use Rattle.statements.specs.declared.Ran as assigned
 use Rattle.statements.specs.declared.Ran.the-variants.{Done as Assigned, Refused as NotAssigned}
@@ -33,7 +32,7 @@ use Rattle.statements.specs.declared.Tested.{Tested}
 use Rattle.statements.specs.declared.Tested.the-variants.{Branch, Refused as NotTested}
 use Rattle.statements.specs.declared.TestedCase.{TestedCase}
 use Rattle.statements.specs.declared.TestedCase.the-variants.{Branch as Chosen, Nothing, Refused as NotMatched}
-use Rattle.statements.specs.Answers.{ranAs, Keeps, Runs}
+use Rattle.statements.specs.Answers.{ranAs, Runs}
 use Rattle.statements.specs.Tests.{Passed, testIfAt, testedAs, Tests}
 use Rattle.statements.specs.Cases.{testCaseAt, caseAs, blockStands}
 use Rattle.statements.proofs.Conditions.{if-runs}
@@ -45,7 +44,7 @@ use Rattle.resources.specs.Entries as resources
 use Rattle.declarations.specs.Standing.{NamesKnown}
 use Rattle.execution.specs.Executed.{Able, Stage, stateWith, Here, Under, Ends, refusedSo, doneSo, AbleAfter, Executes, begun}
 use Rattle.execution.proofs.Names.{name-small, known-condition, known-branches, known-chosen}
-use Rattle.execution.proofs.Ends.{DoneAs, refuses, stops, GoesOn, goes-on, executes-as, stage-kept, able-kept, under-here}
+use Rattle.execution.proofs.Ends.{refuses, stops, goes-on, executes-as, stage-kept, able-kept, under-here}
 
 -- ---- Before a part is evaluated
 

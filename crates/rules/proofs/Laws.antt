@@ -94,7 +94,7 @@ unfolding onto catalogBytes
 onto-bytes [] later = omega arith
 onto-bytes (e ∷ es) later = omega (arith, onto-bytes es (e ∷ later), length-append (entryBytes e) (catalogBytes later), length-append (entryBytes e) (catalogBytes es))
 
-onto-each : {P : Entry → Type 0} {es later : List Entry} → Each P es → Each P later → Each P (onto es later)
+pub onto-each : {P : Entry → Type 0} {es later : List Entry} → Each P es → Each P later → Each P (onto es later)
 unfolding onto
 onto-each noneLeft q = q
 onto-each (also p ps) q = onto-each ps (also p q)

@@ -98,7 +98,7 @@ module _ (m : List ℕ) (d p : ℕ) {f e : ℕ} (w : List ℕ) (scope : ℕ) (pa
         ∙ ap (λ (k : Labels). afterCase p (branchesAt m d (fieldsIn m f e)) k c (stateOf w es n i) >>= λ st′. done (passed (chosenBlock (branchesAt m d (fieldsIn m f e)) (x .value)) k st′)) (same-set c es n i way)
         ∙ ap₂ (λ (a b : ℕ). decideCase p (branchesAt m d (fieldsIn m a b)) x c (stateOf w es n i)) found ends
 
-    pub case-stopped : (reason : Reason) (q : ℕ) → entered ≡ Stopped reason q → Does w w′ scope path (caseAs m (d - 1) (Refused reason q)) (decideCase p (branchesOf m d p) x) × blockStands m (d - 1) (Refused reason q)
+    pub case-stopped : (reason : Reason) (q : ℕ) → entered ≡ Stopped reason q → Does w w′ scope path (caseAs m (d - 1) (Refused reason q)) (decideCase p (branchesOf m d p) x) × blockStands m (d - 1) p (Refused reason q)
     unfolding caseAs ranAs _>>=_ blockStands
     case-stopped reason q h = (
       record {
@@ -108,17 +108,17 @@ module _ (m : List ℕ) (d p : ℕ) {f e : ℕ} (w : List ℕ) (scope : ℕ) (pa
       tt,
     )
 
-    pub case-entered : (q : ℕ) → entered ≡ Entered → r .at ≡ At q → Does w w′ scope path (caseAs m (d - 1) (Branch q set)) (decideCase p (branchesOf m d p) x) × blockStands m (d - 1) (Branch q set)
+    pub case-entered : (q : ℕ) → entered ≡ Entered → r .at ≡ At q → Does w w′ scope path (caseAs m (d - 1) (Branch q set)) (decideCase p (branchesOf m d p) x) × blockStands m (d - 1) p (Branch q set)
     unfolding caseAs ranAs _>>=_ blockStands blockFor choiceStands
     case-entered q h g = (
       record {
         says = λ c es n i here way. sym (ap₂ (λ (y : Choice) (o : Ran). after y o (stateOf w′ es n i)) g h) ∙ case-decided c es n i here way;
         keeps = enter path .keeps;
       },
-      subst (choiceStands m (d - 1)) g (matches .stands),
+      rw (sym found, sym ends) (subst (choiceStands m (d - 1) f e) g (matches .stands)),
     )
 
-    pub case-unmatched : entered ≡ Entered → r .at ≡ Nothing → Does w w′ scope path (caseAs m (d - 1) (NoBlock set)) (decideCase p (branchesOf m d p) x) × blockStands m (d - 1) (NoBlock set)
+    pub case-unmatched : entered ≡ Entered → r .at ≡ Nothing → Does w w′ scope path (caseAs m (d - 1) (NoBlock set)) (decideCase p (branchesOf m d p) x) × blockStands m (d - 1) p (NoBlock set)
     unfolding caseAs ranAs _>>=_ blockStands blockFor
     case-unmatched h g = (
       record {
@@ -142,7 +142,7 @@ module _ {m w out : List ℕ} {d p fill scope : ℕ} {node : Bool} (s : StandsAs
   test-run k c es n r h ready here base =
       ap (λ (o : Outcome Labelled). o >>= λ x. decideCase p (branchesOf m (d - 1) p) x c (stateOf w es n r)) (sym h ∙ told (choice-here s tag .scrutinee) .says k c es n r ready here base)
 
-  pub test-refused : {path : Labels} (r : Reason) (q : ℕ) → e ≡ Fails r q → Tests m w w out fill scope node path (caseAs m (d - 1 - 1) (Refused r q)) (testCaseAt m (d - 1) p) × blockStands m (d - 1 - 1) (Refused r q)
+  pub test-refused : {path : Labels} (r : Reason) (q : ℕ) → e ≡ Fails r q → Tests m w w out fill scope node path (caseAs m (d - 1 - 1) (Refused r q)) (testCaseAt m (d - 1) p) × blockStands m (d - 1 - 1) p (Refused r q)
   unfolding caseAs evaluated _>>=_ blockStands
   test-refused reason q h = (
     record {
@@ -152,7 +152,7 @@ module _ {m w out : List ℕ} {d p fill scope : ℕ} {node : Bool} (s : StandsAs
     tt,
   )
 
-  pub test-decided : {path : Labels} {w′ : List ℕ} (answer : TestedCase) (x : Labelled) → e ≡ Yields x → Does w w′ scope path (caseAs m (d - 1 - 1) answer) (decideCase p (branchesOf m (d - 1) p) x) × blockStands m (d - 1 - 1) answer → Tests m w w′ out fill scope node path (caseAs m (d - 1 - 1) answer) (testCaseAt m (d - 1) p) × blockStands m (d - 1 - 1) answer
+  pub test-decided : {path : Labels} {w′ : List ℕ} (answer : TestedCase) (x : Labelled) → e ≡ Yields x → Does w w′ scope path (caseAs m (d - 1 - 1) answer) (decideCase p (branchesOf m (d - 1) p) x) × blockStands m (d - 1 - 1) p answer → Tests m w w′ out fill scope node path (caseAs m (d - 1 - 1) answer) (testCaseAt m (d - 1) p) × blockStands m (d - 1 - 1) p answer
   unfolding evaluated _>>=_
   test-decided answer x h i = (
     record {

@@ -20,7 +20,7 @@ use Rattle.places.proofs.Parts.{first-sibling, no-sibling}
 use Rattle.evaluator.proofs.Outcomes.{union-assoc, union-none}
 use Rattle.branches.proofs.Standing.{sibling-here, siblings-after, branch-block}
 use Rattle.statements.specs.declared.Choice.the-variants.{At, Nothing}
-use Rattle.statements.specs.Cases.{chosenBlock, blockFor, choiceStands, Matches}
+use Rattle.statements.specs.Cases.{chosenBlock, blockFor, BranchBlock, blockHere, blockLater, choiceStands, Matches}
 
 union-none-after : (a : Labels) → a ∪ noLabels ≡ a
 unfolding _∪_ noLabels
@@ -31,9 +31,10 @@ pub record Matching (m : List ℕ) (d first e : ℕ) (x : Value) (tried : Labels
   pub siblings : Siblings m d Branch q e
   pub block : chosenBlock (branchesAt m d (fieldsIn m q e)) x ≡ chosenBlock (branchesAt m d (fieldsIn m first e)) x
   pub labels : tried ∪ triedLabels (branchesAt m d (fieldsIn m q e)) x ≡ triedLabels (branchesAt m d (fieldsIn m first e)) x
+  pub reaches : (y : ℕ) → BranchBlock m e y q → BranchBlock m e y first
 
 pub matching-begins : {m : List ℕ} {d first e : ℕ} (x : Value) → Siblings m d Branch first e → Matching m d first e x noLabels first
-matching-begins x s = record { siblings = s; block = refl; labels = union-none _ }
+matching-begins x s = record { siblings = s; block = refl; labels = union-none _; reaches = λ y b. b }
 
 module _ {m : List ℕ} {d first e : ℕ} {x : Value} {tried : Labels} {q : ℕ} (i : Matching m d first e x tried q) where
   pub matching-fails : e ≤ q → Matches m d first e x (record { at = Nothing; labels = tried })
@@ -62,7 +63,7 @@ module _ {m : List ℕ} {d first e : ℕ} {x : Value} {tried : Labels} {q : ℕ}
         record {
           block = ap (blockAt m (d - 1)) there ∙ sym (ap (λ (bs : Branches). chosenBlock bs x) (default-here h)) ∙ i .block;
           labels = sym (union-none-after tried) ∙ sym (ap (λ (bs : Branches). tried ∪ triedLabels bs x) (default-here h)) ∙ i .labels;
-          stands = branch-block (sibling-here (i .siblings) l) there;
+          stands = (branch-block (sibling-here (i .siblings) l) there, i .reaches _ (blockHere l there));
         }
 
     module _ (h : t ≡ 0x1b → ⊥) {k : Labelled} {u : Labels} {b : Bool} (constant : k ≡ ofConstant (constantAt m p)) (joined : u ≡ tried ∪ k .labels) (same : b ≡ sameValue x (k .value)) where
@@ -81,13 +82,14 @@ module _ {m : List ℕ} {d first e : ℕ} {x : Value} {tried : Labels} {q : ℕ}
           record {
             block = ap (blockAt m (d - 1)) there ∙ sym (ap (λ (bs : Branches). chosenBlock bs x) (constant-here h) ∙ rw (chosenBlock, test-here ∙ g)) ∙ i .block;
             labels = joined ∙ ap (λ (y : Labels). tried ∪ y) label-here ∙ sym (ap (λ (bs : Branches). tried ∪ triedLabels bs x) (constant-here h) ∙ rw (triedLabels, test-here ∙ g)) ∙ i .labels;
-            stands = branch-block (sibling-here (i .siblings) l) there;
+            stands = (branch-block (sibling-here (i .siblings) l) there, i .reaches _ (blockHere l there));
           }
 
       pub matching-on : {y : ℕ} → b ≡ false → y ≡ endOf m q → Matching m d first e x u y
       unfolding chosenBlock triedLabels
       matching-on g f = rw f (record {
         siblings = siblings-after (i .siblings) l refl;
+        reaches = λ y b. i .reaches y (blockLater l b);
         block = sym (ap (λ (bs : Branches). chosenBlock bs x) (constant-here h) ∙ rw (chosenBlock, test-here ∙ g)) ∙ i .block;
         labels = ap (λ (y : Labels). y ∪ triedLabels (branchesAt m d (fieldsIn m (endOf m q) e)) x) (joined ∙ ap (λ (y : Labels). tried ∪ y) label-here) ∙ union-assoc tried (oneLabel (constantAt m (q + 3) .label)) (triedLabels (branchesAt m d (fieldsIn m (endOf m q) e)) x) ∙ sym (ap (λ (bs : Branches). tried ∪ triedLabels bs x) (constant-here h) ∙ rw (triedLabels, test-here ∙ g)) ∙ i .labels;
       })

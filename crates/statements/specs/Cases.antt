@@ -1,5 +1,5 @@
 -- Cases up to the block that runs. That `run` is this and then the block is in proofs/Cases.antt.
-use Prim.Native.Nat.{ℕ, _+_, _-_}
+use Prim.Native.Nat.{ℕ, _+_, _-_, _<_}
 use mathlib.Core.Path.{_≡_}
 use mathlib.Core.Bool.{true, false}
 use mathlib.Core.List.{List}
@@ -38,23 +38,24 @@ unfoldable pub blockFor : List ℕ → (b : ℕ) → Choice → Block
 blockFor m b (At q) = blockAt m b q
 blockFor m b Nothing = end
 
--- it stands there
-unfoldable pub choiceStands : List ℕ → (b : ℕ) → Choice → Type 0
-choiceStands m b (At q) = StandsAs m b BlockKind q
-choiceStands m b Nothing = Unit {0}
+-- the block at q is that of a 24 between f and e
+pub data BranchBlock (m : List ℕ) (e q : ℕ) : (f : ℕ) → Type 0 where
+  blockHere : {f : ℕ} → f < e → q ≡ endOf m (f + 3) → BranchBlock m e q f
+  blockLater : {f : ℕ} → f < e → BranchBlock m e q (endOf m f) → BranchBlock m e q f
+
+unfoldable pub choiceStands : List ℕ → (b f e : ℕ) → Choice → Type 0
+choiceStands m b f e (At q) = StandsAs m b BlockKind q × BranchBlock m e q f
+choiceStands m b f e Nothing = Unit {0}
 
 -- what matching the branches from q to e, with d levels left, tells
 pub record Matches (m : List ℕ) (d q e : ℕ) (x : Value) (r : Matched) : Type 0 where
   pub block : blockFor m (d - 1) (r .at) ≡ chosenBlock (branchesAt m d (fieldsIn m q e)) x
   pub labels : r .labels ≡ triedLabels (branchesAt m d (fieldsIn m q e)) x
-  pub stands : choiceStands m (d - 1) (r .at)
-
--- the test of a case: its place p, its expression e, its branches bs
+  pub stands : choiceStands m (d - 1) q e (r .at)
 
 unfoldable pub afterCase : (p : ℕ) → Branches → Labels → Context → State → Outcome State
 afterCase p bs k c st = afterTest p c (assignsAny bs) (declaresAny bs) k st
 
--- its expression is x; "for case also the patterns tried" are in the set
 unfoldable pub decideCase : (p : ℕ) → Branches → Labelled → Context → State → Outcome (Passed Block)
 decideCase p bs x c st = afterCase p bs (conditionLabels c st (x .labels ∪ triedLabels bs (x .value))) c st >>= λ st′. done (passed (chosenBlock bs (x .value)) (conditionLabels c st (x .labels ∪ triedLabels bs (x .value))) st′)
 
@@ -72,7 +73,7 @@ caseAs m b (NoBlock k) st = done (passed end k st)
 caseAs m b (Refused r p) st = refused r p
 
 -- the block that an answer names stands there
-unfoldable pub blockStands : List ℕ → (b : ℕ) → TestedCase → Type 0
-blockStands m b (Branch q k) = StandsAs m b BlockKind q
-blockStands m b (NoBlock k) = Unit {0}
-blockStands m b (Refused r p) = Unit {0}
+unfoldable pub blockStands : List ℕ → (b p : ℕ) → TestedCase → Type 0
+blockStands m b p (Branch q k) = StandsAs m b BlockKind q × BranchBlock m (endOf m p) q (endOf m (p + 3))
+blockStands m b p (NoBlock k) = Unit {0}
+blockStands m b p (Refused r q) = Unit {0}

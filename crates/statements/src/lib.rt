@@ -272,7 +272,7 @@ fn decide_case(
     path: Labels,
 ) -> TestedCase
     requires { ⌜ (((length (now m) ≤ 65535) × (65536 ≤ length (now work))) × ((p + 3 ≤ 65535) × (endOf (now m) p ≤ 65535))) × (Siblings (now m) below Branch (endOf (now m) (p + 3)) (endOf (now m) p) × Small (namesAny (branchesOf (now m) below p))) ⌝ }
-    ensures { λ r. ⌜ Does (now (work .entry)) (now (work .exit)) scope path (caseAs (now (m .entry)) (below - 1) r) (decideCase p (branchesOf (now (m .entry)) below p) x) × blockStands (now (m .entry)) (below - 1) r ⌝ }
+    ensures { λ r. ⌜ Does (now (work .entry)) (now (work .exit)) scope path (caseAs (now (m .entry)) (below - 1) r) (decideCase p (branchesOf (now (m .entry)) below p) x) × blockStands (now (m .entry)) (below - 1) p r ⌝ }
 {
     let value = x.value;
     let own = x.labels;
@@ -307,7 +307,7 @@ pub fn test_case(
     path: Labels,
 ) -> TestedCase
     requires { ⌜ (Sized (now m) (now work) (now out) fill p × StandsAs (now m) depth Statement p) × ((byte (now m) p ≡ 0x23) × Small (names (statementAt (now m) depth p))) ⌝ }
-    ensures { λ r. ⌜ Tests (now (m .entry)) (now (work .entry)) (now (work .exit)) (now (out .entry)) fill scope «base_is_node» path (caseAs (now (m .entry)) (depth - 1 - 1) r) (testCaseAt (now (m .entry)) (depth - 1) p) × blockStands (now (m .entry)) (depth - 1 - 1) r ⌝ }
+    ensures { λ r. ⌜ Tests (now (m .entry)) (now (work .entry)) (now (work .exit)) (now (out .entry)) fill scope «base_is_node» path (caseAs (now (m .entry)) (depth - 1 - 1) r) (testCaseAt (now (m .entry)) (depth - 1) p) × blockStands (now (m .entry)) (depth - 1 - 1) p r ⌝ }
 {
     let e = evaluate(m, depth - 1, p + 3, work, out, fill, scope, base_is_node);
     match e {

@@ -1,20 +1,20 @@
--- The strings of a sound manifest: those of the tree are the texts at their places, there are at most 1,024, and a table that `index_strings`
--- filled has the place of each.
+-- The strings of a sound manifest: those of the tree are the texts at their places, there are at most 1,024 of at most 255 bytes, and a table
+-- that `index_strings` filled has the place of each.
 use Prim.Native.Nat.{ℕ, zero, suc, _+_, _*_, _-_, _<_, _≤_}
 use mathlib.Core.Path.{_≡_, refl, sym, ap, _∙_}
 use mathlib.Core.Bool.{Bool, true, false}
 use mathlib.Core.List.{List, [], _∷_, _++_}
 use native.Mathlib.Omega.{arith}
 use lib.Dec.{eqb, ltb}
-use lib.ListN.{length, getD, take as takeBytes, drop}
+use lib.ListN.{length, getD, take as takeBytes, drop, length-take}
 use lib.Seq.{slice, take-nil}
-use borrow.Author.Tests.{ltb-true, ltb-false, eqb-true, eqb-false, eq-eqb}
+use borrow.Author.Tests.{ltb-true, ltb-false, leb-true, eqb-true, eqb-false, eq-eqb}
 use Rattle.wire.specs.Numbers.{highBytes}
 use Rattle.wire.specs.Runs.{over}
 use Rattle.wire.proofs.Laws.{over-length, over-join, high-length, run-outside, two-same, stored-two}
 use Rattle.wire.proofs.Fields.{no-fields, field-first}
 use Rattle.rules.specs.Bytes.{pick, byte, two, endOf, fieldsIn}
-use Rattle.rules.specs.Format.{allowed, take, taken, three, follow, forms, formIn, formOf, size, headSize}
+use Rattle.rules.specs.Format.{allowed, take, taken, three, follow, forms, formIn, formOf, size, headSize, restRight, lengthRight}
 use Rattle.rules.specs.Check.{walk, inside, text, stringPlaces, check}
 use Rattle.rules.specs.Fields.{Field, Fields, more, readEach, readBody, readField, readAll, headOf, tagOf, inner, first, others}
 use Rattle.rules.specs.Read.{stringsFrom, manifestFrom, manifestOf}
@@ -28,6 +28,7 @@ use Rattle.rules.specs.declared.Rest.the-variants.{Only, Text as AnyText, Field
 use Rattle.rules.specs.declared.Took.the-variants.{Takes, Passes}
 use Rattle.rules.specs.declared.Next.the-variants.{Go, Wrong}
 use Rattle.rules.specs.declared.Verdict.the-variants.{Sound}
+use Rattle.rules.proofs.Lists.{Each, noneLeft, also}
 use Rattle.rules.proofs.Within.{wrong-not-go, false-not-true, first-field, inside-sound, level-left, check-sound, shape-sound}
 use Rattle.syntax.specs.Strings.{textsAt, stringTexts, isBuiltInText, placeBytes, indexed, Indexed}
 use Rattle.syntax.proofs.Texts.{string-text}
@@ -75,6 +76,16 @@ unfolding readField readBody headOf text
 string-head m zero q is u = absurd (omega arith)
 string-head m (suc d) q is u = rw (string-line is) (cut (q + 3) (two m (q + 1)) m)
 
+-- a string has at most 255 bytes
+abbrev pub Short : List ℕ → Type 0
+Short s = length s ≤ 255
+
+string-short : (m : List ℕ) (q : ℕ) → byte m q ≡ 2 → lengthRight (formOf (byte m q)) (two m (q + 1)) ≡ true → Short (text m q)
+unfolding lengthRight restRight text
+string-short m q is right =
+    let small : two m (q + 1) ≤ 255 = leb-true _ _ (rw (string-line is) at right) in
+    omega (arith, length-take (two m (q + 1)) (drop (q + 3) m))
+
 one-string : (k : Field) (ks : Fields) → tagOf k ≡ 2 → stringsFrom (more k ks) ≡ headOf k ∷ stringsFrom ks
 unfolding stringsFrom
 one-string k ks e = go (eqb (tagOf k) 2) (eq-eqb _ _ e)
@@ -85,21 +96,23 @@ one-string k ks e = go (eqb (tagOf k) 2) (eq-eqb _ _ e)
 
 -- ---- All strings
 
--- the strings from q to e, where at most n may come, are read as their texts, and are at most n
+-- the strings from q to e, where at most n may come, are read as their texts, and are at most n, each short
 record StringsAre (m : List ℕ) (d n q e : ℕ) : Type 0 where
   read : stringsFrom (readEach (readField m d) (fieldsIn m q e)) ≡ textsAt m (fieldsIn m q e)
   few : length (fieldsIn m q e) ≤ n
+  short : Each Short (textsAt m (fieldsIn m q e))
 
 module _ (m : List ℕ) (d p e : ℕ) where
   no-strings-left : (n q : ℕ) → e ≤ q → StringsAre m d n q e
   unfolding readEach stringsFrom textsAt
-  no-strings-left n q h = record { read = rw (no-fields m q e h); few = rw (no-fields m q e h) (omega arith) }
+  no-strings-left n q h = record { read = rw (no-fields m q e h); few = rw (no-fields m q e h) (omega arith); short = rw (no-fields m q e h) noneLeft }
 
-  one-more-string : (n q : ℕ) → q < e → byte m q ≡ 2 → (n ≡ 0 → ⊥) → 0 < d → StringsAre m d (n - 1) (endOf m q) e → StringsAre m d n q e
+  one-more-string : (n q : ℕ) → q < e → byte m q ≡ 2 → Short (text m q) → (n ≡ 0 → ⊥) → 0 < d → StringsAre m d (n - 1) (endOf m q) e → StringsAre m d n q e
   unfolding readEach textsAt
-  one-more-string n q l is z u o = record {
+  one-more-string n q l is few-bytes z u o = record {
     read = rw (field-first m q e l) (one-string (readField m d q) (readEach (readField m d) (fieldsIn m (endOf m q) e)) (tag-at m d q u ∙ is) ∙ cc (string-head m d q is u, o .read));
     few = let h = o .few in rw (field-first m q e l) (omega arith);
+    short = rw (field-first m q e l) (also few-bytes (o .short));
   }
 
   strings-are : (k n q : ℕ) → e - q ≤ k → walk m (inside m d) p (three (UpTo n AText) Over Over) e (fieldsIn m q e) ≡ Sound → StringsAre m d n q e
@@ -113,7 +126,7 @@ module _ (m : List ℕ) (d p e : ℕ) where
           let f = first-field m (inside m d) p (three (UpTo n AText) Over Over) q e l w in
           let c = string-came n (byte m q) (f .next) (f .right .tag) in
           let o = others-are (n - 1) (endOf m q) (omega arith) (rw (c .next) at (f .others)) in
-          one-more-string n q l (c .tag) (c .left) (level-left m d q (f .sound)) o
+          one-more-string n q l (c .tag) (string-short m q (c .tag) (f .right .size)) (c .left) (level-left m d q (f .sound)) o
 
 -- ---- The table
 
@@ -158,6 +171,11 @@ module _ (m : List ℕ) (w : check m ≡ Sound) where
   pub few-strings : length (stringPlaces m) ≤ 1024
   unfolding stringPlaces
   few-strings = all-strings-are .few
+
+  -- each has at most 255 bytes
+  pub short-strings : Each Short (stringTexts m)
+  unfolding stringTexts stringPlaces
+  short-strings = all-strings-are .short
 
   -- the strings of the tree are the texts at their places
   pub strings-read : manifestOf m .strings ≡ stringTexts m

@@ -106,7 +106,7 @@ unfolding up down
 within (pos n) h l = record { sfits = omega arith }
 within (negsuc n) h l = record { sfits = omega arith }
 
-in-range : (z : ℤ) → SFits w64 z → fits64 z ≡ true
+pub in-range : (z : ℤ) → SFits w64 z → fits64 z ≡ true
 unfolding fits64
 in-range (pos n) f = lt-ltb n 9223372036854775808 (f .sfits)
 in-range (negsuc n) f = lt-ltb n 9223372036854775808 (f .sfits)

@@ -1,6 +1,7 @@
 // What a manifest's expressions yield, why a compile refuses, and what it answers.
 ghost use mathlib.Core.Path.{_≡_};
 ghost use Rattle.values.specs.Integers.{sameValue};
+ghost use Rattle.values.specs.Numbers.{numberOf};
 use labels::Labels;
 
 // Decimal text of numbers.
@@ -78,5 +79,36 @@ pub fn same_value(a: Value, b: Value) -> bool
             Value::Boolean(y) => x == y,
             Value::Integer(_) | Value::String(_) => false,
         },
+    }
+}
+
+// Document 01's number for a reason.
+pub fn number_of(reason: Reason) -> u8
+    ensures { λ r. ⌜ r ≡ numberOf reason ⌝ }
+{
+    match reason {
+        Reason::MemoryTooShort => 1,
+        Reason::ManifestLength => 2,
+        Reason::Malformed => 3,
+        Reason::TooDeep => 4,
+        Reason::StringOrder => 5,
+        Reason::StepLimit => 6,
+        Reason::LevelLimit => 7,
+        Reason::DefinedAgain => 8,
+        Reason::Unknown => 9,
+        Reason::DeclaredAgain => 10,
+        Reason::UnknownParameter => 11,
+        Reason::MissingParameter => 12,
+        Reason::NoValue => 13,
+        Reason::AssignedAgain => 14,
+        Reason::WrongKind => 15,
+        Reason::Overflow => 16,
+        Reason::DivisionByZero => 17,
+        Reason::NoMatch => 18,
+        Reason::NotInCatalog => 19,
+        Reason::ResourceAgain => 20,
+        Reason::AttributeAgain => 21,
+        Reason::CellLimit => 22,
+        Reason::OutputFull => 23,
     }
 }

@@ -1,9 +1,7 @@
+-- `chosen_block`: by the answer of the test.
 use borrow.Author.Needs.{needs}
 use Rattle.execution.proofs.chosen_block.Statement.{statement}
 use Rattle.execution.proofs.chosen_block.Tie as tie
-use Rattle.execution.proofs.chosen_block.Reads as reads
-use Rattle.execution.proofs.chosen_block.Lts as lts
-use Rattle.wire.proofs.end_of.Reads as end-of-reads
 use native.Mathlib.Omega.{arith}
 use mathlib.Core.Path.{_∙_, ap}
 use Rattle.wire.specs.Bytes.{endOf}

@@ -1,7 +1,6 @@
+-- `room_in`: by computing.
 use Rattle.execution.proofs.room_in.Statement.{statement}
 use Rattle.execution.proofs.room_in.Tie as tie
-use Rattle.execution.proofs.room_in.Reads as reads
-use Rattle.execution.proofs.room_in.Lts as lts
 use native.Mathlib.Omega.{arith}
 use Rattle.rules.specs.Compile.{roomIn}
 

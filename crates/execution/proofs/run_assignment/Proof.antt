@@ -1,9 +1,7 @@
+-- `run_assignment`: what `assign` answers.
 use borrow.Author.Needs.{needs}
 use Rattle.execution.proofs.run_assignment.Statement.{statement}
 use Rattle.execution.proofs.run_assignment.Tie as tie
-use Rattle.execution.proofs.run_assignment.Reads as reads
-use Rattle.execution.proofs.run_assignment.Lts as lts
-use Rattle.statements.proofs.assign.Reads as assign-reads
 use Rattle.execution.proofs.Statements.{sized, assignment-done, assignment-refused}
 use Rattle.execution.proofs.Names.{name-small}
 use Rattle.rules.specs.Format.{formOf, formIn, forms}

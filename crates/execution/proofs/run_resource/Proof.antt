@@ -1,13 +1,7 @@
+-- `run_resource`: what `add_resource` answers, in the room that is left.
 use borrow.Author.Needs.{needs}
 use Rattle.execution.proofs.run_resource.Statement.{statement}
 use Rattle.execution.proofs.run_resource.Tie as tie
-use Rattle.execution.proofs.run_resource.Reads as reads
-use Rattle.execution.proofs.run_resource.Lts as lts
-use Rattle.execution.proofs.room_in.Reads as room-in-reads
-use Rattle.memory.proofs.built_in.Reads as built-in-reads
-use Rattle.memory.proofs.trail.Reads as trail-reads
-use Rattle.resources.proofs.add_resource.Reads as add-resource-reads
-use Rattle.wire.proofs.two_at.Reads as two-at-reads
 use Rattle.execution.proofs.Statements.{sized, room-within, resource-runs}
 use Rattle.execution.proofs.Names.{name-small}
 use Rattle.rules.specs.Format.{formOf, formIn, forms}

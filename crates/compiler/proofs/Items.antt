@@ -1,0 +1,343 @@
+-- One law for each way through `define`, `is_chosen`, `run_item`, `run_items` and `run_manifest`. Assumes nothing.
+use Prim.Native.Nat.{ℕ, _+_, _-_, _<_, _≤_}
+use mathlib.Core.Path.{_≡_, refl, sym, ap, _∙_}
+use mathlib.Core.Logic.{_⊎_, inl, inr}
+use mathlib.Core.Bool.{Bool, true, false, not}
+use mathlib.Core.List.{List, [], _∷_}
+use mathlib.Core.Option.{Option, none, some}
+use native.Mathlib.Omega.{arith}
+use lib.Dec.{eqb}
+use lib.ListN.{length}
+use borrow.Author.Tests.{ne-eqb, eq-eqb}
+use Rattle.labels.specs.Sets.{noLabels}
+use Rattle.values.specs.declared.Reason.{Reason}
+use Rattle.values.specs.declared.Reason.the-variants.{DefinedAgain}
+use Rattle.wire.specs.Bytes.{byte, two, endOf, fieldsIn}
+use Rattle.rules.specs.Format.{allowed}
+use Rattle.rules.specs.Check.{stringPlaces, check}
+use Rattle.rules.specs.Outcome.{Outcome, refused, done, _>>=_, refuseIf}
+use Rattle.rules.specs.Tree.{Definition, end, next, Item, node, definition, Statement}
+use Rattle.rules.specs.State.{Entry, State, Context, Known, takeStep}
+use Rattle.rules.specs.Run.{statementPlace, run, runBlock, declaration, runAtTop, topContext, nodeContext, definedName, definedPlace, isTaken, withDefinition, runItems}
+use Rattle.rules.specs.Fields.{readEach, readField}
+use Rattle.rules.specs.Read.{itemsFrom, manifestOf}
+use Rattle.rules.specs.Compile.{knownFirst, roomIn, start, runManifest, onto, entriesInOrder}
+use Rattle.rules.specs.declared.Kind.the-variants.{Statement as StatementKind, Item as ItemKind}
+use Rattle.rules.specs.declared.Verdict.the-variants.{Sound}
+use Rattle.rules.proofs.Within.{false-not-true}
+use Rattle.places.specs.At.{statementAt, blockAt, itemAt, itemsAt, StandsAs, Siblings}
+use Rattle.places.proofs.Parts.{first-sibling}
+use Rattle.places.proofs.Statements.{statement-place}
+use Rattle.places.proofs.Items.{statement-item, manifest-opens}
+use Rattle.syntax.specs.declared.Found.{Found}
+use Rattle.syntax.specs.declared.Found.the-variants.{At, Nothing}
+use Rattle.syntax.specs.Strings.{foundOf}
+use Rattle.syntax.specs.Nodes.{itemPlaces, nodeFor, runsAt, running}
+use Rattle.syntax.proofs.NodesRead.{items-for}
+use Rattle.syntax.proofs.NamesKnown.{known-after, items-known}
+use Rattle.wire.proofs.Fields.{no-fields, field-first}
+use Rattle.cells.specs.Scopes.{scopeOf}
+use Rattle.cells.specs.Memory.{baseFor, stateOf}
+use Rattle.catalog.specs.Finding.{Written}
+use Rattle.evaluator.specs.Known.{KnownIn}
+use Rattle.evaluator.proofs.Names.{ready-first}
+use Rattle.resources.specs.declared.Ran.{Ran}
+use Rattle.resources.specs.declared.Ran.the-variants.{Done, Refused}
+use Rattle.declarations.specs.Standing.{NamesKnown}
+use Rattle.execution.specs.Executed.{Able, Stage, stateWith, Here, Ends, refusedSo as endsRefused, doneSo as endsDone, AbleAfter, Executes, begun}
+use Rattle.definitions.specs.Prepared.{Prepares, NodeBlock}
+use Rattle.definitions.specs.Defined.{ItemStands, IsDefinition, Defines}
+use Rattle.definitions.proofs.Definitions.{definition-there}
+use Rattle.compiler.specs.Running.{chosenOf, isChosen, DefinedSo, takenSo, knownSo, runPlaces, ItemsEnd, refusedSo, goesOn, RunsTo, RunEnds, RunsManifest}
+use Rattle.compiler.specs.Running as specs
+
+-- ---- is_chosen
+
+pub chosen-at : (p : ℕ) {node : Found} {q : ℕ} → node ≡ At q → eqb p q ≡ isChosen (chosenOf node) p
+unfolding chosenOf isChosen
+chosen-at p e = rw e refl
+
+pub chosen-none : (p : ℕ) {node : Found} → node ≡ Nothing → false ≡ isChosen (chosenOf node) p
+unfolding chosenOf isChosen
+chosen-none p e = rw e refl
+
+-- ---- define
+
+module _ (m : List ℕ) (p : ℕ) (w : List ℕ) (fill : ℕ) {t : Bool} (told : (k : Known) → KnownIn m w k → t ≡ isTaken k (two m (p + 3))) where
+  pub defines-again : (w′ : List ℕ) {q : ℕ} → q ≡ p → t ≡ true → DefinedSo m p w w′ fill (Refused DefinedAgain q)
+  defines-again w′ e h = rw e (takenSo (λ k i. sym (told k i) ∙ h))
+
+  pub defines : (w′ : List ℕ) → t ≡ false → Defines m p w w′ → DefinedSo m p w w′ fill (Done fill)
+  defines w′ h d = knownSo (λ k i. sym (told k i) ∙ h) d
+
+-- ---- Which items run
+
+module _ (m : List ℕ) (p : ℕ) where
+  other-runs : (c : Option ℕ) → (byte m p ≡ 0x30 → ⊥) → runsAt m c p ≡ true
+  unfolding runsAt
+  other-runs none n = rw (ne-eqb _ _ n)
+  other-runs (some q) n = rw (ne-eqb _ _ n)
+
+  node-runs : (c : Option ℕ) → byte m p ≡ 0x30 → runsAt m c p ≡ isChosen c p
+  unfolding runsAt isChosen
+  node-runs none e = rw (eq-eqb _ _ e)
+  node-runs (some q) e = rw (eq-eqb _ _ e)
+
+  module _ (c : Option ℕ) (ps : List ℕ) (k : Known) (st : State) where
+    runs-here : {i : Item} → runsAt m c p ≡ true → itemAt m p ≡ i → runPlaces m c (p ∷ ps) k st ≡ runItems k (i ∷ itemsAt m (running m c ps)) st
+    unfolding runPlaces running itemsAt
+    runs-here h e = rw (h, e) refl
+
+    passed-over : runsAt m c p ≡ false → runPlaces m c (p ∷ ps) k st ≡ runPlaces m c ps k st
+    unfolding runPlaces running
+    passed-over h = rw h refl
+
+-- a tag of an item that is none of these is a statement's
+statement-kind : (t : ℕ) → allowed ItemKind t ≡ true → (t ≡ 0x30 → ⊥) → (t ≡ 0x32 → ⊥) → (t ≡ 0x34 → ⊥) → allowed StatementKind t ≡ true
+unfolding allowed
+statement-kind t e a b c = rw (ne-eqb t 0x30 a, ne-eqb t 0x32 b, ne-eqb t 0x34 c) at e
+
+-- ---- What comes after an item
+
+module _ {m w out : List ℕ} {left : ℕ} {c : Option ℕ} {ps : List ℕ} {k : Known} {o : Outcome State} where
+  then-items : {a : Ran} → Ends m w out left k o a → ItemsEnd m w out left c ps (o >>= λ st. runPlaces m c ps k st) a
+  unfolding _>>=_
+  then-items (endsRefused e) = refusedSo (ap (λ (x : Outcome State). x >>= λ st. runPlaces m c ps k st) e)
+  then-items (endsDone es e s) = goesOn k es (ap (λ (x : Outcome State). x >>= λ st. runPlaces m c ps k st) e) s
+
+items-same : {m w out : List ℕ} {left : ℕ} {c : Option ℕ} {ps : List ℕ} {o o′ : Outcome State} {a : Ran} → o ≡ o′ → ItemsEnd m w out left c ps o′ a → ItemsEnd m w out left c ps o a
+items-same e i = rw e i
+
+-- ---- run_item
+
+bind-done : (o : Outcome State) → (o >>= λ st. done st) ≡ o
+unfolding _>>=_
+bind-done (refused r p) = refl
+bind-done (done st) = refl
+
+-- a statement outside others is a block of its own
+alone : (k : Known) (s : Statement) (p : ℕ) (c : Context) (st : State) → statementPlace s ≡ p → runAtTop k (next s end) c st ≡ begun 17 p s k c st
+unfolding runAtTop runBlock begun
+alone k s p c st e = ap (λ (q : ℕ). takeStep q st >>= λ st₁. run k (declaration k 17) s c st₁ >>= λ st₂. done st₂) e ∙ go (takeStep p st)
+  where
+    go : (o : Outcome State) → (o >>= λ st₁. run k (declaration k 17) s c st₁ >>= λ st₂. done st₂) ≡ (o >>= λ st₁. run k (declaration k 17) s c st₁)
+    go (refused r q) = unfold _>>=_ in refl
+    go (done st₁) = unfold _>>=_ in bind-done (run k (declaration k 17) s c st₁)
+
+not-true : (b : Bool) → not b ≡ true → b ≡ false
+not-true false e = refl
+not-true true e = false-not-true e
+
+not-false : (b : Bool) → not b ≡ false → b ≡ true
+not-false true e = refl
+not-false false e = false-not-true (sym e)
+
+top-here : Here 0 false noLabels topContext
+unfolding topContext scopeOf baseFor
+top-here = record { scope = refl; base = refl; path = refl }
+
+node-here : Here 1 true noLabels nodeContext
+unfolding nodeContext scopeOf baseFor
+node-here = record { scope = refl; base = refl; path = refl }
+
+-- what stands at p, by the tag read there
+module _ (m : List ℕ) (p : ℕ) (s : ItemStands m p) {t : ℕ} (read : t ≡ byte m p) where
+  pub stands-statement : (t ≡ 0x30 → ⊥) → ((t ≡ 0x32) ⊎ (t ≡ 0x34) → ⊥) → StandsAs m 32 StatementKind p
+  stands-statement x y = record { stands = s .stands .stands; kind = statement-kind (byte m p) (s .stands .kind) (λ e. x (read ∙ e)) (λ e. y (inl (read ∙ e))) (λ e. y (inr (read ∙ e))) }
+
+  pub is-definition : (t ≡ 0x32) ⊎ (t ≡ 0x34) → IsDefinition m p
+  is-definition (inl e) = inl (sym read ∙ e)
+  is-definition (inr e) = inr (sym read ∙ e)
+
+module _ (m : List ℕ) (p : ℕ) (c : Option ℕ) (w out : List ℕ) (fill left : ℕ) (able : Able m w out fill) (s : ItemStands m p) {t : ℕ} (read : t ≡ byte m p) where
+  pub passes-over : {b : Bool} → t ≡ 0x30 → b ≡ isChosen c p → not b ≡ true → (ps : List ℕ) → RunsTo m w w out out fill left left c (p ∷ ps) ps (Done fill)
+  unfolding AbleAfter
+  passes-over e told h ps = record {
+    able = able;
+    steps = omega arith;
+    says = λ k es i. goesOn k es (passed-over m p c ps k (stateWith w out fill left es) (node-runs m p c (sym read ∙ e) ∙ sym told ∙ not-true _ h)) i;
+  }
+
+  pub runs-node : (w′ out′ : List ℕ) {left′ block : ℕ} {b : Bool} {a : Ran} → t ≡ 0x30 → b ≡ isChosen c p → not b ≡ false → NodeBlock m p block → Executes m w w′ out out′ fill left left′ (Here 1 true noLabels) a (λ k. runBlock k (declaration k 17) (blockAt m 31 block)) → (ps : List ℕ) → RunsTo m w w′ out out′ fill left left′ c (p ∷ ps) ps a
+  unfolding runItems runAtTop runPlaces
+  runs-node w′ out′ e told h n x ps = record {
+    able = x .able;
+    steps = x .steps;
+    says = λ k es i. items-same (runs-here m p c ps k (stateWith w out fill left es) (node-runs m p c (sym read ∙ e) ∙ sym told ∙ not-false _ h) (n .tree)) (then-items (x .says k nodeContext es i node-here));
+  }
+
+  pub runs-statement : (w′ out′ : List ℕ) {left′ : ℕ} {a : Ran} → (t ≡ 0x30 → ⊥) → ((t ≡ 0x32) ⊎ (t ≡ 0x34) → ⊥) → Executes m w w′ out out′ fill left left′ (Here 0 false noLabels) a (begun 17 p (statementAt m 32 p)) → (ps : List ℕ) → RunsTo m w w′ out out′ fill left left′ c (p ∷ ps) ps a
+  unfolding runItems runPlaces
+  runs-statement w′ out′ x y e ps = record {
+    able = e .able;
+    steps = e .steps;
+    says = λ k es i.
+        let st : State = stateWith w out fill left es in
+        let here = runs-here m p c ps k st (other-runs m p c (λ h. x (read ∙ h))) (statement-item (stands-statement m p s read x y)) in
+        let itself = alone k (statementAt m 32 p) p topContext st (statement-place m 32 p) in
+        items-same (here ∙ ap (λ (o : Outcome State). o >>= λ st′. runPlaces m c ps k st′) itself) (then-items (e .says k topContext es i top-here));
+  }
+
+-- a definition
+module _ (k : Known) (d : Definition) (is : List Item) (st : State) where
+  name-taken : isTaken k (definedName d) ≡ true → runItems k (definition d ∷ is) st ≡ refused DefinedAgain (definedPlace d)
+  unfolding runItems _>>=_ refuseIf
+  name-taken h = rw h refl
+
+  name-free : isTaken k (definedName d) ≡ false → runItems k (definition d ∷ is) st ≡ runItems (withDefinition d k) is st
+  unfolding runItems _>>=_ refuseIf
+  name-free h = rw h refl
+
+module _ (m : List ℕ) (p : ℕ) (c : Option ℕ) (w out : List ℕ) (fill left : ℕ) (able : Able m w out fill) (s : ItemStands m p) {t : ℕ} (read : t ≡ byte m p) where
+  not-node : IsDefinition m p → byte m p ≡ 0x30 → ⊥
+  not-node (inl e) h = let z : _≡_ {A = ℕ} 0x32 0x30 = sym e ∙ h in omega arith
+  not-node (inr e) h = let z : _≡_ {A = ℕ} 0x34 0x30 = sym e ∙ h in omega arith
+
+  -- the stage after a definition
+  stage-after : (w′ : List ℕ) (k : Known) (es : List Entry) (d : Definition) → Defines m p w w′ → itemAt m p ≡ definition d → isTaken k (definedName d) ≡ false → Stage m w out fill k es → Stage m w′ out fill (withDefinition d k) es
+  stage-after w′ k es d x tree free i = record {
+    ready = record { catalog = i .ready .catalog; unique = i .ready .unique; known = x .known k d tree free (i .ready .known) };
+    title = unfold withDefinition in x .title ∙ i .title;
+  }
+
+  pub runs-definition : (w′ : List ℕ) {a : Ran} → (t ≡ 0x32) ⊎ (t ≡ 0x34) → DefinedSo m p w w′ fill a → (ps : List ℕ) → RunsTo m w w′ out out fill left left c (p ∷ ps) ps a
+  unfolding AbleAfter runPlaces
+  runs-definition w′ tag (takenSo taken) ps =
+      let i = is-definition m p s read tag in
+      let d = definition-there m p s i in
+      let runs = other-runs m p c (not-node i) in
+      record {
+        able = tt;
+        steps = omega arith;
+        says = λ k es stage.
+            let st : State = stateWith w out fill left es in
+            let name = ap (isTaken k) (d .name) ∙ taken k (stage .ready .known) in
+            refusedSo (runs-here m p c ps k st runs (d .tree) ∙ name-taken k (d .read) (itemsAt m (running m c ps)) st name ∙ ap (λ (q : ℕ). refused DefinedAgain q) (d .place));
+      }
+  runs-definition w′ tag (knownSo free x) ps =
+      let i = is-definition m p s read tag in
+      let d = definition-there m p s i in
+      let runs = other-runs m p c (not-node i) in
+      record {
+        able = record { set = x .set; fine = x .fine (able .fine); filled = able .filled };
+        steps = omega arith;
+        says = λ k es stage.
+            let st : State = stateWith w out fill left es in
+            let name = ap (isTaken k) (d .name) ∙ free k (stage .ready .known) in
+            let same : stateWith w′ out fill left es ≡ st = x .state es left (roomIn (length out) - fill) in
+            goesOn (withDefinition (d .read) k) es
+            (runs-here m p c ps k st runs (d .tree) ∙ name-free k (d .read) (itemsAt m (running m c ps)) st name ∙ ap (runItems (withDefinition (d .read) k) (itemsAt m (running m c ps))) (sym same))
+            (stage-after w′ k es (d .read) x (d .tree) name stage);
+      }
+
+-- ---- run_items
+
+module _ {m w₀ w w′ out₀ out out′ : List ℕ} {f₀ l₀ f l l′ : ℕ} {c : Option ℕ} {before between after : List ℕ} where
+  -- one run after the other
+  and-then : {a : Ran} → RunsTo m w₀ w out₀ out f₀ l₀ l c before between (Done f) → RunsTo m w w′ out out′ f l l′ c between after a → RunsTo m w₀ w′ out₀ out′ f₀ l₀ l′ c before after a
+  and-then {a} x y = record { able = y .able; steps = let i = x .steps in let j = y .steps in omega arith; says = λ k es i. go (x .says k es i) }
+    where
+      go : {o : Outcome State} → ItemsEnd m w out l c between o (Done f) → ItemsEnd m w′ out′ l′ c after o a
+      go (goesOn k es e i) = items-same e (y .says k es i)
+
+-- up to the item at p all have run
+pub record Along (m w₀ w out₀ out : List ℕ) (l₀ l f : ℕ) (c : Option ℕ) (p : ℕ) : Type 0 where
+  pub memory : length w ≡ length w₀
+  pub output : length out ≡ length out₀
+  pub items : Siblings m 32 ItemKind p (length m)
+  pub names : NamesKnown m p
+  pub after : 0 < p
+  pub runs : RunsTo m w₀ w out₀ out 0 l₀ l c (itemPlaces m) (fieldsIn m p (length m)) (Done f)
+
+pub items-begin : (m w out : List ℕ) (left : ℕ) (c : Option ℕ) {p : ℕ} → Able m w out 0 → check m ≡ Sound → p ≡ endOf m 0 → Along m w w out out left left 0 c p
+unfolding itemPlaces AbleAfter
+items-begin m w out left c able sound e = rw e (record {
+  memory = refl;
+  output = refl;
+  items = manifest-opens m sound .each;
+  names = items-known m sound;
+  after = omega arith;
+  runs = record { able = able; steps = omega arith; says = λ k es i. goesOn k es refl i };
+})
+
+module _ {m w₀ w out₀ out : List ℕ} {l₀ l f : ℕ} {c : Option ℕ} {p : ℕ} (so : Along m w₀ w out₀ out l₀ l f c p) where
+  pub item-stands : p < length m → ItemStands m p
+  item-stands h = record { after = so .after; stands = first-sibling (so .items) h .here; names = so .names }
+
+  pub still-able : Able m w out f
+  still-able = unfold AbleAfter in so .runs .able
+
+  module _ (w′ out′ : List ℕ) {l′ : ℕ} {a : Ran} (here : p < length m) (x : (ps : List ℕ) → RunsTo m w w′ out out′ f l l′ c (p ∷ ps) ps a) where
+    this-one : RunsTo m w₀ w′ out₀ out′ 0 l₀ l′ c (itemPlaces m) (fieldsIn m (endOf m p) (length m)) a
+    this-one = and-then (so .runs) (rw (field-first m p (length m) here) (x (fieldsIn m (endOf m p) (length m))))
+
+    pub items-go-on : {g q : ℕ} → length w′ ≡ length w → length out′ ≡ length out → a ≡ Done g → q ≡ endOf m p → Along m w₀ w′ out₀ out′ l₀ l′ g c q
+    items-go-on mem o told ahead =
+        let i = first-sibling (so .items) here in
+        let st = i .here .stands in
+        rw ahead (record {
+          memory = mem ∙ so .memory;
+          output = o ∙ so .output;
+          items = i .after;
+          names = known-after m (length (stringPlaces m)) (length m) 32 p (st .sound) (st .ends) (so .names);
+          after = omega arith;
+          runs = rw told at this-one;
+        })
+
+    pub items-refuse : {r : Reason} {q : ℕ} → a ≡ Refused r q → RunsTo m w₀ w′ out₀ out′ 0 l₀ l′ c (itemPlaces m) [] a
+    unfolding AbleAfter
+    items-refuse {r} {q} told = rw told (record { able = tt; steps = this-one .steps; says = λ k es i. go (rw told at (this-one .says k es i)) })
+      where
+        go : {o : Outcome State} → ItemsEnd m w′ out′ l′ c (fieldsIn m (endOf m p) (length m)) o (Refused r q) → ItemsEnd m w′ out′ l′ c [] o (Refused r q)
+        go (refusedSo e) = refusedSo e
+
+  pub items-done : length m ≤ p → RunsTo m w₀ w out₀ out 0 l₀ l c (itemPlaces m) [] (Done f)
+  items-done h = rw (no-fields m p (length m) h) at (so .runs)
+
+-- ---- run_manifest
+
+items-read : (m : List ℕ) (qs : List ℕ) → itemsFrom (readEach (readField m 32) qs) ≡ itemsAt m qs
+unfolding itemsFrom itemsAt itemAt readEach
+items-read m [] = refl
+items-read m (q ∷ qs) = ap (λ (is : List Item). itemAt m q ∷ is) (items-read m qs)
+
+chosen-found : (o : Option ℕ) → chosenOf (foundOf o) ≡ o
+unfolding chosenOf foundOf
+chosen-found none = refl
+chosen-found (some q) = refl
+
+none-left : (m : List ℕ) (c : Option ℕ) (k : Known) (st : State) → runPlaces m c [] k st ≡ done st
+unfolding runPlaces running itemsAt runItems
+none-left m c k st = refl
+
+-- the steps and the entries of a state
+state-steps : (w out : List ℕ) (f left : ℕ) (es : List Entry) → stateWith w out f left es .stepsLeft ≡ left
+unfolding stateOf
+state-steps w out f left es = refl
+
+state-written : (w out : List ℕ) (f left : ℕ) (es : List Entry) → Written out f (onto es []) → Written out f (entriesInOrder (stateWith w out f left es))
+unfolding stateOf entriesInOrder
+state-written w out f left es h = h
+
+pub prepared-able : {m w out : List ℕ} → Prepares m w → Able m w out 0
+prepared-able p = record { set = p .set; fine = p .fine; filled = omega arith }
+
+module _ (m device w out : List ℕ) (left : ℕ) (sound : check m ≡ Sound) (ready : Prepares m w) where
+  first-stage : Stage m w out 0 (knownFirst (manifestOf m .strings)) []
+  first-stage = record { ready = ready-first m w out (ready .known); title = ready .title }
+
+  first-state : stateWith w out 0 left [] ≡ start left (length out)
+  first-state = let all : roomIn (length out) - 0 ≡ roomIn (length out) = omega arith in ap (stateOf w [] left) all ∙ ready .state left (length out)
+
+  whole-run : {n : Found} → n ≡ foundOf (nodeFor m device) → runManifest (manifestOf m) device left (length out) ≡ runPlaces m (chosenOf n) (itemPlaces m) (knownFirst (manifestOf m .strings)) (stateWith w out 0 left [])
+  unfolding runManifest runPlaces
+  whole-run e = rw (items-for m device sound, items-read m (running m (nodeFor m device) (itemPlaces m)), e, chosen-found (nodeFor m device), first-state) refl
+
+  pub manifest-runs : (w′ out′ : List ℕ) {left′ : ℕ} {n : Found} {a : Ran} → n ≡ foundOf (nodeFor m device) → RunsTo m w w′ out out′ 0 left left′ (chosenOf n) (itemPlaces m) [] a → RunsManifest m device out out′ left left′ a
+  manifest-runs w′ out′ {left′} {n} e x = record { steps = x .steps; ends = go (x .able) (whole-run e) (x .says (knownFirst (manifestOf m .strings)) [] first-stage) }
+    where
+      go : {a : Ran} {o o′ : Outcome State} → AbleAfter m w′ out′ a → o′ ≡ o → ItemsEnd m w′ out′ left′ (chosenOf n) [] o a → RunEnds out′ left′ o′ a
+      go able same (refusedSo h) = specs.refusedSo (same ∙ h)
+      go able same (goesOn {f = f} k es h i) =
+          let st : State = stateWith w′ out′ f left′ es in
+          specs.doneSo st (same ∙ h ∙ none-left m (chosenOf n) k st) (state-steps w′ out′ f left′ es) (state-written w′ out′ f left′ es (i .ready .catalog)) (unfold AbleAfter in able .filled)

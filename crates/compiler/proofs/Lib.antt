@@ -1,0 +1,5 @@
+pub mod Faults
+pub mod Items
+pub mod Whole
+pub mod EditRule
+pub mod Starred

@@ -1,0 +1,105 @@
+-- One law for each way through `run_checked` and `compile`. Assumes nothing.
+use Prim.Native.Nat.{ℕ, _-_, _<_, _≤_}
+use mathlib.Core.Path.{_≡_, refl, sym, ap, _∙_}
+use mathlib.Core.List.{List, _++_}
+use native.Mathlib.Omega.{arith}
+use lib.ListN.{length, replicate}
+use lib.Seq.{length-take-le}
+use borrow.Author.Tests.{lt-ltb, le-ltb}
+use Rattle.values.specs.declared.Reason.{Reason}
+use Rattle.values.specs.declared.Reason.the-variants.{MemoryTooShort}
+use Rattle.values.specs.declared.Answer.{Answer}
+use Rattle.values.specs.declared.Answer.the-variants.{Catalog, Refused}
+use Rattle.wire.specs.Runs.{zeros}
+use Rattle.rules.specs.Outcome.{Outcome, refused, done, _>>=_, refuseIf}
+use Rattle.rules.specs.State.{State}
+use Rattle.rules.specs.Read.{manifestOf}
+use Rattle.rules.specs.Catalog.{catalogBytes}
+use Rattle.rules.specs.Compile.{roomIn, runManifest, checked, finalState, entriesInOrder, Compiled, compiledFrom, compiled, answerOf, outputAfter, memoryAfter, compile}
+use Rattle.rules.specs.declared.Verdict.{Verdict}
+use Rattle.rules.specs.declared.Verdict.the-variants.{Sound, Fault}
+use Rattle.syntax.specs.Before.{before}
+use Rattle.syntax.proofs.Whole.{before-the-run}
+use Rattle.catalog.specs.Making.{clearedFrom}
+use Rattle.catalog.specs.Finding.{Written}
+use Rattle.catalog.proofs.Growing.{cleared-after, cleared-all}
+use Rattle.resources.specs.declared.Ran.{Ran}
+use Rattle.resources.specs.declared.Ran.the-variants.{Done, Refused as RanRefused}
+use Rattle.compiler.specs.Compiled.{Compiles}
+use Rattle.compiler.specs.Running.{RunEnds, refusedSo, doneSo}
+
+-- ---- The final state, by what is found before the run
+
+module _ (m device : List ℕ) (limit output memory : ℕ) where
+  pub short-memory : memory < 65536 → finalState m device limit output memory ≡ refused MemoryTooShort 0
+  unfolding refuseIf _>>=_
+  short-memory h = before-the-run m device limit output memory ∙ rw (lt-ltb memory 65536 h) refl
+
+  pub fault-first : {v : Verdict} {r : Reason} {p : ℕ} → 65536 ≤ memory → v ≡ before m → v ≡ Fault r p → finalState m device limit output memory ≡ refused r p
+  unfolding refuseIf _>>=_ checked
+  fault-first h e f = before-the-run m device limit output memory ∙ rw (le-ltb memory 65536 h, sym e, f) refl
+
+  pub sound-first : 65536 ≤ memory → before m ≡ Sound → finalState m device limit output memory ≡ runManifest (manifestOf m) device limit output
+  unfolding refuseIf _>>=_ checked
+  sound-first h e = before-the-run m device limit output memory ∙ rw (le-ltb memory 65536 h, e) refl
+
+-- ---- All outcomes
+
+module _ (m device : List ℕ) (limit : ℕ) (out work : List ℕ) where
+  compiled-refused : {r : Reason} {p : ℕ} → finalState m device limit (length out) (length work) ≡ refused r p → compiled m device limit (length out) (length work) ≡ refused r p
+  unfolding compiled _>>=_
+  compiled-refused e = rw e refl
+
+  compiled-done : {st : State} → finalState m device limit (length out) (length work) ≡ done st → compiled m device limit (length out) (length work) ≡ done (compiledFrom limit st)
+  unfolding compiled _>>=_
+  compiled-done e = rw e refl
+
+  module _ (out₁ out′ work′ : List ℕ) {n : ℕ} (o : length out₁ ≡ length out) (mem : n ≡ length work) (cleared : work′ ≡ zeros n) where
+    zero-memory : work′ ≡ memoryAfter (length work)
+    unfolding memoryAfter zeros
+    zero-memory = cleared ∙ ap (λ (n : ℕ). replicate n 0) mem
+
+    -- the three parts make the whole
+    all-three : {o : Outcome Compiled} {a : Answer} → compiled m device limit (length out) (length work) ≡ o → a ≡ answerOf o → out′ ≡ outputAfter (length out) o → Compiles m device limit out out′ work work′ a
+    unfolding compile
+    all-three {o} {a} e answer output =
+        let answer′ : a ≡ answerOf (compiled m device limit (length out) (length work)) = answer ∙ ap answerOf (sym e) in
+        let output′ : out′ ≡ outputAfter (length out) (compiled m device limit (length out) (length work)) = output ∙ ap (outputAfter (length out)) (sym e) in
+        record { effect = λ i. record { answer = answer′ i; output = output′ i; memory = zero-memory i } }
+
+    pub refuses : {r : Reason} {p : ℕ} {a : Answer} → finalState m device limit (length out) (length work) ≡ refused r p → a ≡ Refused r p → out′ ≡ clearedFrom 0 out₁ → Compiles m device limit out out′ work work′ a
+    unfolding answerOf outputAfter
+    refuses e told zero = all-three (compiled-refused e) told (zero ∙ cleared-all out₁ ∙ ap (λ (n : ℕ). replicate n 0) o)
+
+    pub accepts : {st : State} {f left : ℕ} → finalState m device limit (length out) (length work) ≡ done st → st .stepsLeft ≡ left → Written out₁ f (entriesInOrder st) → f ≤ length out₁ → out′ ≡ clearedFrom f out₁ → Compiles m device limit out out′ work work′ (Catalog f (limit - left))
+    unfolding answerOf outputAfter compiledFrom
+    accepts {st} {f} {left} e steps written within rest =
+        let bytes : List ℕ = catalogBytes (entriesInOrder st) in
+        let size : f ≡ length bytes = sym (length-take-le f out₁ within) ∙ ap length (written .bytes) in
+        let spent : limit - left ≡ limit - st .stepsLeft = ap (λ (n : ℕ). limit - n) (sym steps) in
+        all-three (compiled-done e) (λ i. Catalog (size i) (spent i)) (rest ∙ cleared-after out₁ bytes f within (written .bytes) ∙ ap (λ (n : ℕ). bytes ++ replicate (n - length bytes) 0) o)
+
+-- ---- run_checked
+
+-- an entry's end is a number of 16 bits, within the output
+pub record Ended (out : List ℕ) (left f : ℕ) (o : Outcome State) : Type 0 where
+  pub state : State
+  pub same : o ≡ done state
+  pub steps : state .stepsLeft ≡ left
+  pub written : Written out f (entriesInOrder state)
+  pub within : f ≤ length out
+  pub short : f ≤ 65535
+
+module _ {out : List ℕ} {left : ℕ} {o : Outcome State} {a : Ran} (x : RunEnds out left o a) where
+  pub run-done : {f : ℕ} → a ≡ Done f → Ended out left f o
+  unfolding roomIn
+  run-done {f} e = go (rw e at x)
+    where
+      go : RunEnds out left o (Done f) → Ended out left f o
+      go (doneSo st h steps written room) = record { state = st; same = h; steps = steps; written = written; within = unfold roomIn in omega arith; short = unfold roomIn in omega arith }
+
+  pub run-refused : {r : Reason} {p : ℕ} → a ≡ RanRefused r p → o ≡ refused r p
+  run-refused {r} {p} e = go (rw e at x)
+    where
+      go : RunEnds out left o (RanRefused r p) → o ≡ refused r p
+      go (refusedSo h) = h

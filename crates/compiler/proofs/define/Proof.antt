@@ -1,0 +1,39 @@
+-- `define`: the name is taken, or its definition becomes known.
+use Rattle.compiler.proofs.Items.{defines-again, defines}
+use mathlib.Core.Path.{refl}
+use borrow.Author.Needs.{needs}
+use Rattle.compiler.proofs.define.Statement.{statement}
+use Rattle.compiler.proofs.define.Tie as tie
+
+is-taken-requires : tie.Need-is-taken-requires
+is-taken-requires c κs = search needs
+
+cast-t9 : tie.Need-cast-t9
+cast-t9 c = search needs
+
+same-length : tie.Need-same-length
+same-length c = search needs
+
+returns : tie.Need-returns
+returns c = defines-again _ _ _ _ (c .before .is-taken .ensures) _ refl (c .if1 .taken)
+
+define-requires : tie.Need-define-requires
+define-requires c κs = search needs
+
+same-length-2 : tie.Need-same-length-2
+same-length-2 c = search needs
+
+returns-2 : tie.Need-returns-2
+returns-2 c = defines _ _ _ _ (c .before .before .before .before .before .is-taken .ensures) _ (c .before .before .before .before .if1 .left) (c .before .before .define .ensures)
+
+pub define-spec : {M : Type 1} → statement M
+define-spec =
+    tie.close
+    (tie.spec
+    is-taken-requires
+    cast-t9
+    same-length
+    returns
+    define-requires
+    same-length-2
+    returns-2)

@@ -1,0 +1,168 @@
+// A whole compile: from a manifest and a device name to the device's catalog.
+ghost use mathlib.Core.Path.{_≡_};
+ghost use mathlib.Core.List.{List, [], _∷_};
+ghost use Prim.Native.Nat.{ℕ, _≤_};
+ghost use lib.ListN.{length};
+ghost use Rattle.wire.specs.Runs.{zeros};
+ghost use Rattle.values.specs.declared.Answer.the-variants.{Refused};
+ghost use Rattle.rules.specs.Check.{check};
+ghost use Rattle.rules.specs.declared.Verdict.the-variants.{Sound};
+ghost use Rattle.syntax.specs.Before.{before};
+ghost use Rattle.syntax.specs.Nodes.{itemPlaces};
+ghost use Rattle.catalog.specs.Making.{clearedFrom};
+ghost use Rattle.declarations.specs.Standing.{Set};
+ghost use Rattle.execution.specs.Executed.{Able};
+ghost use Rattle.definitions.specs.Defined.{ItemStands, IsDefinition};
+ghost use Rattle.compiler.specs.Compiled.{Compiles};
+ghost use Rattle.compiler.specs.Running.{chosenOf, isChosen, DefinedSo, RunsTo, RunsManifest};
+use labels::Labels;
+use resources::Ran;
+use rules::Verdict;
+use syntax::Found;
+use values::Answer;
+use values::Reason;
+
+// ---- Items
+
+// The definition at p becomes known, unless its name is taken (8).
+fn define(m: &[u8], p: usize, work: &mut [u8], fill: usize) -> Ran
+    requires { ⌜ Set (now m) (now work) × (ItemStands (now m) p × IsDefinition (now m) p) ⌝ }
+    ensures { λ r. ⌜ DefinedSo (now (m .entry)) p (now (work .entry)) (now (work .exit)) fill r ⌝ }
+{
+    if definitions::is_taken(m, p, work) {
+        return Ran::Refused {
+            reason: Reason::DefinedAgain,
+            place: p as u16,
+        };
+    }
+    definitions::define(m, p, work);
+    Ran::Done(fill)
+}
+
+// Whether the node at p is the one that runs.
+fn is_chosen(node: Found, p: usize) -> bool
+    ensures { λ r. ⌜ r ≡ isChosen (chosenOf node) p ⌝ }
+{
+    match node {
+        Found::At(q) => p == q as usize,
+        Found::Nothing => false,
+    }
+}
+
+// The item at p, if it runs.
+fn run_item(
+    m: &[u8],
+    node: Found,
+    p: usize,
+    work: &mut [u8],
+    out: &mut [u8],
+    fill: usize,
+    left: &mut u16,
+) -> Ran
+    requires { ⌜ Able (now m) (now work) (now out) fill × ItemStands (now m) p ⌝ }
+    ensures { λ r. ⌜ ((ps : List ℕ) → RunsTo (now (m .entry)) (now (work .entry)) (now (work .exit)) (now (out .entry)) (now (out .exit)) fill (now (left .entry)) (now (left .exit)) (chosenOf node) (p ∷ ps) ps r) ⌝ }
+{
+    match wire::byte_at(m, p) {
+        0x30 => {
+            if !is_chosen(node, p) {
+                return Ran::Done(fill);
+            }
+            let block = definitions::node_block(m, p);
+            execution::run_block(
+                m,
+                31,
+                block,
+                work,
+                out,
+                fill,
+                left,
+                17,
+                1,
+                true,
+                Labels::EMPTY,
+            )
+        }
+        0x32 | 0x34 => define(m, p, work, fill),
+        _ => execution::run_statement(m, 32, p, work, out, fill, left, 17, 0, false, Labels::EMPTY),
+    }
+}
+
+// "Items run in order."
+fn run_items(m: &[u8], node: Found, work: &mut [u8], out: &mut [u8], left: &mut u16) -> Ran
+    requires { ⌜ Able (now m) (now work) (now out) 0 × (check (now m) ≡ Sound) ⌝ }
+    ensures { λ r. ⌜ RunsTo (now (m .entry)) (now (work .entry)) (now (work .exit)) (now (out .entry)) (now (out .exit)) 0 (now (left .entry)) (now (left .exit)) (chosenOf node) (itemPlaces (now (m .entry))) [] r ⌝ }
+{
+    let mut filled: usize = 0;
+    let mut p = wire::end_of(m, 0);
+    while p < m.len() {
+        let r = run_item(m, node, p, work, out, filled, left);
+        let Ran::Done(more) = r else {
+            return r;
+        };
+        filled = more;
+        p = wire::end_of(m, p);
+    }
+    Ran::Done(filled)
+}
+
+// A sound manifest, in a memory of zeros.
+fn run_manifest(m: &[u8], device: &[u8], out: &mut [u8], work: &mut [u8], left: &mut u16) -> Ran
+    requires { ⌜ ((check (now m) ≡ Sound) × (length (now m) ≤ 65535)) × ((65536 ≤ length (now work)) × (now work ≡ zeros (length (now work)))) ⌝ }
+    ensures { λ r. ⌜ RunsManifest (now (m .entry)) (now (device .entry)) (now (out .entry)) (now (out .exit)) (now (left .entry)) (now (left .exit)) r ⌝ }
+{
+    definitions::prepare(m, work);
+    let node = definitions::choose_node(m, device);
+    run_items(m, node, work, out, left)
+}
+
+// ---- The whole
+
+// A refusal: "after a refusal the output and the working memory are zero throughout".
+fn refuse(reason: Reason, place: u16, out: &mut [u8], work: &mut [u8]) -> Answer
+    ensures { λ r. ⌜ (r ≡ Refused reason place) × ((now (out .exit) ≡ clearedFrom 0 (now (out .entry))) × (now (work .exit) ≡ zeros (length (now (work .entry))))) ⌝ }
+{
+    memory::clear(work);
+    catalog::clear_rest(out, 0);
+    Answer::Refused { reason, place }
+}
+
+// A sound manifest, whatever the memory holds.
+fn run_checked(m: &[u8], device: &[u8], limit: u16, out: &mut [u8], work: &mut [u8]) -> Answer
+    requires { ⌜ (65536 ≤ length (now work)) × (before (now m) ≡ Sound) ⌝ }
+    ensures { λ r. ⌜ Compiles (now (m .entry)) (now (device .entry)) limit (now (out .entry)) (now (out .exit)) (now (work .entry)) (now (work .exit)) r ⌝ }
+{
+    memory::clear(work);
+    let mut left = limit;
+    let r = run_manifest(m, device, out, work, &mut left);
+    match r {
+        Ran::Refused { reason, place } => refuse(reason, place, out, work),
+        Ran::Done(filled) => {
+            memory::clear(work);
+            catalog::clear_rest(out, filled);
+            Answer::Catalog {
+                length: filled as u16,
+                steps: limit - left,
+            }
+        }
+    }
+}
+
+// The catalog of a device, or the first refusal. Every byte of `out` and `work` is determined: the catalog and then zeros, or zeros throughout; the memory is zero.
+pub fn compile(
+    manifest: &[u8],
+    device: &[u8],
+    limit: u16,
+    out: &mut [u8],
+    work: &mut [u8],
+) -> Answer
+    ensures { λ r. ⌜ Compiles (now (manifest .entry)) (now (device .entry)) limit (now (out .entry)) (now (out .exit)) (now (work .entry)) (now (work .exit)) r ⌝ }
+{
+    if work.len() < 65536 {
+        return refuse(Reason::MemoryTooShort, 0, out, work);
+    }
+    let v = syntax::check_all(manifest);
+    match v {
+        Verdict::Fault { reason, place } => refuse(reason, place as u16, out, work),
+        Verdict::Sound => run_checked(manifest, device, limit, out, work),
+    }
+}

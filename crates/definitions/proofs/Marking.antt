@@ -1,0 +1,229 @@
+-- Built-in types and the title: one law for each way through `mark_string`, `mark_built_ins` and `prepare`. Assumes nothing.
+use Prim.Native.Nat.{ℕ, zero, suc, _+_, _≤_, _<_}
+use mathlib.Core.Path.{_≡_, refl, sym, ap, _∙_}
+use mathlib.Core.Bool.{Bool, true, false}
+use mathlib.Core.List.{List, [], _∷_}
+use mathlib.Core.Option.{Option, none, some}
+use native.Mathlib.Omega.{arith}
+use native.Mathlib.Numerals.{add-one}
+use lib.Dec.{ltb}
+use lib.ListN.{length, getD, List·getD-eq-default}
+use borrow.Author.Tests.{eq-eqb, ne-eqb, ltb-true, ltb-false}
+use Rattle.wire.specs.Bytes.{pick, endOf, fieldsIn}
+use Rattle.wire.specs.Runs.{zeros}
+use Rattle.wire.proofs.Fields.{no-fields, field-first}
+use Rattle.rules.specs.Check.{text, stringPlaces, check}
+use Rattle.rules.specs.State.{Entry}
+use Rattle.rules.specs.Read.{manifestOf}
+use Rattle.rules.specs.Evaluate.{any}
+use Rattle.rules.specs.Compile.{sameBytes, stringAt, stringNumber, builtInTypes, titleText, isBuiltIn, knownFirst, roomIn}
+use Rattle.rules.specs.declared.Verdict.the-variants.{Sound}
+use Rattle.syntax.specs.declared.Found.{Found}
+use Rattle.syntax.specs.declared.Found.the-variants.{At, Nothing}
+use Rattle.syntax.specs.Strings.{textsAt, stringTexts, isBuiltInText, indexed, Indexed, foundOf}
+use Rattle.syntax.proofs.StringsRead.{few-strings, strings-read, built-in-read, title-read, table-holds}
+use Rattle.cells.specs.Layout.{putAt, restOf}
+use Rattle.cells.specs.Memory.{definitionOf, builtInOf, Names, namesOf, stateOf, Fine, Becomes}
+use Rattle.memory.specs.Names.{withBuiltIn, noNames, titleOf, TitleSet}
+use Rattle.memory.proofs.Start.{zeros-start, zeros-names, zeros-fine}
+use Rattle.memory.proofs.Titles.{title-kept, no-title}
+use Rattle.evaluator.proofs.Names.{known-first}
+use Rattle.declarations.specs.Standing.{undefined}
+use Rattle.definitions.specs.Prepared.{markString, markStrings, Prepares}
+
+-- ---- mark_string
+
+module _ (m : List ℕ) (n q : ℕ) {b : Bool} (told : b ≡ isBuiltInText (text m q)) where
+  pub marked : (w w′ : List ℕ) → b ≡ true → Becomes w w′ (λ st. st) (withBuiltIn n true) → Becomes w w′ (λ st. st) (markString m n q)
+  unfolding markString
+  marked w w′ h s = record { state = s .state; names = rw (sym told, h) (s .names); rest = s .rest; fine = s .fine }
+
+  pub unmarked : (w : List ℕ) → b ≡ false → Becomes w w (λ st. st) (markString m n q)
+  unfolding markString
+  unmarked w h = record { state = λ es k r. refl; names = rw (sym told, h) refl; rest = refl; fine = λ f. f }
+
+-- ---- mark_built_ins
+
+-- up to the string n, at q, the strings are marked: those left make the whole
+pub record MarkedTo (m w₀ w : List ℕ) (e n q : ℕ) : Type 0 where
+  pub size : length w ≡ length w₀
+  pub count : n + length (fieldsIn m q e) ≡ length (fieldsIn m 3 e)
+  pub names : markStrings m n (fieldsIn m q e) (namesOf w) ≡ markStrings m 0 (fieldsIn m 3 e) (namesOf w₀)
+  pub state : (es : List Entry) (s r : ℕ) → stateOf w es s r ≡ stateOf w₀ es s r
+  pub rest : restOf w ≡ restOf w₀
+  pub fine : Fine w₀ → Fine w
+
+module _ (m : List ℕ) (e : ℕ) where
+  pub none-marked : (w : List ℕ) → MarkedTo m w w e 0 3
+  none-marked w = record { size = refl; count = omega arith; names = refl; state = λ es s r. refl; rest = refl; fine = λ f. f }
+
+  module _ (w₀ w : List ℕ) (n q : ℕ) (so : MarkedTo m w₀ w e n q) where
+    -- a string is left: its number is below the count
+    pub string-below : {f : ℕ} → q < e → e ≡ f → length (fieldsIn m 3 f) ≤ 1024 → n < 1024
+    string-below l same few = let c = so .count in let first = rw (field-first m q e l) at c in let most = rw (sym same) at few in omega arith
+
+    pub one-marked : (w′ : List ℕ) {q′ : ℕ} → q < e → Becomes w w′ (λ st. st) (markString m n q) → length w′ ≡ length w → q′ ≡ endOf m q → MarkedTo m w₀ w′ e (n + 1) q′
+    unfolding markStrings
+    one-marked w′ l s size next =
+        let c = rw (field-first m q e l) at (so .count) in
+        let old = rw (field-first m q e l) at (so .names) in
+        rw next (record {
+          size = size ∙ so .size;
+          count = omega arith;
+          names = rw (add-one n, s .names) old;
+          state = λ es k r. s .state es k r ∙ so .state es k r;
+          rest = s .rest ∙ so .rest;
+          fine = λ f. s .fine (so .fine f);
+        })
+
+    pub all-marked : e ≤ q → e ≡ endOf m 0 → Becomes w₀ w (λ st. st) (markStrings m 0 (stringPlaces m))
+    unfolding stringPlaces markStrings
+    all-marked l same = record { state = so .state; names = rw (sym same) (rw (no-fields m q e l) at (so .names)); rest = so .rest; fine = so .fine }
+
+-- ---- What the marks say
+
+module _ (m : List ℕ) where
+  strings-kept : (n : ℕ) (qs : List ℕ) (ns : Names) → markStrings m n qs ns .definitions ≡ ns .definitions
+  unfolding markStrings markString withBuiltIn
+  strings-kept n [] ns = refl
+  strings-kept n (q ∷ qs) ns = strings-kept (suc n) qs (markString m n q ns) ∙ go (isBuiltInText (text m q))
+    where
+      go : (b : Bool) → _≡_ {A = ℕ → ℕ} (pick b (withBuiltIn n true ns) ns .definitions) (ns .definitions)
+      go true = refl
+      go false = refl
+
+  -- a string before those marked
+  before-marked : (n : ℕ) (qs : List ℕ) (ns : Names) (k : ℕ) → k < n → markStrings m n qs ns .builtIns k ≡ ns .builtIns k
+  unfolding markStrings markString withBuiltIn putAt
+  before-marked n [] ns k l = refl
+  before-marked n (q ∷ qs) ns k l = before-marked (suc n) qs (markString m n q ns) k (omega arith) ∙ go (isBuiltInText (text m q))
+    where
+      go : (b : Bool) → pick b (withBuiltIn n true ns) ns .builtIns k ≡ ns .builtIns k
+      go true = rw (ne-eqb k n (λ e. omega arith)) refl
+      go false = refl
+
+  -- a string past them
+  past-marked : (n : ℕ) (qs : List ℕ) (ns : Names) (k : ℕ) → n + length qs ≤ k → markStrings m n qs ns .builtIns k ≡ ns .builtIns k
+  unfolding markStrings markString withBuiltIn putAt
+  past-marked n [] ns k l = refl
+  past-marked n (q ∷ qs) ns k l = past-marked (suc n) qs (markString m n q ns) k (omega arith) ∙ go (isBuiltInText (text m q))
+    where
+      go : (b : Bool) → pick b (withBuiltIn n true ns) ns .builtIns k ≡ ns .builtIns k
+      go true = rw (ne-eqb k n (λ e. omega arith)) refl
+      go false = refl
+
+  -- one of them, where none from n on was marked before
+  among-marked : (n : ℕ) (qs : List ℕ) (ns : Names) → ((k : ℕ) → n ≤ k → ns .builtIns k ≡ false) → (i : ℕ) → i < length qs → markStrings m n qs ns .builtIns (n + i) ≡ isBuiltInText (text m (getD qs i 0))
+  unfolding markStrings markString withBuiltIn putAt
+  among-marked n [] ns blank i l = absurd (omega arith)
+  among-marked n (q ∷ qs) ns blank zero l =
+      let here : n + 0 ≡ n = omega arith in
+      rw here (before-marked (suc n) qs (markString m n q ns) n (omega arith) ∙ go (isBuiltInText (text m q)))
+    where
+      go : (b : Bool) → pick b (withBuiltIn n true ns) ns .builtIns n ≡ b
+      go true = rw (eq-eqb n n refl) refl
+      go false = blank n (omega arith)
+  among-marked n (q ∷ qs) ns blank (suc i) l =
+      let later : n + suc i ≡ suc n + i = omega arith in
+      rw later (among-marked (suc n) qs (markString m n q ns) (λ k h. go k h (isBuiltInText (text m q)) ∙ blank k (omega arith)) i (omega arith))
+    where
+      go : (k : ℕ) → suc n ≤ k → (b : Bool) → pick b (withBuiltIn n true ns) ns .builtIns k ≡ ns .builtIns k
+      go k h true = rw (ne-eqb k n (λ e. omega arith)) refl
+      go k h false = refl
+
+-- the number of a string is below how many there are
+number-below : (x : List ℕ) (ss : List (List ℕ)) (i n : ℕ) → stringNumber x ss i ≡ some n → n < i + length ss
+unfolding stringNumber
+number-below x [] i n e = let z : _≡_ {A = ℕ} 0 1 = cc in absurd (omega arith)
+number-below x (y ∷ ys) i n e = go (λ j h. number-below x ys (suc i) j h) (sameBytes x y) e
+  where
+    go : ((j : ℕ) → stringNumber x ys (suc i) ≡ some j → j < suc i + length ys) → (b : Bool) → elim b [ true ↦ some i | false ↦ stringNumber x ys (suc i) ] ≡ some n → n < i + suc (length ys)
+    go later true h = let same : i ≡ n = cc in omega arith
+    go later false h = let below = later n h in omega arith
+
+texts-count : (m : List ℕ) (ps : List ℕ) → length (textsAt m ps) ≡ length ps
+unfolding textsAt
+texts-count m [] = refl
+texts-count m (p ∷ ps) = ap suc (texts-count m ps)
+
+-- ---- prepare
+
+found-back : (o : Option ℕ) {n : ℕ} → foundOf o ≡ At n → o ≡ some n
+unfolding foundOf
+found-back none e = let z : _≡_ {A = ℕ} 0 1 = cc in absurd (omega arith)
+found-back (some i) e = cc
+
+found-nothing : (o : Option ℕ) → foundOf o ≡ Nothing → o ≡ none
+unfolding foundOf
+found-nothing none e = refl
+found-nothing (some i) e = let z : _≡_ {A = ℕ} 0 1 = cc in absurd (omega arith)
+
+-- the title's number, as it was looked up
+module _ (m : List ℕ) {r : Found} (told : r ≡ foundOf (stringNumber titleText (stringTexts m) 0)) where
+  pub title-below : {n : ℕ} → length (stringPlaces m) ≤ 1024 → r ≡ At n → n < 1024
+  unfolding stringTexts
+  title-below {n} few h =
+      let below = number-below titleText (stringTexts m) 0 n (found-back _ (sym told ∙ h)) in
+      let count = texts-count m (stringPlaces m) in
+      omega arith
+
+module _ (m w₀ w : List ℕ) (sound : check m ≡ Sound) (zero : w₀ ≡ zeros (length w₀)) (marked : Becomes w₀ w (λ st. st) (markStrings m 0 (stringPlaces m))) where
+  -- the names after the marks
+  names-are : namesOf w ≡ markStrings m 0 (stringPlaces m) noNames
+  names-are = marked .names ∙ ap (markStrings m 0 (stringPlaces m)) (ap namesOf zero ∙ zeros-names (length w₀))
+
+  no-definition : (n : ℕ) → definitionOf w n ≡ 0
+  unfolding namesOf noNames
+  no-definition n = ap (λ (ns : Names). ns .definitions n) names-are ∙ ap (λ (f : ℕ → ℕ). f n) (strings-kept m 0 (stringPlaces m) noNames)
+
+  -- a number past the strings names no built-in type
+  past-strings : (n : ℕ) → length (stringPlaces m) ≤ n → isBuiltIn (manifestOf m .strings) n ≡ false
+  unfolding isBuiltIn stringAt stringTexts any sameBytes builtInTypes
+  past-strings n l =
+      let count = texts-count m (stringPlaces m) in
+      rw (strings-read m sound, List·getD-eq-default (textsAt m (stringPlaces m)) [] {n = n} (omega arith)) refl
+
+  among-strings : (n : ℕ) → n < length (stringPlaces m) → isBuiltIn (manifestOf m .strings) n ≡ markStrings m 0 (stringPlaces m) noNames .builtIns n
+  unfolding noNames
+  among-strings n l =
+      let here : 0 + n ≡ n = omega arith in
+      built-in-read m n sound l ∙ sym (ap (markStrings m 0 (stringPlaces m) noNames .builtIns) (sym here) ∙ among-marked m 0 (stringPlaces m) noNames (λ k j. refl) n l)
+
+  after-strings : (n : ℕ) → length (stringPlaces m) ≤ n → isBuiltIn (manifestOf m .strings) n ≡ markStrings m 0 (stringPlaces m) noNames .builtIns n
+  unfolding noNames
+  after-strings n l = past-strings n l ∙ sym (past-marked m 0 (stringPlaces m) noNames n (omega arith))
+
+  built-ins : (n : ℕ) → isBuiltIn (manifestOf m .strings) n ≡ builtInOf w n
+  unfolding namesOf
+  built-ins n = go (ltb n (length (stringPlaces m))) refl ∙ sym (ap (λ (ns : Names). ns .builtIns n) names-are)
+    where
+      go : (b : Bool) → ltb n (length (stringPlaces m)) ≡ b → isBuiltIn (manifestOf m .strings) n ≡ markStrings m 0 (stringPlaces m) noNames .builtIns n
+      go true h = among-strings n (ltb-true _ _ h)
+      go false h = after-strings n (ltb-false _ _ h)
+
+  module _ (room : 65536 ≤ length w₀) (short : length m ≤ 65535) (size : length w ≡ length w₀) where
+    no-title-yet : titleOf w ≡ none
+    no-title-yet = title-kept w₀ w (marked .rest) ∙ ap titleOf zero ∙ no-title (length w₀)
+
+    -- THE LAWS: what is known before the first item runs, where the memory became w′ by its title alone
+    ready : (w′ : List ℕ) → length w′ ≡ length w → namesOf w′ ≡ namesOf w → ((es : List Entry) (n r : ℕ) → stateOf w′ es n r ≡ stateOf w es n r) → (Fine w → Fine w′) → titleOf w′ ≡ stringNumber titleText (stringTexts m) 0 → Prepares m w′
+    unfolding namesOf knownFirst
+    ready w′ same names state fine title = record {
+      set = record { memory = omega arith; manifest = short; strings = few-strings m sound; definitions = λ n. undefined (ap (λ (ns : Names). ns .definitions n) names ∙ no-definition n) };
+      fine = fine (marked .fine (rw zero (zeros-fine (length w₀))));
+      known = known-first m w′ (knownFirst (manifestOf m .strings)) refl (λ n. built-ins n ∙ sym (ap (λ (ns : Names). ns .builtIns n) names)) (λ n. ap (λ (ns : Names). ns .definitions n) names ∙ no-definition n);
+      title = title ∙ sym (title-read m sound);
+      state = λ limit output. state [] limit (roomIn output) ∙ marked .state [] limit (roomIn output) ∙ ap (λ (v : List ℕ). stateOf v [] limit (roomIn output)) zero ∙ zeros-start (length w₀) limit output;
+    }
+
+    pub titled : {r : Found} (w′ : List ℕ) {n : ℕ} → r ≡ foundOf (stringNumber titleText (stringTexts m) 0) → r ≡ At n → TitleSet w w′ n → length w′ ≡ length w → Prepares m w′
+    titled w′ told h s same = ready w′ same (s .names) (s .state) (s .fine) (s .title ∙ sym (found-back _ (sym told ∙ h)))
+
+    pub untitled : {r : Found} → r ≡ foundOf (stringNumber titleText (stringTexts m) 0) → r ≡ Nothing → Prepares m w
+    untitled told h = ready w refl refl (λ es n r. refl) (λ f. f) (no-title-yet ∙ sym (found-nothing _ (sym told ∙ h)))
+
+-- ---- choose_node
+
+-- the table of places after `index_strings`
+pub node-table : (m table : List ℕ) {table′ : List ℕ} {n : ℕ} → check m ≡ Sound → length m ≤ 65535 → 2048 ≤ length table → n ≡ length (stringPlaces m) → table′ ≡ indexed m table → Indexed m table′ n
+node-table m table sound short room count e = rw (e, count) (table-holds m table sound short room)

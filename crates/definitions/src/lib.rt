@@ -1,0 +1,109 @@
+// What the names of a manifest mean: built-in types and the title before anything runs, definitions as they run; and the node that runs for a device.
+ghost use mathlib.Core.Path.{_≡_};
+ghost use Prim.Native.Nat.{_+_, _≤_, _<_};
+ghost use lib.ListN.{length};
+ghost use Rattle.wire.specs.Bytes.{byte, two};
+ghost use Rattle.wire.specs.Runs.{zeros};
+ghost use Rattle.rules.specs.Check.{stringPlaces, check};
+ghost use Rattle.rules.specs.State.{Known};
+ghost use Rattle.rules.specs.Run.{isTaken};
+ghost use Rattle.rules.specs.declared.Verdict.the-variants.{Sound};
+ghost use Rattle.syntax.specs.Strings.{foundOf};
+ghost use Rattle.syntax.specs.Nodes.{nodeFor};
+ghost use Rattle.cells.specs.Memory.{Becomes};
+ghost use Rattle.evaluator.specs.Known.{KnownIn};
+ghost use Rattle.declarations.specs.Standing.{Set};
+ghost use Rattle.definitions.specs.Prepared.{markString, markStrings, Prepares, isDeviceAt, NodeBlock};
+ghost use Rattle.definitions.specs.Defined.{ItemStands, IsDefinition, Defines};
+use syntax::Found;
+
+// ---- Before the first item
+
+// Marks the string n, at q, if it names a built-in type.
+fn mark_string(m: &[u8], q: usize, work: &mut [u8], n: u16)
+    requires { ⌜ (65536 ≤ length (now work)) × (n < 1024) ⌝ }
+    ensures { λ _. ⌜ Becomes (now (work .entry)) (now (work .exit)) (λ st. st) (markString (now (m .entry)) n q) ⌝ }
+{
+    if syntax::strings::is_built_in(m, q) {
+        memory::set_built_in(work, n, true);
+    }
+}
+
+// Marks the strings that name built-in types.
+fn mark_built_ins(m: &[u8], work: &mut [u8])
+    requires { ⌜ (65536 ≤ length (now work)) × (length (stringPlaces (now m)) ≤ 1024) ⌝ }
+    ensures { λ _. ⌜ Becomes (now (work .entry)) (now (work .exit)) (λ st. st) (markStrings (now (m .entry)) 0 (stringPlaces (now (m .entry)))) ⌝ }
+{
+    let end = wire::end_of(m, 0);
+    let mut n: u16 = 0;
+    let mut q: usize = 3;
+    while q < end {
+        mark_string(m, q, work, n);
+        n += 1;
+        q = wire::end_of(m, q);
+    }
+}
+
+// The names of a manifest, in a memory of zeros.
+pub fn prepare(m: &[u8], work: &mut [u8])
+    requires { ⌜ ((check (now m) ≡ Sound) × (length (now m) ≤ 65535)) × ((65536 ≤ length (now work)) × (now work ≡ zeros (length (now work)))) ⌝ }
+    ensures { λ _. ⌜ Prepares (now (m .entry)) (now (work .exit)) ⌝ }
+{
+    mark_built_ins(m, work);
+    let title = syntax::strings::title_number(m);
+    match title {
+        Found::At(n) => memory::set_title(work, n),
+        Found::Nothing => {}
+    }
+}
+
+// ---- The node that runs
+
+// The place of the node that runs for the device.
+pub fn choose_node(m: &[u8], device: &[u8]) -> Found
+    requires { ⌜ (check (now m) ≡ Sound) × (length (now m) ≤ 65535) ⌝ }
+    ensures { λ r. ⌜ r ≡ foundOf (nodeFor (now (m .entry)) (now (device .entry))) ⌝ }
+{
+    let mut index = [0u8; 2048];
+    let strings = syntax::strings::index_strings(m, &mut index);
+    syntax::nodes::node_place(m, device, &index, strings)
+}
+
+// Whether the field at q is one that begins a node: a device's name or a default.
+fn is_device(m: &[u8], q: usize) -> bool
+    ensures { λ r. ⌜ r ≡ isDeviceAt (now (m .entry)) q ⌝ }
+{
+    let tag = wire::byte_at(m, q);
+    tag == 0x31 || tag == 0x1b
+}
+
+// The block of the node at p.
+pub fn node_block(m: &[u8], p: usize) -> usize
+    requires { ⌜ (ItemStands (now m) p × (byte (now m) p ≡ 0x30)) × (length (now m) ≤ 65535) ⌝ }
+    ensures { λ r. ⌜ NodeBlock (now (m .entry)) p r ⌝ }
+{
+    let mut q = p + 3;
+    while is_device(m, q) {
+        q = wire::end_of(m, q);
+    }
+    q
+}
+
+// ---- Definitions
+
+// Whether the name of the definition at p is taken (8).
+pub fn is_taken(m: &[u8], p: usize, work: &[u8]) -> bool
+    requires { ⌜ Set (now m) (now work) × (ItemStands (now m) p × IsDefinition (now m) p) ⌝ }
+    ensures { λ r. ⌜ ((k : Known) → KnownIn (now (m .entry)) (now (work .entry)) k → r ≡ isTaken k (two (now (m .entry)) (p + 3))) ⌝ }
+{
+    let name = wire::two_at(m, p + 3);
+    memory::built_in(work, name) || memory::definition_at(work, name) != 0
+}
+
+// The definition at p becomes known.
+pub fn define(m: &[u8], p: usize, work: &mut [u8])
+    requires { ⌜ Set (now m) (now work) × (ItemStands (now m) p × IsDefinition (now m) p) ⌝ }
+    ensures { λ _. ⌜ Defines (now (m .entry)) p (now (work .entry)) (now (work .exit)) ⌝ }
+{
+    memory::set_definition(work, wire::two_at(m, p + 3), p as u16);
+}

@@ -1,0 +1,95 @@
+// Standard input, which comes in pieces, as a device name and a manifest: "reads the device name, a line feed, then the manifest".
+ghost use mathlib.Core.Path.{_≡_};
+ghost use mathlib.Core.List.{List, []};
+ghost use Prim.Native.Nat.{ℕ, _+_, min};
+ghost use lib.ListN.{length, drop};
+ghost use Rattle.wire.specs.Runs.{over};
+ghost use Rattle.rules.specs.Schedule.{beforeFeed};
+ghost use Rattle.input.specs.Reading.{reading, readingOf, isFull, Fed};
+
+// How far the input is read: whether the line feed was met, and how many bytes of each part are kept.
+pub struct Progress {
+    pub met: bool,
+    pub device: usize,
+    pub manifest: usize,
+}
+
+// Nothing is read yet.
+pub fn start() -> Progress
+    ensures { λ r. ⌜ ((device manifest : List ℕ) → reading r device manifest ≡ readingOf device manifest []) ⌝ }
+{
+    Progress {
+        met: false,
+        device: 0,
+        manifest: 0,
+    }
+}
+
+// Where the line feed stands; the piece's length if there is none.
+fn feed_place(piece: &[u8]) -> usize
+    ensures { λ r. ⌜ r ≡ length (beforeFeed (now (piece .entry))) ⌝ }
+{
+    let mut i: usize = 0;
+    while i < piece.len() {
+        if piece[i] == 10 {
+            return i;
+        }
+        i += 1;
+    }
+    i
+}
+
+// What follows the byte at `i`.
+fn after(piece: &[u8], i: usize) -> &[u8]
+    ensures { λ r. ⌜ now r ≡ drop (i + 1) (now (piece .entry)) ⌝ }
+{
+    if piece.len() <= i {
+        return &piece[0..0];
+    }
+    let from = i + 1;
+    &piece[from..]
+}
+
+// Puts the bytes after the first `kept` of a buffer, as many as fit, and returns how many are kept then.
+fn keep(buffer: &mut [u8], kept: usize, bytes: &[u8]) -> usize
+    ensures { λ r. ⌜ (r ≡ min (length (now (buffer .entry))) (kept + length (now (bytes .entry)))) × (now (buffer .exit) ≡ over (now (buffer .entry)) kept (now (bytes .entry))) ⌝ }
+{
+    wire::copy_into(buffer, kept, bytes);
+    let room = buffer.len();
+    if room <= kept {
+        return room;
+    }
+    if room - kept <= bytes.len() {
+        return room;
+    }
+    kept + bytes.len()
+}
+
+// Takes one more piece of the input. What does not fit the buffers is dropped.
+pub fn feed(piece: &[u8], at: Progress, device: &mut [u8], manifest: &mut [u8]) -> Progress
+    ensures { λ r. ⌜ Fed (now (piece .entry)) (reading at (now (device .entry)) (now (manifest .entry))) (reading r (now (device .exit)) (now (manifest .exit))) ⌝ }
+{
+    if at.met {
+        let all = keep(manifest, at.manifest, piece);
+        return Progress {
+            met: true,
+            device: at.device,
+            manifest: all,
+        };
+    }
+    let e = feed_place(piece);
+    let name = keep(device, at.device, &piece[..e]);
+    let rest = keep(manifest, at.manifest, after(piece, e));
+    Progress {
+        met: e < piece.len(),
+        device: name,
+        manifest: rest,
+    }
+}
+
+// Whether 65,536 bytes of the manifest are kept: it is too long then, whatever follows.
+pub fn is_full(at: Progress) -> bool
+    ensures { λ r. ⌜ r ≡ isFull at ⌝ }
+{
+    65536 <= at.manifest
+}

@@ -1,0 +1,19 @@
+-- What a call from C or Rust tells: an answer in one word.
+use Prim.Native.Nat.{ℕ, _+_, _*_}
+use mathlib.Core.Path.{_≡_}
+use mathlib.Core.List.{List}
+use Rattle.values.specs.declared.Answer.{Answer}
+use Rattle.values.specs.Numbers.{Said, accepted, refused, said}
+use Rattle.compiler.specs.Compiled.{Compiles}
+
+-- accepted: the steps in the bits from 16 on, the catalog's length in the lowest 16; refused: the number in the bits from 32 on, the place
+-- in the lowest 16. A word below 2^32 is of the first sort, since a refusal's number is at least 1.
+unfoldable pub wordOf : Said → ℕ
+wordOf (accepted n s) = s * 65536 + n
+wordOf (refused k p) = k * 4294967296 + p
+
+-- the word is that of the answer of `compile`, and the bytes lent are as `compile` leaves them
+pub record Calls (manifest device : List ℕ) (limit : ℕ) (output output′ memory memory′ : List ℕ) (word : ℕ) : Type 0 where
+  pub answer : Answer
+  pub compiles : Compiles manifest device limit output output′ memory memory′ answer
+  pub told : word ≡ wordOf (said answer)

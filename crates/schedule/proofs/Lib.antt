@@ -1,0 +1,9 @@
+pub mod Appending
+pub mod Strings
+pub mod LabelList
+pub mod Tests
+pub mod Lines
+pub mod Sizes
+pub mod Printing
+pub mod Whole
+pub mod Asking

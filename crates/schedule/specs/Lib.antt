@@ -1,0 +1,4 @@
+pub mod Strings
+pub mod Appending
+pub mod Subjects
+pub mod Lines
