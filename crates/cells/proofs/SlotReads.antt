@@ -1,8 +1,8 @@
 -- One law for each way through the functions that read a slot.
 use mathlib.Core.Path.{_≡_, refl, sym, _∙_}
-use mathlib.Core.Bool.{true, false, not}
+use mathlib.Core.Bool.{Bool, true, false, not}
 use mathlib.Core.List.{List}
-use Prim.Native.Nat.{ℕ, _+_, _%_, _≤_, _<_}
+use Prim.Native.Nat.{ℕ, _+_, _*_, _%_, _≤_, _<_}
 use native.Mathlib.Omega.{arith}
 use lib.Dec.{eqb}
 use lib.IntN.{ℤ}
@@ -10,7 +10,7 @@ use borrow.Author.Tests.{eq-eqb, ne-eqb, lt-ltb, le-ltb}
 use Rattle.labels.specs.declared.Labels.{Labels}
 use Rattle.values.specs.declared.Value.{Value}
 use Rattle.values.specs.declared.Value.the-variants.{Integer, String, Boolean}
-use Rattle.wire.specs.Bytes.{byte, two}
+use Rattle.wire.specs.Bytes.{pick, byte, two}
 use Rattle.wire.specs.Numbers.{number, signed64}
 use Rattle.wire.specs.Runs.{bytesAt}
 use Rattle.cells.specs.declared.Held.the-variants.{Empty, Holds}
@@ -18,6 +18,11 @@ use Rattle.cells.specs.Layout.{keyAt, bodyAt, setAt, wordAt, slotAt, slo
 use Rattle.cells.specs.Slots.{valueFrom, labelled, inUse, hit, ofScope, valueIn}
 use Rattle.cells.specs.Memory.{heldOf}
 use Rattle.cells.proofs.Slots.{slot-in}
+
+-- a number whose low byte is not that of n is not n
+low-differs : (w : List ℕ) (p q n : ℕ) → q ≡ p + 1 → (byte w q ≡ n % 256 → ⊥) → byte w q < 256 → two w p ≡ n → ⊥
+unfolding two
+low-differs w p q n at ne fits e = let number : byte w p * 256 + byte w q ≡ n = rw at e in ne (omega arith)
 
 module _ (w : List ℕ) (i : ℕ) (below : i < 512) where
   -- hits
@@ -33,10 +38,22 @@ module _ (w : List ℕ) (i : ℕ) (below : i < 512) where
   unfolding hit slotAt
   own-key s n {r} {q} {t} p e p′ e′ pt = rw (slot-in w i below, pt) (simp (eq-eqb (two w (keyAt i)) s (sym p ∙ e), eq-eqb (two w (keyAt i + 2)) n (sym p′ ∙ e′)))
 
+  -- find: the low byte of the name is another one
+  pub other-low : (s n : ℕ) → (byte w (keyAt i + 3) ≡ n % 256 → ⊥) → byte w (keyAt i + 3) < 256 → hit s n (slotsOf w i) ≡ false
+  unfolding hit slotAt
+  other-low s n ne fits = rw (slot-in w i below, ne-eqb (two w (keyAt i + 2)) n (low-differs w (keyAt i + 2) (keyAt i + 3) n (omega arith) ne fits)) (go (eqb (two w (keyAt i)) s))
+    where
+      go : (u : Bool) → pick u false false ≡ false
+      go true = refl
+      go false = refl
+
   -- in_scope
   pub not-of-scope : (s : ℕ) {r : ℕ} → r ≡ two w (keyAt i) → (r ≡ s → ⊥) → false ≡ ofScope s (slotsOf w i)
   unfolding ofScope slotAt
   not-of-scope s {r} p ne = rw (slot-in w i below) (simp (ne-eqb (two w (keyAt i)) s (λ e. ne (p ∙ e))))
+
+  pub low-not-of-scope : (s : ℕ) → (byte w (keyAt i + 1) ≡ s % 256 → ⊥) → byte w (keyAt i + 1) < 256 → false ≡ ofScope s (slotsOf w i)
+  low-not-of-scope s ne fits = not-of-scope s refl (low-differs w (keyAt i) (keyAt i + 1) s refl ne fits)
 
   pub of-scope : (s : ℕ) {r t : ℕ} → r ≡ two w (keyAt i) → r ≡ s → t ≡ byte w i → not (eqb t 0) ≡ ofScope s (slotsOf w i)
   unfolding ofScope slotAt

@@ -62,7 +62,6 @@ pub fn put_labels(work: &mut [u8], p: usize, set: Labels)
 
 // ---- Searches
 
-// Keys first: most slots fail there.
 fn hits(work: &[u8], i: usize, scope: u16, name: u16) -> bool
     requires { ⌜ i < 512 ⌝ }
     ensures { λ r. ⌜ r ≡ hit scope name (slotsOf (now (work .entry)) i) ⌝ }
@@ -77,13 +76,19 @@ fn hits(work: &[u8], i: usize, scope: u16, name: u16) -> bool
     wire::byte_at(work, i) != 0
 }
 
+// The low byte of the name first: most slots fail there.
 fn find(work: &[u8], scope: u16, name: u16) -> Found
+    requires { ⌜ 65536 ≤ length (now work) ⌝ }
     ensures { λ r. ⌜ r ≡ slotFor (slotsOf (now (work .entry))) scope name ⌝ }
 {
+    let low = (name % 256) as u8;
     let mut i = 0;
     while i < 512 {
-        if hits(work, i, scope, name) {
-            return Found::At(i);
+        let at = KEYS + 4 * i + 3;
+        if work[at] == low {
+            if hits(work, i, scope, name) {
+                return Found::At(i);
+            }
         }
         i += 1;
     }
@@ -256,10 +261,15 @@ pub fn join_mark(work: &mut [u8], scope: u16, name: u16, set: Labels) -> Stored
 
 // ---- Freeing a scope
 
+// The low byte first: most slots fail there.
 fn in_scope(work: &[u8], i: usize, scope: u16) -> bool
-    requires { ⌜ i < 512 ⌝ }
+    requires { ⌜ (i < 512) × (65536 ≤ length (now work)) ⌝ }
     ensures { λ r. ⌜ r ≡ ofScope scope (slotsOf (now (work .entry)) i) ⌝ }
 {
+    let low = KEYS + 4 * i + 1;
+    if work[low] != (scope % 256) as u8 {
+        return false;
+    }
     if wire::two_at(work, KEYS + 4 * i) != scope {
         return false;
     }

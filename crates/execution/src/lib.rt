@@ -121,7 +121,9 @@ pub fn run_statement(
     )
 }
 
-// A statement after its step, by its tag.
+// A statement after its step, by its tag. Declarations are called from two places each, though one would do: a function with one call is merged into
+// its caller in the compiled code, and the frame of this one, which stands on the stack once for every nested condition, would then hold a declaration's
+// table of 42 KB. So the table is on the stack once for every level.
 fn run_begun(
     m: &[u8],
     depth: u8,
@@ -167,32 +169,66 @@ fn run_begun(
             path,
         ),
         0x25 => run_resource(m, depth, p, work, out, fill, scope, base_is_node, path),
-        0x27 => run_defined(
-            m,
-            depth,
-            p,
-            work,
-            out,
-            fill,
-            left,
-            levels,
-            scope,
-            base_is_node,
-            path,
-        ),
-        0x28 => run_class(
-            m,
-            depth,
-            p,
-            work,
-            out,
-            fill,
-            left,
-            levels,
-            scope,
-            base_is_node,
-            path,
-        ),
+        0x27 => {
+            if base_is_node {
+                return run_defined(
+                    m,
+                    depth,
+                    p,
+                    work,
+                    out,
+                    fill,
+                    left,
+                    levels,
+                    scope,
+                    base_is_node,
+                    path,
+                );
+            }
+            run_defined(
+                m,
+                depth,
+                p,
+                work,
+                out,
+                fill,
+                left,
+                levels,
+                scope,
+                base_is_node,
+                path,
+            )
+        }
+        0x28 => {
+            if base_is_node {
+                return run_class(
+                    m,
+                    depth,
+                    p,
+                    work,
+                    out,
+                    fill,
+                    left,
+                    levels,
+                    scope,
+                    base_is_node,
+                    path,
+                );
+            }
+            run_class(
+                m,
+                depth,
+                p,
+                work,
+                out,
+                fill,
+                left,
+                levels,
+                scope,
+                base_is_node,
+                path,
+            )
+        }
         _ => run_include(m, p, work, out, fill, left, levels, base_is_node, path),
     }
 }

@@ -1,28 +1,45 @@
 -- `find`: at the loop's head the search from slot i on finds what the whole search finds.
 use mathlib.Core.Path.{_≡_, refl, sym, _∙_}
-use Prim.Native.Nat.{ℕ, _-_, _≤_}
+use mathlib.Core.Logic.{⊎-elim}
+use Prim.Native.Nat.{ℕ, _+_, _-_, _≤_}
 use native.Mathlib.Omega.{arith}
 use Rattle.cells.specs.Slots.{hit, firstFrom, slotFor}
-use Rattle.cells.specs.Layout.{slotsOf}
+use Rattle.cells.specs.Layout.{keyAt, slotsOf}
+use Rattle.cells.proofs.SlotReads.{other-low}
 use Rattle.cells.proofs.Search.{first-now, first-later, first-none}
 use Rattle.cells.proofs.find.Statement.{statement}
 use Rattle.cells.proofs.find.Tie as tie
 
 abbrev Inv-loop : tie.InvT-loop
-Inv-loop work scope name i₀ i = (i ≤ 512) × (firstFrom (512 - i) i (λ (k : ℕ). hit scope name (slotsOf work k)) ≡ slotFor (slotsOf work) scope name)
+Inv-loop work scope name low i₀ i = (i ≤ 512) × (firstFrom (512 - i) i (λ (k : ℕ). hit scope name (slotsOf work k)) ≡ slotFor (slotsOf work) scope name)
 
 abbrev μ-loop : tie.MeasureT-loop
-μ-loop work scope name i₀ i = 512 - i
+μ-loop work scope name low i₀ i = 512 - i
+
+cast-low : tie.Need-cast-low Inv-loop μ-loop
+cast-low c = omega arith
 
 loop-holds : tie.Need-loop-holds Inv-loop μ-loop
 unfolding slotFor
 loop-holds c = (omega arith, refl)
 
+mul-at : tie.Need-mul-at Inv-loop μ-loop
+mul-at c = omega arith
+
+add-at : tie.Need-add-at Inv-loop μ-loop
+add-at c = omega arith
+
+add-at-2 : tie.Need-add-at-2 Inv-loop μ-loop
+add-at-2 c = omega arith
+
+shared-slice-read-if1 : tie.Need-shared-slice-read-if1 Inv-loop μ-loop
+shared-slice-read-if1 c = omega arith
+
 hits-requires : tie.Need-hits-requires Inv-loop μ-loop
-hits-requires c κs = c .loop-test .taken
+hits-requires c κs = c .before .before .loop-test .taken
 
 returns : tie.Need-returns Inv-loop μ-loop
-returns c = first-now _ _ (c .before .before .loop-test .taken) (sym (c .before .hits .ensures) ∙ c .if1 .taken) (c .before .before .before .loop .inv .1)
+returns c = first-now _ _ (c .before .before .before .before .loop-test .taken) (sym (c .before .hits .ensures) ∙ c .if2 .taken) (c .before .before .before .before .before .loop .inv .1)
 
 add-i : tie.Need-add-i Inv-loop μ-loop
 add-i c = omega arith
@@ -31,7 +48,9 @@ loop-less : tie.Need-loop-less Inv-loop μ-loop
 loop-less c = omega arith
 
 loop-again : tie.Need-loop-again Inv-loop μ-loop
-loop-again c = (omega arith, first-later _ _ (c .before .before .loop-test .taken) (sym (c .before .hits .ensures) ∙ c .if1 .left) (c .before .before .before .loop .inv .1))
+loop-again c =
+    let below = c .before .before .loop-test .taken in
+    (omega arith, first-later _ _ below (⊎-elim (λ w. sym (w .1 .ensures) ∙ w .2 .left) (λ w. other-low _ _ below _ _ (w .left) (omega (arith, c .before .shared-slice-known2 .given (keyAt (c .before .before .before .loop .i) + 3)))) (c .if1 .came)) (c .before .before .before .loop .inv .1))
 
 returns-2 : tie.Need-returns-2 Inv-loop μ-loop
 returns-2 c = first-none _ _ (c .loop-test .left) (c .before .loop .inv .1)
@@ -42,7 +61,12 @@ find-spec =
     (tie.spec
     Inv-loop
     μ-loop
+    cast-low
     loop-holds
+    mul-at
+    add-at
+    add-at-2
+    shared-slice-read-if1
     hits-requires
     returns
     add-i

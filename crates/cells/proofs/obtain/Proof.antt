@@ -1,4 +1,5 @@
 -- `obtain`: the key was there, a slot was claimed, or none was left.
+use native.Mathlib.Omega.{arith}
 use borrow.Author.Needs.{needs}
 use Rattle.cells.proofs.Cells.{obtain-old, obtain-new, obtain-none}
 use Rattle.cells.proofs.Ways.{free-in-slots}
@@ -6,7 +7,7 @@ use Rattle.cells.proofs.obtain.Statement.{statement}
 use Rattle.cells.proofs.obtain.Tie as tie
 
 find-requires : tie.Need-find-requires
-find-requires c κs = tt
+find-requires c κs = omega arith
 
 enum-known-i : tie.Need-enum-known-i
 enum-known-i c = c .match .keys1

@@ -5,7 +5,7 @@ use Rattle.cells.proofs.read_cell.Statement.{statement}
 use Rattle.cells.proofs.read_cell.Tie as tie
 
 find-requires : tie.Need-find-requires
-find-requires c κs = tt
+find-requires c κs = c .before .pre
 
 enum-known-i : tie.Need-enum-known-i
 enum-known-i c = c .match .keys1

@@ -1,0 +1,162 @@
+//! Rigbanut for Rust: a safe wrapper of the proved static library, in one file, the standard library only.
+//!
+//! ```text
+//! rustc --edition 2021 -O main.rs -L FOLDER-OF-LIBRIGBANUT -l static=rigbanut
+//! ```
+//!
+//! with `#[path = ".../bindings/rigbanut.rs"] mod rigbanut;` in `main.rs`. `bindings/run` builds the library and an
+//! example. A [`Compiler`] has its own memory; [`compile_into`] is the plain call, on memory of the caller's.
+
+#![allow(dead_code)] // A program that includes this file need not use all of it.
+
+use std::fmt;
+
+/// A shorter working memory is refused (1).
+pub const MEMORY: usize = 65_536;
+/// No catalog is longer.
+pub const LONGEST_CATALOG: usize = 65_535;
+
+/// What a compile answers.
+#[derive(Clone, Copy, Debug, PartialEq, Eq)]
+pub enum Answer {
+    /// The catalog is the first `length` bytes of the output.
+    Catalog { length: u16, steps: u16 },
+    Refused(Refusal),
+}
+
+/// The first reason met, by its number, and the offset in the manifest of the field concerned.
+#[derive(Clone, Copy, Debug, PartialEq, Eq)]
+pub struct Refusal {
+    pub number: u8,
+    pub place: u16,
+}
+
+/// What a [`Compiler`] gives back.
+#[derive(Clone, Copy, Debug, PartialEq, Eq)]
+pub enum Outcome<'c> {
+    Accepted { catalog: &'c [u8], steps: u16 },
+    Refused(Refusal),
+}
+
+/// The memory of a compile, allocated once and used by every call.
+pub struct Compiler {
+    out: Vec<u8>,
+    work: Vec<u8>,
+}
+
+impl Compiler {
+    pub fn new() -> Compiler {
+        Compiler {
+            out: vec![0; LONGEST_CATALOG],
+            work: vec![0; MEMORY],
+        }
+    }
+
+    /// Compiles a manifest for a device, in at most `limit` steps. The catalog stays until the next call.
+    pub fn compile(&mut self, manifest: &[u8], device: &[u8], limit: u16) -> Outcome<'_> {
+        match compile_into(manifest, device, limit, &mut self.out, &mut self.work) {
+            Answer::Refused(refusal) => Outcome::Refused(refusal),
+            Answer::Catalog { length, steps } => Outcome::Accepted {
+                catalog: &self.out[..usize::from(length)],
+                steps,
+            },
+        }
+    }
+}
+
+impl Default for Compiler {
+    fn default() -> Compiler {
+        Compiler::new()
+    }
+}
+
+/// Compiles into lent memory. Afterwards `out` holds the catalog and then zeros, or zeros alone after a refusal, and
+/// `work` is zero throughout.
+pub fn compile_into(manifest: &[u8], device: &[u8], limit: u16, out: &mut [u8], work: &mut [u8]) -> Answer {
+    // SAFETY: a Rust slice is what the function asks for. Its pointer is never null and is good for its length, and
+    // the two that are lent exclusively overlap nothing. The function is proved to stay within all four.
+    let answer = unsafe {
+        rigbanut_compile(
+            manifest.as_ptr(),
+            manifest.len(),
+            device.as_ptr(),
+            device.len(),
+            limit,
+            out.as_mut_ptr(),
+            out.len(),
+            work.as_mut_ptr(),
+            work.len(),
+        )
+    };
+    Answer::from_number(answer)
+}
+
+extern "C" {
+    fn rigbanut_compile(
+        manifest: *const u8,
+        manifest_length: usize,
+        device: *const u8,
+        device_length: usize,
+        limit: u16,
+        out: *mut u8,
+        out_length: usize,
+        work: *mut u8,
+        work_length: usize,
+    ) -> u64;
+}
+
+impl Answer {
+    /// Accepted: steps * 65536 + length. Refused: number * 2^32 + place.
+    fn from_number(answer: u64) -> Answer {
+        if answer >> 32 != 0 {
+            return Answer::Refused(Refusal {
+                number: (answer >> 32) as u8,
+                place: answer as u16,
+            });
+        }
+        Answer::Catalog {
+            length: answer as u16,
+            steps: (answer >> 16) as u16,
+        }
+    }
+}
+
+impl Refusal {
+    /// The reason in words.
+    pub fn reason(&self) -> &'static str {
+        match self.number {
+            1 => "the working memory is shorter than 65,536 bytes",
+            2 => "the manifest's length is outside 1 to 65,535",
+            3 => "a field's tag, length or parts are not as listed",
+            4 => "a field is deeper than 32",
+            5 => "the strings don't rise strictly, or a name is past the table",
+            6 => "a further step would pass the limit",
+            7 => "a declaration would go below level 16",
+            8 => "a defined name is defined again, or is a built-in type",
+            9 => "the class or type is unknown, or a resource's type is not built in",
+            10 => "a class that is declared already is declared with attributes",
+            11 => "a parameter is unknown",
+            12 => "a parameter has neither value nor default",
+            13 => "the variable has no value in any scope tried",
+            14 => "the variable has a value in this scope already",
+            15 => "an operand, condition or title is of the wrong kind",
+            16 => "the result is outside 64 bits",
+            17 => "the divisor is zero",
+            18 => "no pattern of a selector matches",
+            19 => "the resource or attribute read is not in the catalog",
+            20 => "type and title are already in the catalog",
+            21 => "an attribute is named twice in one body",
+            22 => "a 513th cell is needed",
+            23 => "the finished entry passes the output's end or 65,535 bytes in all",
+            _ => "not a refusal's number",
+        }
+    }
+}
+
+impl fmt::Display for Refusal {
+    fn fmt(&self, out: &mut fmt::Formatter<'_>) -> fmt::Result {
+        write!(out, "refused {} at {}: {}", self.number, self.place, self.reason())
+    }
+}
+
+impl std::error::Error for Refusal {}

@@ -1,0 +1,129 @@
+// Compiles the cases on standard input, a case to a line, and writes an answer line for each. The format is that of `reference batch` (README.md).
+ghost use Prim.Native.Nat.{_≤_};
+ghost use lib.ListN.{length};
+
+// Places in a text, and numbers and bytes as text.
+mod text;
+
+fn main() {
+    let mut input = [0u8; 300000];
+    let mut spare = [0u8; 300000];
+    answer_all(&mut input, &mut spare);
+}
+
+// Nothing says that the input ends, so the rounds are counted: a million, each with a line or more. A line that does not fit the buffer ends the run, as the end of the input does.
+fn answer_all(input: &mut [u8], spare: &mut [u8]) {
+    let mut rounds: u64 = 1000000;
+    let mut kept: usize = 0;
+    while 0 < rounds {
+        let full = read_more(input, kept);
+        let done = answer_lines(&input[..full]);
+        if done == 0 {
+            return;
+        }
+        kept = keep_rest(input, done, full, spare);
+        rounds -= 1;
+    }
+}
+
+// Reads on after the bytes that are kept, until the buffer is full or the input ends. Answers how many bytes there are then.
+fn read_more(input: &mut [u8], kept: usize) -> usize
+    requires { ⌜ kept ≤ length (now input) ⌝ }
+    ensures { λ r. ⌜ r ≤ length (now (input .exit)) ⌝ }
+{
+    let got = io::read_full(0, &mut input[kept..]);
+    kept + got
+}
+
+// Moves the bytes from `done` up to `full` to the start. Answers how many they are.
+fn keep_rest(input: &mut [u8], done: usize, full: usize, spare: &mut [u8]) -> usize
+    requires { ⌜ done ≤ full ⌝ }
+    requires { ⌜ full ≤ length (now input) ⌝ }
+    ensures { λ r. ⌜ r ≤ length (now (input .exit)) ⌝ }
+{
+    wire::copy_into(spare, 0, &input[done..full]);
+    wire::copy_into(input, 0, spare);
+    full - done
+}
+
+// Answers each line that ends here. Answers where the rest begins.
+fn answer_lines(lines: &[u8]) -> usize
+    ensures { λ r. ⌜ r ≤ length (now (lines .entry)) ⌝ }
+{
+    let mut at: usize = 0;
+    while at < lines.len() {
+        let end = text::find(lines, at, b'\n');
+        if lines.len() <= end {
+            return at;
+        }
+        answer_line(&lines[at..end]);
+        at = end + 1;
+    }
+    at
+}
+
+// Device, limit, output length, memory length, manifest. What does not fit the room here is cut.
+fn answer_line(line: &[u8]) {
+    let mut device = [0u8; 300];
+    let mut manifest = [0u8; 70000];
+    let second = text::next_part(line, 0);
+    let third = text::next_part(line, second);
+    let fourth = text::next_part(line, third);
+    let fifth = text::next_part(line, fourth);
+    let limit = text::read_number(&line[second..], 65535) as u16;
+    let named = text::read_hex(line, &mut device);
+    let size = text::read_hex(&line[fifth..], &mut manifest);
+    lend(&manifest[..size], &device[..named], limit, &line[third..]);
+}
+
+// Output and memory of the two lengths at the start of `lengths`.
+fn lend(manifest: &[u8], device: &[u8], limit: u16, lengths: &[u8]) {
+    let mut out = [0u8; 70000];
+    let mut work = [0u8; 70000];
+    let second = text::next_part(lengths, 0);
+    let output = text::read_length(lengths, &out);
+    let memory = text::read_length(&lengths[second..], &work);
+    compile(
+        manifest,
+        device,
+        limit,
+        &mut out[..output],
+        &mut work[..memory],
+    );
+}
+
+fn compile(manifest: &[u8], device: &[u8], limit: u16, out: &mut [u8], work: &mut [u8]) {
+    let answer = library::rigbanut_compile(manifest, device, limit, out, work);
+    write_answer(answer, out);
+}
+
+// Accepted: steps * 65536 + length. Refused: number * 2^32 + place.
+fn write_answer(answer: u64, out: &[u8]) {
+    if answer < 4294967296 {
+        write_catalog(answer / 65536, (answer % 65536) as usize, out);
+    } else {
+        write_refusal(answer / 4294967296, answer % 4294967296);
+    }
+}
+
+fn write_catalog(steps: u64, length: usize, out: &[u8]) {
+    io::write_all(1, b"ok ");
+    io::print_decimal(1, steps);
+    if length == 0 {
+        io::write_all(1, b" -\n");
+        return;
+    }
+    io::write_all(1, b" ");
+    let mut digits = [0u8; 140000];
+    let count = text::put_hex(&mut digits, out, length);
+    io::write_all(1, &digits[..count]);
+    io::write_all(1, b"\n");
+}
+
+fn write_refusal(number: u64, place: u64) {
+    io::write_all(1, b"refused ");
+    io::print_decimal(1, number);
+    io::write_all(1, b" ");
+    io::print_decimal(1, place);
+    io::write_all(1, b"\n");
+}
