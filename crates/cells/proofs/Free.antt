@@ -13,7 +13,7 @@ use Rattle.wire.specs.Runs.{over}
 use Rattle.rules.specs.State.{sameScope, Cell, noCell, freed, count, free}
 use Rattle.cells.specs.declared.Found.{Found}
 use Rattle.cells.specs.declared.Found.the-variants.{At, Nothing}
-use Rattle.cells.specs.Layout.{Slot, slot, table, blankSlot, slotAt, slotsOf, afterSlots, putAt}
+use Rattle.cells.specs.Layout.{reached, Slot, slot, slotsOf, afterSlots, putAt}
 use Rattle.cells.specs.Scopes.{scopeOf}
 use Rattle.cells.specs.Slots.{StoresAt, hit, inUse, ofScope, emptied, freedSlot, slotFor, firstFrom, FineSlots}
 use Rattle.cells.specs.Memory.{cellAt, cellsIn, usedIn, cellsOf, usedOf, stateOf, Fine, Becomes}
@@ -27,10 +27,10 @@ use Rattle.cells.proofs.Regions.{trail-after, records-after, rest-after
 
 -- ---- At a slot
 
-pub free-yes : (w : List ℕ) (i s : ℕ) (w′ : List ℕ) {b : Bool} → i < 512 → 65536 ≤ length w → b ≡ ofScope s (slotsOf w i) → b ≡ true → w′ ≡ over w i (highBytes 1 0)
+pub free-yes : (w : List ℕ) (i s : ℕ) (w′ : List ℕ) {b : Bool} → i < 512 → 65536 ≤ length w → reached w (i + 1) ≡ true → b ≡ ofScope s (slotsOf w i) → b ≡ true → w′ ≡ over w i (highBytes 1 5)
     → StoresAt i (freedSlot s) w w′
 unfolding freedSlot
-free-yes w i s w′ below room e t p = let y : ofScope s (slotsOf w i) ≡ true = sym e ∙ t in rw y (empty-way w i below room p)
+free-yes w i s w′ below room r e t p = let y : ofScope s (slotsOf w i) ≡ true = sym e ∙ t in rw y (empty-way w i below room r p)
 
 pub free-no : (w : List ℕ) (i s : ℕ) {b : Bool} → b ≡ ofScope s (slotsOf w i) → b ≡ false → StoresAt i (freedSlot s) w w
 unfolding freedSlot
@@ -60,22 +60,6 @@ freed-more i s f {g} {g′} e e′ = e′ ∙ rw e (fun-ext (λ j. rw (le-ltb i 
 
 freedSlots : ℕ → (ℕ → Slot) → ℕ → Slot
 freedSlots s f = λ j. freedSlot s (f j)
-
-blank-freed : (s : ℕ) → freedSlot s blankSlot ≡ blankSlot
-unfolding freedSlot ofScope blankSlot
-blank-freed s = each (eqb 0 s)
-  where
-    each : (t : Bool) → pick (pick t false false) (emptied blankSlot) blankSlot ≡ blankSlot
-    each true = refl
-    each false = refl
-
-freed-all : (w : List ℕ) (s : ℕ) → freedTo 512 s (slotsOf w) ≡ freedSlots s (slotsOf w)
-unfolding freedTo freedSlots slotsOf table
-freed-all w s = fun-ext (λ j. go j (ltb j 512))
-  where
-    go : (j : ℕ) (t : Bool) → pick t (freedSlot s (pick t (slotAt w j) blankSlot)) (pick t (slotAt w j) blankSlot) ≡ freedSlot s (pick t (slotAt w j) blankSlot)
-    go j true = refl
-    go j false = sym (blank-freed s)
 
 -- ---- The tests at a freed slot
 
@@ -107,6 +91,18 @@ freed-cases P s x taken left = go (ofScope s x) taken left
     go : (t : Bool) → (t ≡ true → P (emptied x)) → (t ≡ false → P x) → P (pick t (emptied x) x)
     go true taken left = taken refl
     go false taken left = left refl
+
+unused-stays : (s : ℕ) (x : Slot) → inUse x ≡ false → freedSlot s x ≡ x
+unused-stays s x u = freed-cases (λ y. y ≡ x) s x (λ o. (let t : inUse x ≡ true = scoped-used s x o in let z : _≡_ {A = ℕ} 0 1 = cc in absurd (omega arith))) (λ o. refl)
+
+-- the loop may end where no slot from i on is in use
+freed-rest : (i s : ℕ) (f g : ℕ → Slot) → g ≡ freedTo i s f → ((j : ℕ) → i ≤ j → inUse (g j) ≡ false) → g ≡ freedSlots s f
+unfolding freedTo freedSlots
+freed-rest i s f g e free = e ∙ fun-ext (λ j. go j (ltb j i) refl (ap (λ (h : ℕ → Slot). h j) e))
+  where
+    go : (j : ℕ) (t : Bool) → ltb j i ≡ t → g j ≡ pick t (freedSlot s (f j)) (f j) → pick t (freedSlot s (f j)) (f j) ≡ freedSlot s (f j)
+    go j true p q = refl
+    go j false p q = sym (unused-stays s (f j) (sym (ap inUse q) ∙ free j (ltb-false j i p)))
 
 no-hit : (s n : ℕ) (x : Slot) → ofScope s x ≡ false → hit s n x ≡ false
 no-hit s n x o = to-false (hit s n x) (λ h. (let t : ofScope s x ≡ true = hit-scoped s n x h in let z : _≡_ {A = ℕ} 0 1 = cc in omega arith))
@@ -257,12 +253,11 @@ module _ (s : ℕ) (f : ℕ → Slot) (fine : FineSlots f) where
 
 -- ---- The way of `free_scope`
 
-pub free-way : (w w′ : List ℕ) (i s : ℕ) → Fine w → i ≤ 512 → 512 ≤ i → slotsOf w′ ≡ freedTo i s (slotsOf w) → afterSlots w′ ≡ afterSlots w → Becomes w w′ (free (scopeOf s)) (λ ns. ns)
+pub free-way : (w w′ : List ℕ) (i s : ℕ) → Fine w → ((j : ℕ) → i ≤ j → inUse (slotsOf w′ j) ≡ false) → slotsOf w′ ≡ freedTo i s (slotsOf w) → afterSlots w′ ≡ afterSlots w → Becomes w w′ (free (scopeOf s)) (λ ns. ns)
 unfolding stateOf free freed cellsOf usedOf
-free-way w w′ i s fine a b e after =
+free-way w w′ i s fine rest e after =
     let f : ℕ → Slot = slotsOf w in
-    let z : i ≡ 512 = omega arith in
-    let slots : slotsOf w′ ≡ freedSlots s f = e ∙ ap (λ (k : ℕ). freedTo k s f) z ∙ freed-all w s in
+    let slots : slotsOf w′ ≡ freedSlots s f = freed-rest i s f (slotsOf w′) e rest in
     let cells : cellsOf w′ ≡ λ t m. freed (sameScope t (scopeOf s)) (cellsOf w t m) =
     by-number s (cellsIn f) (cellsIn (slotsOf w′)) (λ b m x. freed b x) (λ m x. refl) (λ s′ m. ap (λ (g : ℕ → Slot). cellsIn g s′ m) slots ∙ freed-cells s f s′ m) in
     let names : count 1024 (λ n. cellsOf w (scopeOf s) n .exists) ≡ count 1024 (λ n. cellsIn f s n .exists) =

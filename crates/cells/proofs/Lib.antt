@@ -2,6 +2,7 @@ pub mod Runs
 pub mod Tables
 pub mod Values
 pub mod Ranges
+pub mod Reached
 pub mod Slots
 pub mod Search
 pub mod Scopes

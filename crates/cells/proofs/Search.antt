@@ -59,10 +59,13 @@ not-found (suc k) i h p j a b = go (firstFrom k (suc i) h) (not-found k (suc i) 
     go rest more false e q true f = rw (eqb-true i j f) at e
     go rest more false e q false f = let ne : i ≡ j → ⊥ = eqb-false i j f in more q j (omega arith) (omega arith)
 
-pub find-nothing : (k i : ℕ) (h : ℕ → Bool) → ((l : ℕ) → h l ≡ false) → firstFrom k i h ≡ Nothing
+pub nothing-from : (k i : ℕ) (h : ℕ → Bool) → ((l : ℕ) → i ≤ l → h l ≡ false) → firstFrom k i h ≡ Nothing
 unfolding firstFrom
-find-nothing zero i h e = refl
-find-nothing (suc k) i h e = rw (e i) (find-nothing k (suc i) h e)
+nothing-from zero i h e = refl
+nothing-from (suc k) i h e = rw (e i (omega arith)) (nothing-from k (suc i) h (λ l p. e l (omega arith)))
+
+pub find-nothing : (k i : ℕ) (h : ℕ → Bool) → ((l : ℕ) → h l ≡ false) → firstFrom k i h ≡ Nothing
+find-nothing k i h e = nothing-from k i h (λ l p. e l)
 
 -- a test that differs at j alone from one that nothing passes, and passes there
 pub find-new : (k i : ℕ) (h h′ : ℕ → Bool) (j : ℕ) → None k i h → i ≤ j → j < i + k → h′ j ≡ true → ((l : ℕ) → (l ≡ j → ⊥) → h′ l ≡ h l) → firstFrom k i h′ ≡ At j

@@ -17,6 +17,7 @@ use Rattle.wire.specs.Numbers.{word64, highBytes}
 use Rattle.wire.specs.Runs.{over}
 use Rattle.wire.proofs.Laws.{word-lt, signed-back}
 use Rattle.rules.specs.State.{oneIf}
+use Rattle.cells.specs.Layout.{stateFrom}
 use Rattle.cells.specs.Slots.{kindOf, payloadOf, valueFrom}
 
 -- the range of a value, which its type has in code
@@ -50,6 +51,12 @@ unfolding kindOf
 kind-value (Integer z) = lit< tt
 kind-value (String n) = lit< tt
 kind-value (Boolean b) = lit< tt
+
+pub kind-state : (v : Value) → stateFrom true (kindOf v) ≡ kindOf v
+unfolding kindOf
+kind-state (Integer z) = refl
+kind-state (String n) = refl
+kind-state (Boolean b) = refl
 
 -- put_payload
 module _ (w : List ℕ) (p : ℕ) (v : Value) {w′ : List ℕ} where

@@ -26,10 +26,10 @@ use Rattle.cells.specs.Scopes.{scopeOf}
 use Rattle.cells.specs.Slots.{StoresAt, kindOf, hit, inUse, valueIn, markIn, cellIn, filled, marked, slotFor, freeSlot, obtained, obtain}
 use Rattle.cells.specs.Memory.{cellAt, cellsIn, usedIn, cellsOf, usedOf, classesOf, stateOf, outcome, Answers, markedOne, markOne, heldOf, seenOf}
 use Rattle.cells.proofs.Values.{Ranged, value-back, kind-value}
-use Rattle.cells.proofs.Slots.{slot-in}
+use Rattle.cells.proofs.Slots.{slot-in, used-byte}
 use Rattle.cells.proofs.Search.{was-found}
 use Rattle.cells.proofs.Scopes.{cell-at, by-number}
-use Rattle.cells.proofs.Cells.{Keeps, Ready, used-small, Came, came, after-same, ready, full, none-changed, value-kept}
+use Rattle.cells.proofs.Cells.{hit-used, Keeps, Ready, used-small, Came, came, after-same, ready, full, none-changed, value-kept}
 use Rattle.cells.proofs.Keep.{fine-keeps, fine-came}
 use Rattle.cells.proofs.Regions.{trail-after, records-after, rest-after, names-by, classes-by, cells-by, used-by}
 
@@ -69,13 +69,13 @@ module _ (p : ℕ) (s : Scope) (n : ℕ) (st : State) where
 
 -- ---- Slots
 
-has-value : (w : List ℕ) (i : ℕ) → i < 512 → 1 < byte w i → isSome (valueIn (slotsOf w i)) ≡ true
+has-value : (w : List ℕ) (i : ℕ) → i < 512 → inUse (slotsOf w i) ≡ true → 1 < byte w i → isSome (valueIn (slotsOf w i)) ≡ true
 unfolding valueIn slotAt isSome
-has-value w i below h = rw (slot-in w i below, lt-ltb 1 (byte w i) h) refl
+has-value w i below u h = rw (slot-in w i below, used-byte w i below u, lt-ltb 1 (byte w i) h) refl
 
-no-value : (w : List ℕ) (i : ℕ) → i < 512 → byte w i ≤ 1 → isSome (valueIn (slotsOf w i)) ≡ false
+no-value : (w : List ℕ) (i : ℕ) → i < 512 → inUse (slotsOf w i) ≡ true → byte w i ≤ 1 → isSome (valueIn (slotsOf w i)) ≡ false
 unfolding valueIn slotAt isSome
-no-value w i below h = rw (slot-in w i below, le-ltb 1 (byte w i) h) refl
+no-value w i below u h = rw (slot-in w i below, used-byte w i below u, le-ltb 1 (byte w i) h) refl
 
 mark-read : (w : List ℕ) (i : ℕ) → i < 512 → setAt w (bodyAt i + 40) ≡ markIn (slotsOf w i)
 unfolding markIn slotAt
@@ -160,7 +160,7 @@ module _ (w w′ : List ℕ) (s n : ℕ) {q : Found} (e : obtained q (slotsOf w�
   unfolding outcome stateOf
   assign-has x i at et h =
       let o = ready-at i at in
-      let there : isSome (cellsIn (slotsOf w) s n .value) ≡ true = rw (sym (o .value)) (has-value w′ i (o .below) (omega arith)) in
+      let there : isSome (cellsIn (slotsOf w) s n .value) ≡ true = rw (sym (o .value)) (has-value w′ i (o .below) (o .used) (omega arith)) in
       refused-by HasValue (λ p. assign p (scopeOf s) n x) (value-kept (slotsOf w) (afterSlots w) s n obtained-by there)
       (λ p es k r. assign-again p (scopeOf s) n (stateOf w es k r) x (ap (λ (c : Cell). isSome (c .value)) cell-is ∙ there))
 
@@ -219,7 +219,7 @@ module _ (w w′ : List ℕ) (s n : ℕ) {q : Found} (e : obtained q (slotsOf w�
       let o = ready-at i at in
       let y : Slot = filled x (slotsOf w′ i) in
       let keeps : Keeps y (slotsOf w′ i) = filled-keeps x (slotsOf w′ i) (o .used) in
-      let none-there : isSome (cellsOf w (scopeOf s) n .value) ≡ false = rw (cell-is, sym (o .value)) (no-value w′ i (o .below) (omega arith)) in
+      let none-there : isSome (cellsOf w (scopeOf s) n .value) ≡ false = rw (cell-is, sym (o .value)) (no-value w′ i (o .below) (o .used) (omega arith)) in
       stored-by i at y w″ keeps c (λ p. assign p (scopeOf s) n x) (λ b z. valueInto b x z) (λ z. refl) (filled-cell x (slotsOf w′ i) range ∙ ap (cellWith (some x)) (o .mark))
       (λ p es k r. assign-fits p (scopeOf s) n (stateOf w es k r) x none-there (room-left i at y w″ keeps c))
 
@@ -239,6 +239,10 @@ module _ (w w′ : List ℕ) (s n : ℕ) {q : Found} (e : obtained q (slotsOf w�
 pub in-slots : (f : ℕ → Slot) (s n i : ℕ) {q : Found} → q ≡ slotFor f s n → q ≡ At i → i < 512
 unfolding slotFor
 in-slots f s n i e p = was-found 512 0 (λ k. hit s n (f k)) i (sym e ∙ p) .below
+
+pub found-used : (f : ℕ → Slot) (s n i : ℕ) {q : Found} → q ≡ slotFor f s n → q ≡ At i → inUse (f i) ≡ true
+unfolding slotFor
+found-used f s n i e p = hit-used s n (f i) (was-found 512 0 (λ k. hit s n (f k)) i (sym e ∙ p) .passes)
 
 pub free-in-slots : (f : ℕ → Slot) (i : ℕ) {q : Found} → q ≡ freeSlot f → q ≡ At i → i < 512
 unfolding freeSlot

@@ -1,5 +1,6 @@
 -- Where everything stands in the working memory, and what is read there: 512 slots for cells, the trail, and a record for each of 1,024 names.
-use Prim.Native.Nat.{ℕ, _+_, _*_}
+use Prim.Native.Nat.{ℕ, zero, suc, _+_, _*_}
+use mathlib.Core.Bool.{Bool, true, false}
 use mathlib.Core.List.{List}
 use lib.Dec.{eqb, ltb}
 use lib.ListN.{drop}
@@ -7,8 +8,8 @@ use Rattle.labels.specs.declared.Labels.{Labels}
 use Rattle.labels.specs.Sets.{noLabels}
 use Rattle.labels.specs.Bytes.{labelsFrom}
 use Rattle.wire.specs.Bytes.{pick, byte, two}
-use Rattle.wire.specs.Numbers.{number}
-use Rattle.wire.specs.Runs.{bytesAt}
+use Rattle.wire.specs.Numbers.{number, highBytes}
+use Rattle.wire.specs.Runs.{bytesAt, over}
 
 -- ---- Places
 
@@ -52,6 +53,18 @@ setAt w p = labelsFrom (bytesAt w p 32)
 unfoldable pub wordAt : List ℕ → ℕ → ℕ
 wordAt w p = number (bytesAt w p 8) 0
 
+-- whether no slot before i was never used; a state byte of 0 says so of its slot
+unfoldable pub reached : List ℕ → ℕ → Bool
+reached w zero = true
+reached w (suc i) = pick (eqb (byte w (stateAt i)) 0) false (reached w i)
+
+-- the state that a slot's byte tells: 5 is that of a slot that was freed, and past one that was never used all are free, whatever their bytes are
+abbrev pub stateFrom : (reached : Bool) → ℕ → ℕ
+stateFrom r t = pick (eqb t 0) 0 (pick r (pick (eqb t 5) 0 t) 0)
+
+abbrev pub stateIn : List ℕ → ℕ → ℕ
+stateIn w i = stateFrom (reached w i) (byte w (stateAt i))
+
 -- state: 0 free; 1 in use without a value; 2, 3, 4 in use with an integer, a string, a boolean
 pub data Slot : Type 0 where
   slot : (state scope name payload : ℕ) → (set mark : Labels) → Slot
@@ -60,10 +73,14 @@ unfoldable pub blankSlot : Slot
 blankSlot = slot 0 0 0 0 noLabels noLabels
 
 unfoldable pub slotAt : List ℕ → ℕ → Slot
-slotAt w i = slot (byte w (stateAt i)) (two w (keyAt i)) (two w (keyAt i + 2)) (wordAt w (bodyAt i)) (setAt w (bodyAt i + 8)) (setAt w (bodyAt i + 40))
+slotAt w i = slot (stateIn w i) (two w (keyAt i)) (two w (keyAt i + 2)) (wordAt w (bodyAt i)) (setAt w (bodyAt i + 8)) (setAt w (bodyAt i + 40))
 
 unfoldable pub slotsOf : List ℕ → ℕ → Slot
 slotsOf w = table 512 (slotAt w) blankSlot
+
+-- a slot is to be used that may be the first that never was: then the next one is, from now on
+unfoldable pub endedAfter : List ℕ → ℕ → List ℕ
+endedAfter w i = pick (eqb (byte w (stateAt i)) 0) (pick (ltb i 511) (over w (stateAt i + 1) (highBytes 1 0)) w) w
 
 unfoldable pub trailOf : List ℕ → Labels
 trailOf w = setAt w trailAt

@@ -59,6 +59,9 @@ cellIn x = record { exists = inUse x; value = valueIn x; mark = markIn x }
 
 -- ---- What the stores make of a slot
 
+unfoldable pub occupied : Slot → Slot
+occupied (slot t s n p a m) = slot 1 s n p a m
+
 unfoldable pub claimed : (scope name : ℕ) → Slot → Slot
 claimed s n (slot t s′ n′ p a m) = slot 1 s n p a noLabels
 

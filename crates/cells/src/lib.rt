@@ -1,5 +1,6 @@
 // The cells of the working memory: 512 slots in lent bytes. Contracts speak of the definition's state, which the bytes stand for (specs/Memory.antt).
 ghost use mathlib.Core.Path.{_≡_};
+ghost use mathlib.Core.Bool.{true};
 ghost use Prim.Native.Nat.{_+_, _≤_, _<_};
 ghost use lib.ListN.{length};
 ghost use Rattle.labels.specs.Bytes.{labelBytes};
@@ -7,14 +8,17 @@ ghost use Rattle.wire.specs.Numbers.{highBytes};
 ghost use Rattle.wire.specs.Runs.{over};
 ghost use Rattle.rules.specs.State.{free};
 ghost use Rattle.rules.specs.State as state;
-ghost use Rattle.cells.specs.Layout.{bodyAt, slotsOf, afterSlots, setAt, wordAt};
+ghost use Rattle.cells.specs.Layout.{bodyAt, reached, slotsOf, afterSlots, endedAfter, setAt, wordAt};
 ghost use Rattle.cells.specs.Scopes.{scopeOf};
-ghost use Rattle.cells.specs.Slots.{kindOf, payloadOf, valueFrom, hit, ofScope, valueIn, claimed, filled, marked, freedSlot, StoresAt, slotFor, freeSlot, obtained};
+ghost use Rattle.cells.specs.Slots.{kindOf, payloadOf, valueFrom, inUse, hit, ofScope, valueIn, occupied, claimed, filled, marked, freedSlot, StoresAt, slotFor, freeSlot, obtained};
 ghost use Rattle.cells.specs.Slots as slots;
 ghost use Rattle.cells.specs.Memory.{heldOf, seenOf, cellsOf, Fine, Becomes, Answers, markOne};
 use labels::Labels;
 use values::Labelled;
 use values::Value;
+
+// The state of a slot that was freed; that of one never used is 0, and ends every search.
+const FREED: u8 = 5;
 
 const KEYS: usize = 512;
 
@@ -63,7 +67,7 @@ pub fn put_labels(work: &mut [u8], p: usize, set: Labels)
 // ---- Searches
 
 fn hits(work: &[u8], i: usize, scope: u16, name: u16) -> bool
-    requires { ⌜ i < 512 ⌝ }
+    requires { ⌜ (i < 512) × (reached (now work) (i + 1) ≡ true) ⌝ }
     ensures { λ r. ⌜ r ≡ hit scope name (slotsOf (now (work .entry)) i) ⌝ }
 {
     let key = KEYS + 4 * i;
@@ -73,7 +77,7 @@ fn hits(work: &[u8], i: usize, scope: u16, name: u16) -> bool
     if wire::two_at(work, key + 2) != name {
         return false;
     }
-    wire::byte_at(work, i) != 0
+    wire::byte_at(work, i) != FREED
 }
 
 // The low byte of the name first: most slots fail there.
@@ -84,6 +88,9 @@ fn find(work: &[u8], scope: u16, name: u16) -> Found
     let low = (name % 256) as u8;
     let mut i = 0;
     while i < 512 {
+        if work[i] == 0 {
+            return Found::Nothing;
+        }
         let at = KEYS + 4 * i + 3;
         if work[at] == low {
             if hits(work, i, scope, name) {
@@ -96,11 +103,16 @@ fn find(work: &[u8], scope: u16, name: u16) -> Found
 }
 
 fn find_free(work: &[u8]) -> Found
+    requires { ⌜ 65536 ≤ length (now work) ⌝ }
     ensures { λ r. ⌜ r ≡ freeSlot (slotsOf (now (work .entry))) ⌝ }
 {
     let mut i = 0;
     while i < 512 {
-        if wire::byte_at(work, i) == 0 {
+        let state = work[i];
+        if state == 0 {
+            return Found::At(i);
+        }
+        if state == FREED {
             return Found::At(i);
         }
         i += 1;
@@ -124,7 +136,7 @@ pub fn value_at(work: &[u8], state: u8, body: usize) -> Value
 }
 
 fn held_at(work: &[u8], i: usize) -> Held
-    requires { ⌜ (i < 512) × (65536 ≤ length (now work)) ⌝ }
+    requires { ⌜ (i < 512) × ((65536 ≤ length (now work)) × (inUse (slotsOf (now work) i) ≡ true)) ⌝ }
     ensures { λ r. ⌜ r ≡ heldOf (valueIn (slotsOf (now (work .entry)) i)) ⌝ }
 {
     let state = wire::byte_at(work, i);
@@ -162,15 +174,36 @@ pub fn read_cell(work: &[u8], scope: u16, name: u16) -> Seen
 
 // ---- Stores at a slot
 
+// Where slot i was never used, the next one is the first such.
+fn end_after(work: &mut [u8], i: usize)
+    requires { ⌜ i < 512 ⌝ }
+    ensures { λ _. ⌜ now (work .exit) ≡ endedAfter (now (work .entry)) i ⌝ }
+{
+    if wire::byte_at(work, i) != 0 {
+        return;
+    }
+    if i < 511 {
+        wire::put_byte(work, i + 1, 0);
+    }
+}
+
+fn occupy(work: &mut [u8], i: usize)
+    requires { ⌜ (i < 512) × ((65536 ≤ length (now work)) × (reached (now work) i ≡ true)) ⌝ }
+    ensures { λ _. ⌜ StoresAt i occupied (now (work .entry)) (now (work .exit)) ⌝ }
+{
+    end_after(work, i);
+    wire::put_byte(work, i, 1);
+}
+
 fn claim(work: &mut [u8], i: usize, scope: u16, name: u16)
-    requires { ⌜ (i < 512) × (65536 ≤ length (now work)) ⌝ }
+    requires { ⌜ (i < 512) × ((65536 ≤ length (now work)) × (reached (now work) i ≡ true)) ⌝ }
     ensures { λ _. ⌜ StoresAt i (claimed scope name) (now (work .entry)) (now (work .exit)) ⌝ }
 {
+    occupy(work, i);
     let key = KEYS + 4 * i;
     wire::put_two(work, key, scope);
     wire::put_two(work, key + 2, name);
     put_labels(work, BODIES + 72 * i + 40, Labels::EMPTY);
-    wire::put_byte(work, i, 1);
 }
 
 pub fn kind_of(value: Value) -> u8
@@ -194,15 +227,15 @@ pub fn put_payload(work: &mut [u8], body: usize, value: Value)
 }
 
 fn put_value(work: &mut [u8], i: usize, x: Labelled)
-    requires { ⌜ (i < 512) × (65536 ≤ length (now work)) ⌝ }
+    requires { ⌜ (i < 512) × ((65536 ≤ length (now work)) × (inUse (slotsOf (now work) i) ≡ true)) ⌝ }
     ensures { λ _. ⌜ StoresAt i (filled x) (now (work .entry)) (now (work .exit)) ⌝ }
 {
     let body = BODIES + 72 * i;
     let value = x.value;
     let labels = x.labels;
+    wire::put_byte(work, i, kind_of(value));
     put_payload(work, body, value);
     put_labels(work, body + 8, labels);
-    wire::put_byte(work, i, kind_of(value));
 }
 
 fn put_mark(work: &mut [u8], i: usize, mark: Labels)
@@ -263,7 +296,7 @@ pub fn join_mark(work: &mut [u8], scope: u16, name: u16, set: Labels) -> Stored
 
 // The low byte first: most slots fail there.
 fn in_scope(work: &[u8], i: usize, scope: u16) -> bool
-    requires { ⌜ (i < 512) × (65536 ≤ length (now work)) ⌝ }
+    requires { ⌜ (i < 512) × ((65536 ≤ length (now work)) × (reached (now work) (i + 1) ≡ true)) ⌝ }
     ensures { λ r. ⌜ r ≡ ofScope scope (slotsOf (now (work .entry)) i) ⌝ }
 {
     let low = KEYS + 4 * i + 1;
@@ -273,15 +306,16 @@ fn in_scope(work: &[u8], i: usize, scope: u16) -> bool
     if wire::two_at(work, KEYS + 4 * i) != scope {
         return false;
     }
-    wire::byte_at(work, i) != 0
+    wire::byte_at(work, i) != FREED
 }
 
 fn free_at(work: &mut [u8], i: usize, scope: u16)
-    requires { ⌜ (i < 512) × (65536 ≤ length (now work)) ⌝ }
+    requires { ⌜ (i < 512) × ((65536 ≤ length (now work)) × (reached (now work) (i + 1) ≡ true)) ⌝ }
     ensures { λ _. ⌜ StoresAt i (freedSlot scope) (now (work .entry)) (now (work .exit)) ⌝ }
+    ensures reach { λ _. ⌜ reached (now (work .exit)) (i + 1) ≡ true ⌝ }
 {
     if in_scope(work, i, scope) {
-        wire::put_byte(work, i, 0);
+        wire::put_byte(work, i, FREED);
     }
 }
 
@@ -292,6 +326,9 @@ pub fn free_scope(work: &mut [u8], scope: u16)
 {
     let mut i = 0;
     while i < 512 {
+        if wire::byte_at(work, i) == 0 {
+            return;
+        }
         free_at(work, i, scope);
         i += 1;
     }

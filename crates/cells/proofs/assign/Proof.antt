@@ -38,7 +38,8 @@ put-value-requires : tie.Need-put-value-requires
 put-value-requires c κs =
     let start = c .before .before .before .before .before .before .before .before .before .before .before .before in
     let obtain = c .before .before .before .before .before .before .before .before .before .obtain in
-    (ready-at _ _ _ _ (obtain .ensures) (start .pre .1) _ (c .before .before .before .before .before .i .given .1) .below, omega (arith, start .pre .0, obtain .kept .0))
+    let slot = ready-at _ _ _ _ (obtain .ensures) (start .pre .1) _ (c .before .before .before .before .before .i .given .1) in
+    (slot .below, (omega (arith, start .pre .0, obtain .kept .0), slot .used))
 
 same-length-3 : tie.Need-same-length-3
 same-length-3 c = search needs

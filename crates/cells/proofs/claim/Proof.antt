@@ -1,10 +1,13 @@
--- `claim`: scope, name, mark and state, stored one after the other.
+-- `claim`: state, scope, name and mark, stored one after the other.
 use native.Mathlib.Omega.{arith}
 use borrow.Author.Needs.{needs}
 use Rattle.labels.specs.Sets.{noLabels}
 use Rattle.cells.proofs.Slots.{claim-way}
 use Rattle.cells.proofs.claim.Statement.{statement}
 use Rattle.cells.proofs.claim.Tie as tie
+
+occupy-requires : tie.Need-occupy-requires
+occupy-requires c κs = c .before .before .pre
 
 mul-key : tie.Need-mul-key
 mul-key c = omega arith
@@ -33,9 +36,6 @@ add-put-labels-2 c = omega arith
 put-labels-requires : tie.Need-put-labels-requires
 put-labels-requires c κs = omega arith
 
-put-byte-requires : tie.Need-put-byte-requires
-put-byte-requires c κs = tt
-
 same-length : tie.Need-same-length
 same-length c = search needs
 
@@ -43,12 +43,13 @@ returns : tie.Need-returns
 unfolding noLabels
 returns c =
     let start = c .before .before .before .before .before .before .before .before .before .before .before .before .before .before .before .before .before in
-    claim-way _ _ _ _ (start .pre .0) (start .pre .1) (omega arith) (omega arith) (c .before .before .before .before .before .before .before .before .before .before .before .before .before .before .put-two .ensures) (c .before .before .before .before .before .before .before .before .before .before .put-two2 .ensures) (c .before .before .before .before .before .before .put-labels .ensures) (c .before .before .put-byte .ensures)
+    claim-way _ _ _ _ _ (start .pre .0) (omega (arith, start .pre .1 .0, c .before .before .before .before .before .before .before .before .before .before .before .before .before .before .occupy .kept .0)) (omega arith) (omega arith) (c .before .before .before .before .before .before .before .before .before .before .before .before .before .before .occupy .ensures) (c .before .before .before .before .before .before .before .before .before .before .put-two .ensures) (c .before .before .before .before .before .before .put-two2 .ensures) (c .before .before .put-labels .ensures)
 
 pub claim-spec : {M : Type 1} → statement M
 claim-spec =
     tie.close
     (tie.spec
+    occupy-requires
     mul-key
     add-key
     put-two-requires
@@ -58,6 +59,5 @@ claim-spec =
     add-put-labels
     add-put-labels-2
     put-labels-requires
-    put-byte-requires
     same-length
     returns)

@@ -14,7 +14,7 @@ two-at-requires : tie.Need-two-at-requires
 two-at-requires c κs = tt
 
 returns : tie.Need-returns
-returns c = other-scope _ _ (c .before .before .before .pre) _ _ (c .before .two-at .ensures) (c .if1 .taken)
+returns c = other-scope _ _ (c .before .before .before .pre .0) _ _ (c .before .two-at .ensures) (c .if1 .taken)
 
 add-two-at : tie.Need-add-two-at
 add-two-at c = omega arith
@@ -25,7 +25,7 @@ two-at-requires-2 c κs = tt
 returns-2 : tie.Need-returns-2
 returns-2 c =
     let start = c .before .before .before .before .before in
-    other-name _ _ (start .pre) _ _ (c .before .before .before .two-at .ensures) (c .before .before .if1 .left) (c .before .two-at2 .ensures) (c .if2 .taken)
+    other-name _ _ (start .pre .0) _ _ (c .before .before .before .two-at .ensures) (c .before .before .if1 .left) (c .before .two-at2 .ensures) (c .if2 .taken)
 
 byte-at-requires : tie.Need-byte-at-requires
 byte-at-requires c κs = tt
@@ -33,7 +33,7 @@ byte-at-requires c κs = tt
 returns-3 : tie.Need-returns-3
 returns-3 c =
     let start = c .before .before .before .before .before .before in
-    own-key _ _ (start .pre) _ _ (c .before .before .before .before .two-at .ensures) (c .before .before .before .if1 .left) (c .before .before .two-at2 .ensures) (c .before .if2 .left) (c .byte-at .ensures)
+    own-key _ _ (start .pre .0) _ _ (start .pre .1) (c .before .before .before .before .two-at .ensures) (c .before .before .before .if1 .left) (c .before .before .two-at2 .ensures) (c .before .if2 .left) (c .byte-at .ensures)
 
 pub hits-spec : {M : Type 1} → statement M
 hits-spec =

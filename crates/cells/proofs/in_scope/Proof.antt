@@ -42,7 +42,7 @@ byte-at-requires : tie.Need-byte-at-requires
 byte-at-requires c κs = tt
 
 returns-3 : tie.Need-returns-3
-returns-3 c = of-scope _ _ (c .before .before .before .before .before .before .pre .0) _ (c .before .before .two-at .ensures) (c .before .if2 .left) (c .byte-at .ensures)
+returns-3 c = of-scope _ _ (c .before .before .before .before .before .before .pre .0) _ (c .before .before .before .before .before .before .pre .1 .1) (c .before .before .two-at .ensures) (c .before .if2 .left) (c .byte-at .ensures)
 
 pub in-scope-spec : {M : Type 1} → statement M
 in-scope-spec =

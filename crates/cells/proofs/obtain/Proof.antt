@@ -2,6 +2,7 @@
 use native.Mathlib.Omega.{arith}
 use borrow.Author.Needs.{needs}
 use Rattle.cells.proofs.Cells.{obtain-old, obtain-new, obtain-none}
+use Rattle.cells.proofs.SlotReads.{free-reached}
 use Rattle.cells.proofs.Ways.{free-in-slots}
 use Rattle.cells.proofs.obtain.Statement.{statement}
 use Rattle.cells.proofs.obtain.Tie as tie
@@ -16,7 +17,7 @@ enum-told : tie.Need-enum-told
 enum-told c = c .match .keys2
 
 find-free-requires : tie.Need-find-free-requires
-find-free-requires c κs = tt
+find-free-requires c κs = omega arith
 
 enum-known-j : tie.Need-enum-known-j
 enum-known-j c = c .match2 .keys1
@@ -24,7 +25,9 @@ enum-known-j c = c .match2 .keys1
 claim-requires : tie.Need-claim-requires
 claim-requires c κs =
     let start = c .before .before .before .before .before .before .before .before .before .before .before in
-    (free-in-slots _ _ (c .before .before .before .before .find-free .ensures) (c .before .before .j .given .1), start .pre)
+    let found = c .before .before .before .before .find-free .ensures in
+    let at = c .before .before .j .given .1 in
+    (free-in-slots _ _ found at, (start .pre, free-reached _ _ found at))
 
 enum-told-2 : tie.Need-enum-told-2
 enum-told-2 c = c .match2 .keys2

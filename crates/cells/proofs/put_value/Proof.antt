@@ -1,4 +1,4 @@
--- `put_value`: payload, set and state, stored one after the other.
+-- `put_value`: state, payload and set, stored one after the other.
 use native.Mathlib.Omega.{arith}
 use borrow.Author.Needs.{needs}
 use Rattle.labels.specs.Sets.{Words64}
@@ -13,6 +13,12 @@ mul-body c = omega arith
 add-body : tie.Need-add-body
 add-body c = omega arith
 
+kind-of-requires : tie.Need-kind-of-requires
+kind-of-requires c κs = tt
+
+put-byte-requires : tie.Need-put-byte-requires
+put-byte-requires c κs = tt
+
 put-payload-requires : tie.Need-put-payload-requires
 put-payload-requires c κs = tt
 
@@ -21,12 +27,6 @@ add-put-labels c = omega arith
 
 put-labels-requires : tie.Need-put-labels-requires
 put-labels-requires c κs = omega arith
-
-kind-of-requires : tie.Need-kind-of-requires
-kind-of-requires c κs = tt
-
-put-byte-requires : tie.Need-put-byte-requires
-put-byte-requires c κs = tt
 
 same-length : tie.Need-same-length
 same-length c = search needs
@@ -38,7 +38,7 @@ words c = record { small0 = omega arith; small1 = omega arith; small2 = omega ar
 returns : tie.Need-returns
 returns c =
     let start = c .before .before .before .before .before .before .before .before .before .before .before .before .before .before .before in
-    value-way _ _ _ (start .pre .0) (start .pre .1) (value-ranged _ _ (start .good .1 .1 .0 .1 .1 .0)) (words start) (c .before .before .before .before .before .before .before .before .before .before .before .put-payload .ensures) (c .before .before .before .before .before .before .before .put-labels .ensures) (c .before .before .before .kind-of .ensures) (c .before .before .put-byte .ensures)
+    value-way _ _ _ (start .pre .0) (start .pre .1 .0) (start .pre .1 .1) (value-ranged _ _ (start .good .1 .1 .0 .1 .1 .0)) (words start) (c .before .before .before .before .before .before .before .before .before .before .before .kind-of .ensures) (c .before .before .before .before .before .before .before .before .before .before .put-byte .ensures) (c .before .before .before .before .before .before .put-payload .ensures) (c .before .before .put-labels .ensures)
 
 pub put-value-spec : {M : Type 1} → statement M
 put-value-spec =
@@ -46,10 +46,10 @@ put-value-spec =
     (tie.spec
     mul-body
     add-body
+    kind-of-requires
+    put-byte-requires
     put-payload-requires
     add-put-labels
     put-labels-requires
-    kind-of-requires
-    put-byte-requires
     same-length
     returns)

@@ -1,6 +1,6 @@
 -- `read_cell`: no slot has the key, or the one that was found is read.
 use Rattle.labels.specs.Sets.{noLabels}
-use Rattle.cells.proofs.Ways.{in-slots, read-some, read-none}
+use Rattle.cells.proofs.Ways.{in-slots, found-used, read-some, read-none}
 use Rattle.cells.proofs.read_cell.Statement.{statement}
 use Rattle.cells.proofs.read_cell.Tie as tie
 
@@ -20,7 +20,9 @@ returns c = read-none _ _ _ (c .before .before .find .ensures) (c .enum-told .gi
 held-at-requires : tie.Need-held-at-requires
 held-at-requires c κs =
     let start = c .before .before .before .before .before in
-    (in-slots _ _ _ _ (c .before .before .before .find .ensures) (c .before .i .given .1), start .pre)
+    let found = c .before .before .before .find .ensures in
+    let at = c .before .i .given .1 in
+    (in-slots _ _ _ _ found at, (start .pre, found-used _ _ _ _ found at))
 
 mark-at-requires : tie.Need-mark-at-requires
 mark-at-requires c κs =
