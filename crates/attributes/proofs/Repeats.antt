@@ -4,17 +4,21 @@ use mathlib.Core.Path.{_≡_, refl, sym, ap, _∙_}
 use mathlib.Core.Bool.{Bool, true, false, _||_}
 use mathlib.Core.List.{List, [], _∷_}
 use native.Mathlib.Omega.{arith}
-use borrow.Author.Tests.{eq-eqb, ne-eqb}
+use borrow.Author.Tests.{eqb-true, eqb-false, eq-eqb, ne-eqb}
 use lib.Dec.{eqb}
+use lib.ListN.{length, replicate}
 use Rattle.values.specs.declared.Reason.the-variants.{AttributeAgain}
-use Rattle.wire.specs.Bytes.{pick, two, endOf, fieldsIn}
+use Rattle.wire.specs.Bytes.{pick, byte, two, endOf, fieldsIn}
+use Rattle.wire.specs.Numbers.{highBytes}
+use Rattle.wire.specs.Runs.{over, zeros}
 use Rattle.wire.proofs.Fields.{no-fields, field-first}
+use Rattle.wire.proofs.Laws.{byte-outside, high-length, stored-byte, zeros-byte}
 use Rattle.rules.specs.Outcome.{Outcome, refused, done, _>>=_, refuseIf}
 use Rattle.rules.specs.Evaluate.{any}
 use Rattle.rules.specs.Run.{Given, isGiven, namedOnce}
 use Rattle.catalog.specs.declared.Place.{Place}
 use Rattle.catalog.specs.declared.Place.the-variants.{At, Nothing}
-use Rattle.attributes.specs.Names.{hasName, repeatedIn, Alike, alikeNone, alike}
+use Rattle.attributes.specs.Names.{hasName, repeatedIn, isMarked, Marked, Marks, Alike, alikeNone, alike}
 
 -- ---- The ways of `is_named`: what is left from q on says what all of them say
 
@@ -34,6 +38,28 @@ module _ (m : List ℕ) (first end name q : ℕ) where
   pub named-nowhere : any (hasName m name) (fieldsIn m q end) ≡ any (hasName m name) (fieldsIn m first end) → end ≤ q → false ≡ any (hasName m name) (fieldsIn m first end)
   unfolding any
   named-nowhere left over = ap (any (hasName m name)) (sym (no-fields m q end over)) ∙ left
+
+-- ---- The ways of `is_again`: a name that has no mark of its own, a marked one, and one that becomes marked
+
+pub marks-none : (seen : List ℕ) (name : ℕ) → 1024 ≤ name → Marks seen seen name
+marks-none seen name high n l = ap (λ (b : Bool). b || isMarked seen n) (sym (ne-eqb name n (λ e. omega arith)))
+
+module _ (m seen : List ℕ) (first q name : ℕ) {b : ℕ} (read : b ≡ byte seen name) where
+  pub again-marked : b ≡ 1 → name < 1024 → (Marked m seen first q → true ≡ any (hasName m name) (fieldsIn m first q)) × Marks seen seen name
+  again-marked is small = (λ marked. sym (eq-eqb (byte seen name) 1 (sym read ∙ is)) ∙ marked name small, λ n l. go n (eqb name n) refl)
+    where
+      go : (n : ℕ) (t : Bool) → eqb name n ≡ t → isMarked seen n ≡ (t || isMarked seen n)
+      go n true e = eq-eqb (byte seen n) 1 (ap (byte seen) (sym (eqb-true name n e)) ∙ sym read ∙ is)
+      go n false e = refl
+
+  pub again-new : {seen′ : List ℕ} → 1024 ≤ length seen → (b ≡ 1 → ⊥) → name < 1024 → seen′ ≡ over seen name (highBytes 1 1) → (Marked m seen first q → false ≡ any (hasName m name) (fieldsIn m first q)) × Marks seen seen′ name
+  again-new {seen′} long is small stored = (λ marked. sym (ne-eqb (byte seen name) 1 (λ e. is (read ∙ e))) ∙ marked name small, λ n l. go n (eqb name n) refl)
+    where
+      go : (n : ℕ) (t : Bool) → eqb name n ≡ t → isMarked seen′ n ≡ (t || isMarked seen n)
+      go n true e =
+          eq-eqb (byte seen′ n) 1 (ap (λ (l : List ℕ). byte l n) stored ∙ ap (byte (over seen name (highBytes 1 1))) (sym (eqb-true name n e)) ∙ stored-byte seen name 1 (omega arith) (omega arith))
+      go n false e =
+          ap (λ (x : ℕ). eqb x 1) (ap (λ (l : List ℕ). byte l n) stored ∙ byte-outside seen name (highBytes 1 1) n (λ l u. eqb-false name n e (omega (arith, high-length 1 1))))
 
 -- ---- Fields reached from a place on
 
@@ -101,6 +127,19 @@ module _ {m : List ℕ} {first end q : ℕ} (s : Single m first end q) where
   pub repeated-nowhere : end ≤ q → Nothing ≡ repeatedIn m [] (fieldsIn m first end)
   unfolding repeatedIn
   repeated-nowhere over = ap (repeatedIn m (s .earlier)) (sym (no-fields m q end over)) ∙ s .left
+
+-- before the first 26 no name is marked
+pub marked-begins : (m : List ℕ) (k first : ℕ) → Marked m (replicate k 0) first first
+unfolding any zeros
+marked-begins m k first n l = ap (λ (x : ℕ). eqb x 1) (zeros-byte k n) ∙ ap (any (hasName m n)) (sym (no-fields m first first (omega arith)))
+
+pub marked-further : {m : List ℕ} (seen seen′ : List ℕ) {first end q r n : ℕ} → Single m first end q → Marked m seen first q → n ≡ two m (q + 3) → Marks seen seen′ n → r ≡ endOf m q → Marked m seen′ first r
+marked-further {m} seen seen′ {first} {end} {q} {r} {n} s marked read marks next k l =
+    marks k l
+    ∙ ap (λ (b : Bool). eqb n k || b) (marked k l)
+    ∙ ap (λ (x : ℕ). eqb x k || any (hasName m k) (fieldsIn m first q)) read
+    ∙ sym (any-next (hasName m k) (s .reaches))
+    ∙ ap (λ (e : ℕ). any (hasName m k) (fieldsIn m first e)) (sym next)
 
 -- ---- The evaluated 26s by their places
 

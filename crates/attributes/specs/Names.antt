@@ -1,9 +1,10 @@
 -- Attributes named twice, by their places in the manifest.
-use Prim.Native.Nat.{ℕ, _+_}
-use mathlib.Core.Bool.{Bool}
+use Prim.Native.Nat.{ℕ, _+_, _<_}
+use mathlib.Core.Path.{_≡_}
+use mathlib.Core.Bool.{Bool, _||_}
 use mathlib.Core.List.{List, [], _∷_}
 use lib.Dec.{eqb}
-use Rattle.wire.specs.Bytes.{pick, two}
+use Rattle.wire.specs.Bytes.{pick, byte, two, fieldsIn}
 use Rattle.values.specs.declared.Labelled.{Labelled}
 use Rattle.rules.specs.Evaluate.{any}
 use Rattle.rules.specs.Run.{Given}
@@ -18,6 +19,18 @@ hasName m n q = eqb (two m (q + 3)) n
 unfoldable pub repeatedIn : List ℕ → (earlier places : List ℕ) → Place
 repeatedIn m earlier [] = Nothing
 repeatedIn m earlier (q ∷ qs) = pick (any (hasName m (two m (q + 3))) earlier) (At q) (repeatedIn m (q ∷ earlier) qs)
+
+-- the name n is marked
+abbrev pub isMarked : (seen : List ℕ) (n : ℕ) → Bool
+isMarked seen n = eqb (byte seen n) 1
+
+-- of the names below 1,024, those of the 26s from first up to q are marked
+abbrev pub Marked : (m seen : List ℕ) (first q : ℕ) → Type 0
+Marked m seen first q = (n : ℕ) → n < 1024 → isMarked seen n ≡ any (hasName m n) (fieldsIn m first q)
+
+-- one more name is marked, if it is below 1,024
+abbrev pub Marks : (seen seen′ : List ℕ) (name : ℕ) → Type 0
+Marks seen seen′ name = (n : ℕ) → n < 1024 → isMarked seen′ n ≡ (eqb name n || isMarked seen n)
 
 -- the evaluated 26s that stand at these places
 pub data Alike (m : List ℕ) : List Given → List ℕ → Type 0 where

@@ -12,7 +12,7 @@ ghost use Rattle.places.specs.At.{StandsAs, Siblings};
 ghost use Rattle.cells.specs.Memory.{heldOf};
 ghost use Rattle.catalog.specs.Finding.{Below};
 ghost use Rattle.evaluator.specs.Known.{Sized};
-ghost use Rattle.attributes.specs.Names.{hasName, repeatedIn};
+ghost use Rattle.attributes.specs.Names.{hasName, repeatedIn, Marked, Marks};
 ghost use Rattle.attributes.specs.Table.{tableSize, givenAt, Adds};
 ghost use Rattle.attributes.specs.Evaluated.{GivenIn, TitledIn};
 use cells::Held;
@@ -43,14 +43,31 @@ pub fn is_named(m: &[u8], first: usize, end: usize, name: u16) -> bool
     false
 }
 
+// Whether one of the attributes from `first` up to q has this name, by the marks of the names below 1,024 that they have; marks the name.
+// A checked manifest has no other names.
+fn is_again(m: &[u8], first: usize, q: usize, name: u16, seen: &mut [u8]) -> bool
+    requires { ⌜ (q ≤ 65535) × (1024 ≤ length (now seen)) ⌝ }
+    ensures { λ r. ⌜ (Marked (now (m .entry)) (now (seen .entry)) first q → r ≡ any (hasName (now (m .entry)) name) (fieldsIn (now (m .entry)) first q)) × Marks (now (seen .entry)) (now (seen .exit)) name ⌝ }
+{
+    if 1024 <= name {
+        return is_named(m, first, q, name);
+    }
+    if wire::byte_at(seen, name as usize) == 1 {
+        return true;
+    }
+    wire::put_byte(seen, name as usize, 1);
+    false
+}
+
 // The first of the attributes between two places whose name one before it has.
 pub fn find_repeated(m: &[u8], first: usize, end: usize) -> catalog::Place
     requires { ⌜ end ≤ 65535 ⌝ }
     ensures { λ r. ⌜ (r ≡ repeatedIn (now (m .entry)) [] (fieldsIn (now (m .entry)) first end)) × Below end r ⌝ }
 {
+    let mut seen = [0u8; 1024];
     let mut q = first;
     while q < end {
-        if is_named(m, first, q, wire::two_at(m, q + 3)) {
+        if is_again(m, first, q, wire::two_at(m, q + 3), &mut seen) {
             return catalog::Place::At(q);
         }
         q = wire::end_of(m, q);
