@@ -20,7 +20,10 @@ pub const LONGEST_CATALOG: usize = 65_535;
 #[derive(Clone, Copy, Debug, PartialEq, Eq)]
 pub enum Answer {
     /// The catalog is the first `length` bytes of the output.
-    Catalog { length: u16, steps: u16 },
+    Catalog {
+        length: u16,
+        steps: u16,
+    },
     Refused(Refusal),
 }
 
@@ -71,7 +74,7 @@ impl Default for Compiler {
 }
 
 /// Compiles into lent memory. Afterwards `out` holds the catalog and then zeros, or zeros alone after a refusal, and
-/// `work` is zero throughout.
+/// `work` is zero throughout. The deepest manifests take about 1 MB of stack; a Rust thread has 2 MB unless told otherwise.
 pub fn compile_into(manifest: &[u8], device: &[u8], limit: u16, out: &mut [u8], work: &mut [u8]) -> Answer {
     // SAFETY: a Rust slice is what the function asks for. Its pointer is never null and is good for its length, and
     // the two that are lent exclusively overlap nothing. The function is proved to stay within all four.
@@ -155,7 +158,13 @@ impl Refusal {
 
 impl fmt::Display for Refusal {
     fn fmt(&self, out: &mut fmt::Formatter<'_>) -> fmt::Result {
-        write!(out, "refused {} at {}: {}", self.number, self.place, self.reason())
+        write!(
+            out,
+            "refused {} at {}: {}",
+            self.number,
+            self.place,
+            self.reason()
+        )
     }
 }
 

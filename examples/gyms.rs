@@ -42,17 +42,30 @@ fn standard() -> Field {
         assign("plan", text(7, "basic")),
         built_in("plan", text(8, "day"), vec![given("price", top_var("fee"))]),
     ];
-    class_definition("standard", None, vec![parameter("screens", Some(int(6, 1)))], body)
+    class_definition(
+        "standard",
+        None,
+        vec![parameter("screens", Some(int(6, 1)))],
+        body,
+    )
 }
 
 /// Its parent is the standard class, and its wall is reset more often by a selector on the plan.
 fn premium() -> Field {
-    let days = select(var("plan"), vec![(text(10, "gold"), int(11, 30)), (default(), int(12, 60))]);
+    let days = select(
+        var("plan"),
+        vec![(text(10, "gold"), int(11, 30)), (default(), int(12, 60))],
+    );
     let body = vec![
         assign("plan", text(9, "gold")),
         built_in("wall", var("wall"), vec![given("resets", days)]),
     ];
-    class_definition("premium", Some(parent("standard")), vec![parameter("wall", None)], body)
+    class_definition(
+        "premium",
+        Some(parent("standard")),
+        vec![parameter("wall", None)],
+        body,
+    )
 }
 
 fn harbor() -> Vec<Field> {
@@ -62,12 +75,19 @@ fn harbor() -> Vec<Field> {
         built_in(
             "kiosk",
             text(22, "front"),
-            vec![given("price", var("fee")), given("screens", class_var("standard", "screens"))],
+            vec![
+                given("price", var("fee")),
+                given("screens", class_var("standard", "screens")),
+            ],
         ),
     ];
     let gate = vec![
         defined("entrance", text(23, "north"), vec![given("hours", int(24, 12))]),
-        if_else(var("peak"), vec![defined("entrance", text(25, "south"), vec![])], vec![]),
+        if_else(
+            var("peak"),
+            vec![defined("entrance", text(25, "south"), vec![])],
+            vec![],
+        ),
     ];
     vec![node(&["harbor-desk"], desk), node(&["harbor-gate"], gate)]
 }
@@ -84,13 +104,20 @@ fn hill() -> Vec<Field> {
         built_in(
             "kiosk",
             text(33, "front"),
-            vec![given("price", var("price")), given("screens", class_var("standard", "screens"))],
+            vec![
+                given("price", var("price")),
+                given("screens", class_var("standard", "screens")),
+            ],
         ),
     ];
     vec![node(&["hill-desk"], desk)]
 }
 
 fn everywhere_else() -> Vec<Field> {
-    let screen = built_in("screen", text(41, "lobby"), vec![given("open", boolean(42, false))]);
+    let screen = built_in(
+        "screen",
+        text(41, "lobby"),
+        vec![given("open", boolean(42, false))],
+    );
     vec![node_default(vec![screen])]
 }

@@ -31,12 +31,18 @@ fn main() -> ExitCode {
             return ExitCode::from(2);
         }
     };
-    println!("{:<52} {:>6} {:>11} {:>13} {:>13} {:>7} {:>6}", "", "bytes", "answer", "reference µs", "library µs", "ratio", "rounds");
+    println!(
+        "{:<52} {:>6} {:>11} {:>13} {:>13} {:>7} {:>6}",
+        "", "bytes", "answer", "reference µs", "library µs", "ratio", "rounds"
+    );
     let mut room = Room {
         out: vec![0; 70_000],
         work: vec![0; 65_536],
     };
-    for row in rows().iter().filter(|row| wanted.map_or(true, |part| row.name.contains(part.as_str()))) {
+    for row in rows()
+        .iter()
+        .filter(|row| wanted.map_or(true, |part| row.name.contains(part.as_str())))
+    {
         eprintln!("benchmark: {}", row.name);
         println!("{}", room.measure(row));
     }
@@ -54,16 +60,26 @@ fn rows() -> Vec<Row> {
 
 /// Random manifests, whole and by what becomes of them.
 fn mixed() -> Vec<Row> {
-    let all: Vec<Case> = generate::cases(20_240, 2000).filter(|case| case.memory == 65_536).collect();
+    let all: Vec<Case> = generate::cases(20_240, 2000)
+        .filter(|case| case.memory == 65_536)
+        .collect();
     let part = |name: &str, wanted: fn(&Answer) -> bool| Row {
         name: format!("mixed random: {name}"),
-        cases: all.iter().filter(|case| wanted(&answer_of(case))).cloned().collect(),
+        cases: all
+            .iter()
+            .filter(|case| wanted(&answer_of(case)))
+            .cloned()
+            .collect(),
     };
     vec![
         part("all", |_| true),
         part("accepted", |answer| matches!(answer, Answer::Catalog { .. })),
-        part("refused while running", |answer| matches!(answer, Answer::Refused { number: 6.., .. })),
-        part("damaged, refused before running", |answer| matches!(answer, Answer::Refused { number: 2..=5, .. })),
+        part("refused while running", |answer| {
+            matches!(answer, Answer::Refused { number: 6.., .. })
+        }),
+        part("damaged, refused before running", |answer| {
+            matches!(answer, Answer::Refused { number: 2..=5, .. })
+        }),
     ]
 }
 
@@ -110,14 +126,26 @@ fn worst() -> Vec<Row> {
         named("2,300 reads of 900 attributes, 256 times", "time-attribute-reads"),
         named("65,535 steps", "time-steps"),
         named("65,535 steps, the last refused", "time-steps-refused"),
-        named("65,535 bytes, refused at the end by its field", "time-refused-late-3"),
-        named("65,535 bytes, refused at the end by a name", "time-refused-late-5"),
-        named("65,535 bytes, refused at the end by a read", "time-refused-late-13"),
+        named(
+            "65,535 bytes, refused at the end by its field",
+            "time-refused-late-3",
+        ),
+        named(
+            "65,535 bytes, refused at the end by a name",
+            "time-refused-late-5",
+        ),
+        named(
+            "65,535 bytes, refused at the end by a read",
+            "time-refused-late-13",
+        ),
         named("65,535 bytes, accepted", "time-largest-accepted"),
         one("500 parameters given, 64 times", ordinary(many_parameters())),
         one("500 parameters by default, 64 times", ordinary(many_defaults())),
         one("1,000 attributes of one resource", ordinary(many_attributes())),
-        one("1,000 attributes of one resource, the last twice", ordinary(attribute_twice())),
+        one(
+            "1,000 attributes of one resource, the last twice",
+            ordinary(attribute_twice()),
+        ),
         one("1,000 definitions and as many includes", ordinary(many_classes())),
     ]
 }
@@ -133,12 +161,17 @@ fn numbered(at: usize) -> String {
 /// A type whose parameters are all given, in the opposite order.
 fn many_parameters() -> Manifest {
     let parameters = (0..500).map(|at| parameter(numbered(at), None)).collect();
-    let values = (0..500).rev().map(|at| given(numbered(at), boolean(at as u8, true))).collect();
+    let values = (0..500)
+        .rev()
+        .map(|at| given(numbered(at), boolean(at as u8, true)))
+        .collect();
     sixty_four_times(parameters, values)
 }
 
 fn many_defaults() -> Manifest {
-    let parameters = (0..500).map(|at| parameter(numbered(at), Some(boolean(at as u8, true)))).collect();
+    let parameters = (0..500)
+        .map(|at| parameter(numbered(at), Some(boolean(at as u8, true))))
+        .collect();
     sixty_four_times(parameters, vec![])
 }
 
@@ -155,7 +188,9 @@ fn sixty_four_times(parameters: Vec<Field>, values: Vec<Field>) -> Manifest {
 }
 
 fn attributes(count: usize) -> Vec<Field> {
-    (0..count).map(|at| given(numbered(at), boolean(at as u8, true))).collect()
+    (0..count)
+        .map(|at| given(numbered(at), boolean(at as u8, true)))
+        .collect()
 }
 
 fn many_attributes() -> Manifest {
@@ -169,7 +204,9 @@ fn attribute_twice() -> Manifest {
 }
 
 fn many_classes() -> Manifest {
-    let mut items: Vec<Field> = (0..1000).map(|at| class_definition(numbered(at), None, vec![], vec![])).collect();
+    let mut items: Vec<Field> = (0..1000)
+        .map(|at| class_definition(numbered(at), None, vec![], vec![]))
+        .collect();
     items.extend((0..1000).rev().map(|at| include(numbered(at))));
     Manifest::new(items)
 }
@@ -210,11 +247,21 @@ impl Room {
         )
     }
 
-    fn time(&mut self, row: &Row, compile: impl Fn(&[u8], &[u8], u16, &mut [u8], &mut [u8]) -> u64) -> Duration {
+    fn time(
+        &mut self,
+        row: &Row,
+        compile: impl Fn(&[u8], &[u8], u16, &mut [u8], &mut [u8]) -> u64,
+    ) -> Duration {
         let started = Instant::now();
         for case in &row.cases {
             let out = &mut self.out[..case.output];
-            black_box(compile(&case.manifest, &case.device, case.limit, out, &mut self.work));
+            black_box(compile(
+                &case.manifest,
+                &case.device,
+                case.limit,
+                out,
+                &mut self.work,
+            ));
         }
         started.elapsed()
     }

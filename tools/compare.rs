@@ -111,7 +111,10 @@ impl Rooms {
 }
 
 fn lent([output, memory]: &mut [Vec<u8>; 2], lengths: [usize; 2]) -> (&mut [u8], &mut [u8]) {
-    (&mut output[GUARD..GUARD + lengths[0]], &mut memory[GUARD..GUARD + lengths[1]])
+    (
+        &mut output[GUARD..GUARD + lengths[0]],
+        &mut memory[GUARD..GUARD + lengths[1]],
+    )
 }
 
 /// Both compilers on one case. Gives the answer, or what differs.
@@ -123,7 +126,12 @@ fn compare(case: &Case, rooms: &mut Rooms) -> Result<Answer, String> {
     let (out, work) = lent(&mut rooms.ours, lengths);
     let ours = rigbanut::compile_into(&case.manifest, &case.device, case.limit, out, work);
     let ours = in_the_same_words(ours);
-    let told = |what: String| format!("{what}\nreference: {theirs:?}\nlibrary:   {ours:?}\n{}", case.line());
+    let told = |what: String| {
+        format!(
+            "{what}\nreference: {theirs:?}\nlibrary:   {ours:?}\n{}",
+            case.line()
+        )
+    };
     if ours != theirs {
         return Err(told("the answers differ".to_string()));
     }
@@ -131,7 +139,10 @@ fn compare(case: &Case, rooms: &mut Rooms) -> Result<Answer, String> {
         let whole = lengths[at] + 2 * GUARD;
         if let Some(byte) = first_difference(&rooms.ours[at][..whole], &rooms.theirs[at][..whole]) {
             let byte = byte as isize - GUARD as isize;
-            return Err(told(format!("byte {byte} of the {} bytes of {name} differs", lengths[at])));
+            return Err(told(format!(
+                "byte {byte} of the {} bytes of {name} differs",
+                lengths[at]
+            )));
         }
     }
     Ok(theirs)

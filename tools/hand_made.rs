@@ -16,7 +16,9 @@ fn deepest() -> Case {
     let mut items: Vec<Field> = (0..16)
         .map(|at| type_definition(kind(at), vec![], vec![declare(at + 1)]))
         .collect();
-    let expression = (0..28).fold(boolean(2, true), |inner, _| binary(EQUAL, boolean(3, true), inner));
+    let expression = (0..28).fold(boolean(2, true), |inner, _| {
+        binary(EQUAL, boolean(3, true), inner)
+    });
     items.push(type_definition(kind(16), vec![], vec![assign("y", expression)]));
     items.push(declare(0));
     Case::of(Manifest::new(items).build().bytes)
@@ -24,5 +26,7 @@ fn deepest() -> Case {
 
 /// The statement inside so many ifs.
 fn conditions(count: usize, statement: Field) -> Field {
-    (0..count).fold(statement, |inner, _| if_else(boolean(4, true), vec![inner], vec![]))
+    (0..count).fold(statement, |inner, _| {
+        if_else(boolean(4, true), vec![inner], vec![])
+    })
 }

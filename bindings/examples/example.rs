@@ -21,12 +21,20 @@ fn integer(label: u8, value: i64) -> Vec<u8> {
 
 /// The names are places in the table of strings: 0 fee, 1 front, 2 kiosk, 3 peak, 4 price, 5 screens.
 fn manifest() -> Vec<u8> {
-    let strings = ["fee", "front", "kiosk", "peak", "price", "screens"].map(|string| field(0x02, &[string.as_bytes()]));
+    let strings =
+        ["fee", "front", "kiosk", "peak", "price", "screens"].map(|string| field(0x02, &[string.as_bytes()]));
     let table = field(0x01, &[&strings.concat()]);
     let fee = field(0x21, &[&[0, 0], &integer(1, 40)]);
     let peak = field(0x21, &[&[0, 3], &field(0x12, &[&[2, 0]])]);
     let dearer = field(0x21, &[&[0, 0], &integer(3, 55)]);
-    let if_peak = field(0x22, &[&field(0x13, &[&[0, 3]]), &field(0x20, &[&dearer]), &field(0x20, &[])]);
+    let if_peak = field(
+        0x22,
+        &[
+            &field(0x13, &[&[0, 3]]),
+            &field(0x20, &[&dearer]),
+            &field(0x20, &[]),
+        ],
+    );
     let price = field(0x26, &[&[0, 4], &field(0x13, &[&[0, 0]])]);
     let screens = field(0x26, &[&[0, 5], &integer(5, 2)]);
     let kiosk = field(0x25, &[&[0, 2], &field(0x11, &[&[4], &[0, 1]]), &price, &screens]);

@@ -64,16 +64,21 @@ fn answer_lines(lines: &[u8]) -> usize
 
 // Device, limit, output length, memory length, manifest. What does not fit the room here is cut.
 fn answer_line(line: &[u8]) {
-    let mut device = [0u8; 300];
-    let mut manifest = [0u8; 70000];
     let second = text::next_part(line, 0);
     let third = text::next_part(line, second);
     let fourth = text::next_part(line, third);
     let fifth = text::next_part(line, fourth);
     let limit = text::read_number(&line[second..], 65535) as u16;
-    let named = text::read_hex(line, &mut device);
-    let size = text::read_hex(&line[fifth..], &mut manifest);
-    lend(&manifest[..size], &device[..named], limit, &line[third..]);
+    read_bytes(&line[fifth..], line, limit, &line[third..]);
+}
+
+// Manifest and device from their digits.
+fn read_bytes(manifest_text: &[u8], device_text: &[u8], limit: u16, lengths: &[u8]) {
+    let mut manifest = [0u8; 70000];
+    let mut device = [0u8; 300];
+    let size = text::read_hex(manifest_text, &mut manifest);
+    let named = text::read_hex(device_text, &mut device);
+    lend(&manifest[..size], &device[..named], limit, lengths);
 }
 
 // Output and memory of the two lengths at the start of `lengths`.
@@ -111,9 +116,13 @@ fn write_catalog(steps: u64, length: usize, out: &[u8]) {
     io::print_decimal(1, steps);
     if length == 0 {
         io::write_all(1, b" -\n");
-        return;
+    } else {
+        io::write_all(1, b" ");
+        write_bytes(length, out);
     }
-    io::write_all(1, b" ");
+}
+
+fn write_bytes(length: usize, out: &[u8]) {
     let mut digits = [0u8; 140000];
     let count = text::put_hex(&mut digits, out, length);
     io::write_all(1, &digits[..count]);
