@@ -105,9 +105,9 @@ fn run_items(m: &[u8], node: Found, work: &mut [u8], out: &mut [u8], left: &mut 
     Ran::Done(filled)
 }
 
-// A sound manifest, in a memory of zeros.
+// A sound manifest, whatever the memory holds.
 fn run_manifest(m: &[u8], device: &[u8], out: &mut [u8], work: &mut [u8], left: &mut u16) -> Ran
-    requires { ⌜ ((check (now m) ≡ Sound) × (length (now m) ≤ 65535)) × ((65536 ≤ length (now work)) × (now work ≡ zeros (length (now work)))) ⌝ }
+    requires { ⌜ ((check (now m) ≡ Sound) × (length (now m) ≤ 65535)) × (65536 ≤ length (now work)) ⌝ }
     ensures { λ r. ⌜ RunsManifest (now (m .entry)) (now (device .entry)) (now (out .entry)) (now (out .exit)) (now (left .entry)) (now (left .exit)) r ⌝ }
 {
     definitions::prepare(m, work);
@@ -126,12 +126,11 @@ fn refuse(reason: Reason, place: u16, out: &mut [u8], work: &mut [u8]) -> Answer
     Answer::Refused { reason, place }
 }
 
-// A sound manifest, whatever the memory holds.
+// A sound manifest, and the bytes lent cleared after it.
 fn run_checked(m: &[u8], device: &[u8], limit: u16, out: &mut [u8], work: &mut [u8]) -> Answer
     requires { ⌜ (65536 ≤ length (now work)) × (before (now m) ≡ Sound) ⌝ }
     ensures { λ r. ⌜ Compiles (now (m .entry)) (now (device .entry)) limit (now (out .entry)) (now (out .exit)) (now (work .entry)) (now (work .exit)) r ⌝ }
 {
-    memory::clear(work);
     let mut left = limit;
     let r = run_manifest(m, device, out, work, &mut left);
     match r {

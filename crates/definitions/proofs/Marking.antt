@@ -10,7 +10,6 @@ use lib.Dec.{ltb}
 use lib.ListN.{length, getD, List·getD-eq-default}
 use borrow.Author.Tests.{eq-eqb, ne-eqb, ltb-true, ltb-false}
 use Rattle.wire.specs.Bytes.{pick, endOf, fieldsIn}
-use Rattle.wire.specs.Runs.{zeros}
 use Rattle.wire.proofs.Fields.{no-fields, field-first}
 use Rattle.rules.specs.Check.{text, stringPlaces, check}
 use Rattle.rules.specs.State.{Entry}
@@ -24,9 +23,8 @@ use Rattle.syntax.specs.Strings.{textsAt, stringTexts, isBuiltInText, indexed, 
 use Rattle.syntax.proofs.StringsRead.{few-strings, strings-read, built-in-read, title-read, table-holds}
 use Rattle.cells.specs.Layout.{putAt, restOf}
 use Rattle.cells.specs.Memory.{definitionOf, builtInOf, Names, namesOf, stateOf, Fine, Becomes}
-use Rattle.memory.specs.Names.{withBuiltIn, noNames, titleOf, TitleSet}
-use Rattle.memory.proofs.Start.{zeros-start, zeros-names, zeros-fine}
-use Rattle.memory.proofs.Titles.{title-kept, no-title}
+use Rattle.memory.specs.Names.{withBuiltIn, noNames, titleOf, TitleSet, Begun}
+use Rattle.memory.proofs.Titles.{title-kept}
 use Rattle.evaluator.proofs.Names.{known-first}
 use Rattle.declarations.specs.Standing.{undefined}
 use Rattle.definitions.specs.Prepared.{markString, markStrings, Prepares}
@@ -167,10 +165,10 @@ module _ (m : List ℕ) {r : Found} (told : r ≡ foundOf (stringNumber titleTex
       let count = texts-count m (stringPlaces m) in
       omega arith
 
-module _ (m w₀ w : List ℕ) (sound : check m ≡ Sound) (zero : w₀ ≡ zeros (length w₀)) (marked : Becomes w₀ w (λ st. st) (markStrings m 0 (stringPlaces m))) where
+module _ (m w₀ w : List ℕ) (sound : check m ≡ Sound) (first : Begun w₀) (marked : Becomes w₀ w (λ st. st) (markStrings m 0 (stringPlaces m))) where
   -- the names after the marks
   names-are : namesOf w ≡ markStrings m 0 (stringPlaces m) noNames
-  names-are = marked .names ∙ ap (markStrings m 0 (stringPlaces m)) (ap namesOf zero ∙ zeros-names (length w₀))
+  names-are = marked .names ∙ ap (markStrings m 0 (stringPlaces m)) (first .names)
 
   no-definition : (n : ℕ) → definitionOf w n ≡ 0
   unfolding namesOf noNames
@@ -203,17 +201,17 @@ module _ (m w₀ w : List ℕ) (sound : check m ≡ Sound) (zero : w₀ ≡ zero
 
   module _ (room : 65536 ≤ length w₀) (short : length m ≤ 65535) (size : length w ≡ length w₀) where
     no-title-yet : titleOf w ≡ none
-    no-title-yet = title-kept w₀ w (marked .rest) ∙ ap titleOf zero ∙ no-title (length w₀)
+    no-title-yet = title-kept w₀ w (marked .rest) ∙ first .title
 
     -- THE LAWS: what is known before the first item runs, where the memory became w′ by its title alone
     ready : (w′ : List ℕ) → length w′ ≡ length w → namesOf w′ ≡ namesOf w → ((es : List Entry) (n r : ℕ) → stateOf w′ es n r ≡ stateOf w es n r) → (Fine w → Fine w′) → titleOf w′ ≡ stringNumber titleText (stringTexts m) 0 → Prepares m w′
     unfolding namesOf knownFirst
     ready w′ same names state fine title = record {
       set = record { memory = omega arith; manifest = short; strings = few-strings m sound; definitions = λ n. undefined (ap (λ (ns : Names). ns .definitions n) names ∙ no-definition n) };
-      fine = fine (marked .fine (rw zero (zeros-fine (length w₀))));
+      fine = fine (marked .fine (first .fine));
       known = known-first m w′ (knownFirst (manifestOf m .strings)) refl (λ n. built-ins n ∙ sym (ap (λ (ns : Names). ns .builtIns n) names)) (λ n. ap (λ (ns : Names). ns .definitions n) names ∙ no-definition n);
       title = title ∙ sym (title-read m sound);
-      state = λ limit output. state [] limit (roomIn output) ∙ marked .state [] limit (roomIn output) ∙ ap (λ (v : List ℕ). stateOf v [] limit (roomIn output)) zero ∙ zeros-start (length w₀) limit output;
+      state = λ limit output. state [] limit (roomIn output) ∙ marked .state [] limit (roomIn output) ∙ first .state limit output;
     }
 
     pub titled : {r : Found} (w′ : List ℕ) {n : ℕ} → r ≡ foundOf (stringNumber titleText (stringTexts m) 0) → r ≡ At n → TitleSet w w′ n → length w′ ≡ length w → Prepares m w′

@@ -26,7 +26,7 @@ unfoldable pub markStrings : List ℕ → (n : ℕ) → (places : List ℕ) → 
 markStrings m n [] ns = ns
 markStrings m n (q ∷ qs) ns = markStrings m (suc n) qs (markString m n q ns)
 
--- a memory of zeros becomes w, which knows what is known before the first item runs
+-- the memory w is as before the first item runs, and knows what is known then
 pub record Prepares (m w : List ℕ) : Type 0 where
   pub set : Set m w
   pub fine : Fine w

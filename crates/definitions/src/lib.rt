@@ -3,7 +3,6 @@ ghost use mathlib.Core.Path.{_≡_};
 ghost use Prim.Native.Nat.{_+_, _≤_, _<_};
 ghost use lib.ListN.{length};
 ghost use Rattle.wire.specs.Bytes.{byte, two};
-ghost use Rattle.wire.specs.Runs.{zeros};
 ghost use Rattle.rules.specs.Check.{stringPlaces, check};
 ghost use Rattle.rules.specs.State.{Known};
 ghost use Rattle.rules.specs.Run.{isTaken};
@@ -44,11 +43,12 @@ fn mark_built_ins(m: &[u8], work: &mut [u8])
     }
 }
 
-// The names of a manifest, in a memory of zeros.
+// The state before the first item and the names of a manifest, whatever the memory holds.
 pub fn prepare(m: &[u8], work: &mut [u8])
-    requires { ⌜ ((check (now m) ≡ Sound) × (length (now m) ≤ 65535)) × ((65536 ≤ length (now work)) × (now work ≡ zeros (length (now work)))) ⌝ }
+    requires { ⌜ ((check (now m) ≡ Sound) × (length (now m) ≤ 65535)) × (65536 ≤ length (now work)) ⌝ }
     ensures { λ _. ⌜ Prepares (now (m .entry)) (now (work .exit)) ⌝ }
 {
+    memory::begin(work);
     mark_built_ins(m, work);
     let title = syntax::strings::title_number(m);
     match title {

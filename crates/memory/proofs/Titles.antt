@@ -10,8 +10,8 @@ use lib.Dec.{eqb, ltb}
 use borrow.Author.Tests.{ne-eqb, lt-ltb, le-ltb, eqb-false, ltb-false}
 use Rattle.wire.specs.Bytes.{pick, byte, two}
 use Rattle.wire.specs.Numbers.{highBytes}
-use Rattle.wire.specs.Runs.{over, zeros}
-use Rattle.wire.proofs.Laws.{same-rest, two-same, byte-outside, high-length, stored-two, zeros-byte}
+use Rattle.wire.specs.Runs.{over}
+use Rattle.wire.proofs.Laws.{same-rest, two-same, byte-outside, high-length, stored-two}
 use Rattle.cells.specs.Layout.{restAt, slotsOf, trailOf, recordsOf, restOf}
 use Rattle.cells.specs.Memory.{stateOf}
 use Rattle.cells.proofs.Regions.{slots-same, trail-same, records-same, names-by, classes-by, cells-by, used-by}
@@ -27,9 +27,9 @@ pub title-kept : (w w′ : List ℕ) → restOf w′ ≡ restOf w → titleOf w�
 unfolding titleOf
 title-kept w w′ e = rw e refl
 
-pub no-title : (n : ℕ) → titleOf (zeros n) ≡ none
-unfolding titleOf titleIn two
-no-title n = rw (sym (rest-first (zeros n)), zeros-byte n restAt, zeros-byte n (restAt + 1)) refl
+pub no-title : (w : List ℕ) → two w restAt ≡ 0 → titleOf w ≡ none
+unfolding titleOf titleIn
+no-title w e = rw (sym (rest-first w), e) refl
 
 pub title-small : (w : List ℕ) (n : ℕ) → titleOf w ≡ some n → n < 1024
 unfolding titleOf titleIn

@@ -1,12 +1,13 @@
 -- What the functions on names change, and what they tell of a class.
 use Prim.Native.Nat.{ℕ, _-_}
 use mathlib.Core.Path.{_≡_}
-use mathlib.Core.List.{List}
+use mathlib.Core.List.{List, []}
 use lib.Dec.{eqb, ltb}
 use Rattle.wire.specs.Bytes.{pick, two}
 use mathlib.Core.Bool.{Bool, true, false}
 use mathlib.Core.Option.{Option, none, some}
 use Rattle.rules.specs.State.{Scope, Base, topBase, nodeBase, DeclaredClass, Entry}
+use Rattle.rules.specs.Compile.{roomIn, start}
 use Rattle.cells.specs.Layout.{putAt, restOf}
 use Rattle.cells.specs.Scopes.{scopeOf}
 use Rattle.cells.specs.Memory.{baseFor, Names, namesOf, stateOf, Fine}
@@ -70,3 +71,12 @@ pub record TitleSet (w w′ : List ℕ) (name : ℕ) : Type 0 where
   pub state : (es : List Entry) (n r : ℕ) → stateOf w′ es n r ≡ stateOf w es n r
   pub names : namesOf w′ ≡ namesOf w
   pub fine : Fine w → Fine w′
+
+-- ---- Before the first item
+
+-- w stands for the definition's first state: no cell, no class, no name, an empty trail
+pub record Begun (w : List ℕ) : Type 0 where
+  pub state : (limit output : ℕ) → stateOf w [] limit (roomIn output) ≡ start limit output
+  pub names : namesOf w ≡ noNames
+  pub title : titleOf w ≡ none
+  pub fine : Fine w

@@ -8,8 +8,11 @@ ghost use Rattle.rules.specs.State.{Entry, oneIf, parentOf, isDeclared, declare
 ghost use Rattle.cells.specs.Layout.{trailOf};
 ghost use Rattle.cells.specs.Scopes.{scopeOf};
 ghost use Rattle.cells.specs.Memory.{baseFor, classesOf, stringPlaceOf, definitionOf, builtInOf, stateOf, trailed, Becomes};
-ghost use Rattle.memory.specs.Names.{withString, withDefinition, withBuiltIn, classState, placed, scopeAbove, atNode, titleOf, titleFound, TitleSet};
+ghost use Rattle.memory.specs.Names.{withString, withDefinition, withBuiltIn, classState, placed, scopeAbove, atNode, titleOf, titleFound, TitleSet, Begun};
 use labels::Labels;
+
+// A slot's state is one byte; these come first.
+const SLOTS: usize = 512;
 
 const TRAIL: usize = 39424;
 
@@ -35,6 +38,15 @@ pub fn clear(work: &mut [u8])
 {
     let end = work.len();
     wire::clear(work, 0, end);
+}
+
+// The state before the first item. Only the bytes that tell it are cleared.
+pub fn begin(work: &mut [u8])
+    requires { ⌜ 65536 ≤ length (now work) ⌝ }
+    ensures { λ _. ⌜ Begun (now (work .exit)) ⌝ }
+{
+    wire::clear(work, 0, SLOTS);
+    wire::clear(work, TRAIL, REST + 2);
 }
 
 // ---- The trail
