@@ -32,16 +32,16 @@ module _ (m : List ℕ) (ps : Parts) (q e : ℕ) (l : q < e) where
   unfolding header
   runs-past h a k = rw (le-leb (q + 3) e (omega arith), lt-leb (endOf m q) e (omega arith))
 
-  module _ {n t : ℕ} {f : Form} {a : Bool} (h : 3 ≤ e - q) (en : n ≡ two m (q + 1)) (k : n ≤ e - q - 3) (et : t ≡ byte m q) (ef : f ≡ formOf t) (ea : a ≡ lengthRight f n) where
-    opened : header m ps q e ≡ pick a (follow ps t) Wrong
+  module _ {n : ℕ} {f : Form} {a : Bool} (h : 3 ≤ e - q) (en : n ≡ two m (q + 1)) (k : n ≤ e - q - 3) (ef : f ≡ formOf (byte m q)) (ea : a ≡ lengthRight f n) where
+    opened : header m ps q e ≡ pick a (follow ps (byte m q)) Wrong
     unfolding header
-    opened = rw (le-leb (q + 3) e (omega arith), le-leb (endOf m q) e (omega arith), ← en, ← et, ← ef, ← ea)
+    opened = rw (le-leb (q + 3) e (omega arith), le-leb (endOf m q) e (omega arith), ← en, ← ef, ← ea)
 
     pub wrong-length : a ≡ false → Wrong ≡ header m ps q e
     wrong-length b = sym (opened ∙ rw b)
 
-    pub right-length : {r : Next} → a ≡ true → r ≡ follow ps t → r ≡ header m ps q e
-    right-length b er = er ∙ sym (opened ∙ rw b)
+    pub right-length : {t : ℕ} {r : Next} → a ≡ true → t ≡ byte m q → r ≡ follow ps t → r ≡ header m ps q e
+    right-length b et er = er ∙ ap (follow ps) et ∙ sym (opened ∙ rw b)
 
 -- a header that is right: the field ends within its surroundings
 pub within : (m : List ℕ) (ps : Parts) (q e : ℕ) {n : Next} {x : Parts} → n ≡ header m ps q e → n ≡ Go x → endOf m q ≤ e
@@ -57,10 +57,10 @@ unfolding inside
 deep m p zero z = absurd (z refl)
 deep m p (suc d) z = ap (λ (j : ℕ). body m (inside m j) p (formOf (byte m p))) (sym (sub-one (suc d)))
 
-module _ (m : List ℕ) (p d : ℕ) (z : d ≡ 0 → ⊥) {n t h : ℕ} {l : Form} (en : n ≡ two m (p + 1)) (et : t ≡ byte m p) (el : l ≡ formOf t) (eh : h ≡ headSize l) where
+module _ (m : List ℕ) (p d : ℕ) (z : d ≡ 0 → ⊥) {n h : ℕ} {l : Form} (en : n ≡ two m (p + 1)) (el : l ≡ formOf (byte m p)) (eh : h ≡ headSize l) where
   opens : inside m d p ≡ pick (leb h n && bytesRight m p l) (rest m (inside m (d - 1)) p (p + 3 + h) (l .rest)) (Fault Malformed p)
   unfolding body
-  opens = deep m p d z ∙ rw (← et, ← el, ← eh, ← en)
+  opens = deep m p d z ∙ rw (← el, ← eh, ← en)
 
   pub no-head : n < h → Fault Malformed p ≡ inside m d p
   no-head x = sym (opens ∙ rw (lt-leb h n x))

@@ -2,7 +2,8 @@
 ghost use mathlib.Core.Path.{_≡_};
 ghost use Prim.Native.Nat.{_+_, _≤_, _<_};
 ghost use lib.ListN.{length};
-ghost use Rattle.rules.specs.Bytes.{endOf, fieldsIn};
+ghost use Rattle.rules.specs.Bytes.{byte, endOf, fieldsIn};
+ghost use Rattle.rules.specs.Format.{formOf};
 ghost use Rattle.rules.specs.Check.{header, walk, inside, shape};
 ghost use Rattle.values.specs.declared.Reason.the-variants.{Malformed, TooDeep};
 ghost use Rattle.rules.specs.declared.Verdict.the-variants.{Fault};
@@ -12,6 +13,7 @@ use format::bodies::length_right;
 use format::forms::form_of;
 use format::parts::follows;
 use format::parts::may_end;
+use rules::Form;
 use rules::Kind;
 use rules::Next;
 use rules::Part;
@@ -40,9 +42,9 @@ fn too_deep(place: usize) -> Verdict
     }
 }
 
-// The header of the field at `q`, in surroundings that end at `e`.
-fn header_at(m: &[u8], parts: Parts, q: usize, e: usize) -> Next
-    requires { ⌜ (q < e) × (e ≤ length (now m)) ⌝ }
+// The header of the field at `q`, whose line in the list is `form`, in surroundings that end at `e`.
+fn header_at(m: &[u8], parts: Parts, form: Form, q: usize, e: usize) -> Next
+    requires { ⌜ (q < e) × ((e ≤ length (now m)) × (form ≡ formOf (byte (now m) q))) ⌝ }
     ensures { λ r. ⌜ r ≡ header (now (m .entry)) parts q e ⌝ }
 {
     if e - q < 3 {
@@ -52,24 +54,22 @@ fn header_at(m: &[u8], parts: Parts, q: usize, e: usize) -> Next
     if e - q - 3 < len as usize {
         return Next::Wrong;
     }
-    let tag = byte_at(m, q);
-    if length_right(form_of(tag), len) {
-        follows(parts, tag)
+    if length_right(form, len) {
+        follows(parts, byte_at(m, q))
     } else {
         Next::Wrong
     }
 }
 
 // What is inside the field at `p`, whose header is right, with `levels` left for it.
-fn check_inside(m: &[u8], p: usize, levels: u8) -> Verdict
-    requires { ⌜ endOf (now m) p ≤ length (now m) ⌝ }
+fn check_inside(m: &[u8], form: Form, p: usize, levels: u8) -> Verdict
+    requires { ⌜ (endOf (now m) p ≤ length (now m)) × (form ≡ formOf (byte (now m) p)) ⌝ }
     ensures { λ r. ⌜ r ≡ inside (now (m .entry)) levels p ⌝ }
 {
     if levels == 0 {
         return too_deep(p);
     }
     let len = length_at(m, p);
-    let form = form_of(byte_at(m, p));
     let head = head_size(form);
     if len < head {
         return malformed(p);
@@ -97,10 +97,11 @@ fn check_fields(m: &[u8], p: usize, parts: Parts, from: usize, e: usize, levels:
     let mut left = parts;
     let mut q = from;
     while q < e {
-        let Next::Go(then) = header_at(m, left, q, e) else {
+        let form = form_of(byte_at(m, q));
+        let Next::Go(then) = header_at(m, left, form, q, e) else {
             return malformed(q);
         };
-        let found = check_inside(m, q, levels);
+        let found = check_inside(m, form, q, levels);
         match found {
             Verdict::Fault {
                 reason: _,

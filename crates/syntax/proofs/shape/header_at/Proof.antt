@@ -23,10 +23,10 @@ returns-2 : tie.Need-returns-2
 returns-2 c = runs-past _ _ _ _ (c .before .before .before .before .pre .0) (c .before .before .if1 .left) (c .before .length-at .ensures) (c .if2 .taken)
 
 returns-3 : tie.Need-returns-3
-returns-3 c = right-length _ _ _ _ (c .before .before .before .before .before .before .before .before .before .pre .0) (c .before .before .before .before .before .before .before .if1 .left) (c .before .before .before .before .before .before .length-at .ensures) (c .before .before .before .before .before .if2 .left) (c .before .before .before .before .byte-at .ensures) (c .before .before .before .form-of .ensures) (c .before .before .length-right .ensures) (c .before .if3 .taken) (c .follows .ensures)
+returns-3 c = right-length _ _ _ _ (c .before .before .before .before .before .before .before .before .pre .0) (c .before .before .before .before .before .before .if1 .left) (c .before .before .before .before .before .length-at .ensures) (c .before .before .before .before .if2 .left) (c .before .before .before .before .before .before .before .before .pre .1 .1) (c .before .before .before .length-right .ensures) (c .before .before .if3 .taken) (c .before .byte-at .ensures) (c .follows .ensures)
 
 returns-4 : tie.Need-returns-4
-returns-4 c = wrong-length _ _ _ _ (c .before .before .before .before .before .before .before .before .pre .0) (c .before .before .before .before .before .before .if1 .left) (c .before .before .before .before .before .length-at .ensures) (c .before .before .before .before .if2 .left) (c .before .before .before .byte-at .ensures) (c .before .before .form-of .ensures) (c .before .length-right .ensures) (c .if3 .left)
+returns-4 c = wrong-length _ _ _ _ (c .before .before .before .before .before .before .pre .0) (c .before .before .before .before .if1 .left) (c .before .before .before .length-at .ensures) (c .before .before .if2 .left) (c .before .before .before .before .before .before .pre .1 .1) (c .before .length-right .ensures) (c .if3 .left)
 
 pub header-at-spec : {M : Type 1} → statement M
 header-at-spec =
@@ -39,7 +39,6 @@ header-at-spec =
     sub-if2-2
     cast-if2
     returns-2
-    (λ c κs. tt)
     (λ c κs. tt)
     (λ c κs. tt)
     (λ c κs. tt)
