@@ -110,7 +110,7 @@ pub record Evaluating (m w out : List ℕ) (fill scope : ℕ) (node : Bool) (d f
   pub places : passed ++ fieldsIn m q end ≡ fieldsIn m first end
   pub rest : Rest m w out fill scope node d first end q gs
 
-pub evaluating-begins : {m w out : List ℕ} {fill scope : ℕ} {node : Bool} {d first end : ℕ} {t : List ℕ} → Siblings m d AttributeKind first end → ((n : ℕ) → n < 1024 → givenAt t n ≡ none) → Evaluating m w out fill scope node d first end first t
+pub evaluating-begins : {m w out : List ℕ} {fill scope : ℕ} {node : Bool} {d first end : ℕ} {t : List ℕ} → Siblings m d AttributeKind first end → ((n : ℕ) → givenAt t n ≡ none) → Evaluating m w out fill scope node d first end first t
 evaluating-begins s blank = record { gs = []; gives = gives-nothing blank; passed = []; alikes = alikeNone; places = refl; rest = rest-begins s }
 
 module _ {m w out : List ℕ} {fill scope : ℕ} {node : Bool} {d first end q : ℕ} {t : List ℕ} (so-far : Evaluating m w out fill scope node d first end q t) where

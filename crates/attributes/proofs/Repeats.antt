@@ -1,10 +1,10 @@
--- The ways of the functions that look for a name given twice, and what they say of the evaluated 26s. Assumes nothing.
+-- The ways of the functions that look through the names of the 26s, and what they say of the evaluated 26s. Assumes nothing.
 use Prim.Native.Nat.{ℕ, _+_, _≤_, _<_}
 use mathlib.Core.Path.{_≡_, refl, sym, ap, _∙_}
 use mathlib.Core.Bool.{Bool, true, false, _||_}
 use mathlib.Core.List.{List, [], _∷_}
 use native.Mathlib.Omega.{arith}
-use borrow.Author.Tests.{eqb-true, eqb-false, eq-eqb, ne-eqb}
+use borrow.Author.Tests.{eqb-true, eqb-false, eq-eqb, ne-eqb, le-leb, lt-leb}
 use lib.Dec.{eqb}
 use lib.ListN.{length, replicate}
 use Rattle.values.specs.declared.Reason.the-variants.{AttributeAgain}
@@ -18,26 +18,31 @@ use Rattle.rules.specs.Evaluate.{any}
 use Rattle.rules.specs.Run.{Given, isGiven, namedOnce}
 use Rattle.catalog.specs.declared.Place.{Place}
 use Rattle.catalog.specs.declared.Place.the-variants.{At, Nothing}
-use Rattle.attributes.specs.Names.{hasName, repeatedIn, isMarked, Marked, Marks, Alike, alikeNone, alike}
+use Rattle.attributes.specs.Names.{hasName, nameFrom, repeatedIn, isMarked, Marked, Marks, Alike, alikeNone, alike}
 
--- ---- The ways of `is_named`: what is left from q on says what all of them say
+-- ---- The ways of `is_named` and `has_name_from`: what is left from q on says what all of them say
 
-module _ (m : List ℕ) (first end name q : ℕ) where
-  named-here : q < end → any (hasName m name) (fieldsIn m q end) ≡ (hasName m name q || any (hasName m name) (fieldsIn m (endOf m q) end))
+module _ (m : List ℕ) (first end q : ℕ) (f : ℕ → Bool) (left : any f (fieldsIn m q end) ≡ any f (fieldsIn m first end)) where
+  any-here : {b : Bool} → q < end → f q ≡ b → (b || any f (fieldsIn m (endOf m q) end)) ≡ any f (fieldsIn m first end)
   unfolding any
-  named-here more = ap (any (hasName m name)) (field-first m q end more)
+  any-here more is = ap (λ (x : Bool). x || any f (fieldsIn m (endOf m q) end)) (sym is) ∙ ap (any f) (sym (field-first m q end more)) ∙ left
 
-  pub named-found : any (hasName m name) (fieldsIn m q end) ≡ any (hasName m name) (fieldsIn m first end) → q < end → {n : ℕ} → n ≡ two m (q + 3) → n ≡ name → true ≡ any (hasName m name) (fieldsIn m first end)
-  named-found left more {n} read is = ap (λ (b : Bool). b || any (hasName m name) (fieldsIn m (endOf m q) end)) (sym (eq-eqb (two m (q + 3)) name (sym read ∙ is))) ∙ sym (named-here more) ∙ left
+  pub any-found : q < end → f q ≡ true → true ≡ any f (fieldsIn m first end)
+  any-found more is = any-here more is
 
-  pub named-further : any (hasName m name) (fieldsIn m q end) ≡ any (hasName m name) (fieldsIn m first end) → q < end → {n r : ℕ} → n ≡ two m (q + 3) → (n ≡ name → ⊥) → r ≡ endOf m q → any (hasName m name) (fieldsIn m r end) ≡ any (hasName m name) (fieldsIn m first end)
-  named-further left more {n} {r} read is next =
-      ap (λ (p : ℕ). any (hasName m name) (fieldsIn m p end)) next
-      ∙ ap (λ (b : Bool). b || any (hasName m name) (fieldsIn m (endOf m q) end)) (sym (ne-eqb (two m (q + 3)) name (λ e. is (read ∙ e)))) ∙ sym (named-here more) ∙ left
+  pub any-further : {r : ℕ} → q < end → f q ≡ false → r ≡ endOf m q → any f (fieldsIn m r end) ≡ any f (fieldsIn m first end)
+  any-further more is next = ap (λ (p : ℕ). any f (fieldsIn m p end)) next ∙ any-here more is
 
-  pub named-nowhere : any (hasName m name) (fieldsIn m q end) ≡ any (hasName m name) (fieldsIn m first end) → end ≤ q → false ≡ any (hasName m name) (fieldsIn m first end)
+  pub any-nowhere : end ≤ q → false ≡ any f (fieldsIn m first end)
   unfolding any
-  named-nowhere left over = ap (any (hasName m name)) (sym (no-fields m q end over)) ∙ left
+  any-nowhere over = ap (any f) (sym (no-fields m q end over)) ∙ left
+
+module _ (m : List ℕ) (limit q : ℕ) {n : ℕ} (read : n ≡ two m (q + 3)) where
+  pub name-past : limit ≤ n → nameFrom m limit q ≡ true
+  name-past l = le-leb limit (two m (q + 3)) (omega (arith, read, l))
+
+  pub name-below : n < limit → nameFrom m limit q ≡ false
+  name-below l = lt-leb limit (two m (q + 3)) (omega (arith, read, l))
 
 -- ---- The ways of `is_again`: a name that has no mark of its own, a marked one, and one that becomes marked
 

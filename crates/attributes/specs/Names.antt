@@ -3,7 +3,7 @@ use Prim.Native.Nat.{ℕ, _+_, _<_}
 use mathlib.Core.Path.{_≡_}
 use mathlib.Core.Bool.{Bool, _||_}
 use mathlib.Core.List.{List, [], _∷_}
-use lib.Dec.{eqb}
+use lib.Dec.{leb, eqb}
 use Rattle.wire.specs.Bytes.{pick, byte, two, fieldsIn}
 use Rattle.values.specs.declared.Labelled.{Labelled}
 use Rattle.rules.specs.Evaluate.{any}
@@ -14,6 +14,10 @@ use Rattle.catalog.specs.declared.Place.the-variants.{At, Nothing}
 -- the 26 at q has the name n
 abbrev pub hasName : List ℕ → (n q : ℕ) → Bool
 hasName m n q = eqb (two m (q + 3)) n
+
+-- the 26 at q has a name of `limit` or more
+abbrev pub nameFrom : List ℕ → (limit q : ℕ) → Bool
+nameFrom m limit q = leb limit (two m (q + 3))
 
 -- the first of the places whose name one before it has, or one of the earlier
 unfoldable pub repeatedIn : List ℕ → (earlier places : List ℕ) → Place

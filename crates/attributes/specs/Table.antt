@@ -1,27 +1,30 @@
--- The values given to a declaration by its 26s, kept by name: 41 bytes for each of 1,024 names. A table of no bytes gives nothing.
-use Prim.Native.Nat.{ℕ, _+_, _*_, _<_}
+-- The values given to a declaration by its 26s, kept by name: a row of 41 bytes for each of the first names, as many as the table has room for.
+use Prim.Native.Nat.{ℕ, _+_, _*_, _≤_, _<_}
 use mathlib.Core.Path.{_≡_}
 use mathlib.Core.List.{List, [], _∷_, _++_}
 use mathlib.Core.Option.{Option, none, some}
 use lib.Dec.{ltb}
 use lib.ListN.{length}
 use Rattle.values.specs.declared.Labelled.{Labelled}
-use Rattle.wire.specs.Bytes.{pick, byte}
+use Rattle.wire.specs.Bytes.{pick, byte, two}
 use Rattle.rules.specs.Evaluate.{firstWith}
 use Rattle.rules.specs.Run.{Given, isGiven}
+use Rattle.rules.proofs.Lists.{Each}
 use Rattle.cells.specs.Layout.{setAt, wordAt}
 use Rattle.cells.specs.Slots.{valueFrom, labelled}
 
--- a name's record: the value's kind 1 byte (0 where none is given), its payload 8, its set 32
+-- a name's row: the value's kind 1 byte (0 where none is given), its payload 8, its set 32
 abbrev pub givenPlace : ℕ → ℕ
 givenPlace n = 41 * n
 
-abbrev pub tableSize : ℕ
-tableSize = 41984
+-- a table of so many bytes has one
+abbrev pub HasRow : (size name : ℕ) → Type 0
+HasRow k n = givenPlace n + 41 ≤ k
 
+-- a name without a row has no value
 unfoldable pub givenAt : List ℕ → (name : ℕ) → Option Labelled
 givenAt t n =
-    pick (ltb (length t) tableSize) none
+    pick (ltb (length t) (givenPlace n + 41)) none
     (pick (ltb 1 (byte t (givenPlace n))) (some (labelled (valueFrom (byte t (givenPlace n)) (wordAt t (givenPlace n + 1))) (setAt t (givenPlace n + 9)))) none)
 
 unfoldable pub contentOf : Option Given → Option Labelled
@@ -35,3 +38,12 @@ pub record Gives (t : List ℕ) (gs : List Given) : Type 0 where
 -- one value more, given last
 pub record Adds (t t′ : List ℕ) (name : ℕ) (x : Labelled) : Type 0 where
   pub gives : (gs : List Given) (q : ℕ) → Gives t gs → Gives t′ (gs ++ (record { place = q; name = name; content = x } ∷ []))
+
+-- the names of the 26s at these places have rows, but for those of 1,024 and more, which no checked manifest has
+abbrev pub Rows : List ℕ → (size : ℕ) → (places : List ℕ) → Type 0
+Rows m k qs = Each (λ (q : ℕ). two m (q + 3) < 1024 → HasRow k (two m (q + 3))) qs
+
+-- a table for the 26s at these places, that gives nothing yet
+pub record Fresh (m t places : List ℕ) : Type 0 where
+  pub blank : (n : ℕ) → givenAt t n ≡ none
+  pub rows : Rows m (length t) places

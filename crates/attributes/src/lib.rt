@@ -1,19 +1,19 @@
 // The attributes (26) of a declaration: evaluated in written order into a table by name, and the first of them that repeats a name.
 ghost use mathlib.Core.Path.{_≡_};
 ghost use mathlib.Core.List.{[]};
-ghost use mathlib.Core.Option.{none, some};
-ghost use Prim.Native.Nat.{ℕ, _-_, _≤_, _<_};
+ghost use mathlib.Core.Option.{some};
+ghost use Prim.Native.Nat.{ℕ, _+_, _-_, _≤_, _<_};
 ghost use lib.Dec.{eqb};
 ghost use lib.ListN.{length};
-ghost use Rattle.wire.specs.Bytes.{pick, byte, fieldsIn};
+ghost use Rattle.wire.specs.Bytes.{pick, byte, endOf, fieldsIn};
 ghost use Rattle.rules.specs.Evaluate.{any};
 ghost use Rattle.rules.specs.declared.Kind.the-variants.{Attribute, Statement};
 ghost use Rattle.places.specs.At.{StandsAs, Siblings};
 ghost use Rattle.cells.specs.Memory.{heldOf};
 ghost use Rattle.catalog.specs.Finding.{Below};
 ghost use Rattle.evaluator.specs.Known.{Sized};
-ghost use Rattle.attributes.specs.Names.{hasName, repeatedIn, Marked, Marks};
-ghost use Rattle.attributes.specs.Table.{tableSize, givenAt, Adds};
+ghost use Rattle.attributes.specs.Names.{hasName, nameFrom, repeatedIn, Marked, Marks};
+ghost use Rattle.attributes.specs.Table.{HasRow, givenAt, Adds, Fresh};
 ghost use Rattle.attributes.specs.Evaluated.{GivenIn, TitledIn};
 use cells::Held;
 use evaluator::Evaluated;
@@ -36,6 +36,21 @@ pub fn is_named(m: &[u8], first: usize, end: usize, name: u16) -> bool
     let mut q = first;
     while q < end {
         if wire::two_at(m, q + 3) == name {
+            return true;
+        }
+        q = wire::end_of(m, q);
+    }
+    false
+}
+
+// Whether one of the attributes between two places has a name of `limit` or more.
+pub fn has_name_from(m: &[u8], first: usize, end: usize, limit: u16) -> bool
+    requires { ⌜ end ≤ 65535 ⌝ }
+    ensures { λ r. ⌜ r ≡ any (nameFrom (now (m .entry)) limit) (fieldsIn (now (m .entry)) first end) ⌝ }
+{
+    let mut q = first;
+    while q < end {
+        if limit <= wire::two_at(m, q + 3) {
             return true;
         }
         q = wire::end_of(m, q);
@@ -77,20 +92,23 @@ pub fn find_repeated(m: &[u8], first: usize, end: usize) -> catalog::Place
 
 // ---- The table
 
-// How many bytes a table has.
+// How many bytes a table with a row for every name has.
 pub const TABLE: usize = 41984;
+
+// How many names a small table has rows for: to clear the large one takes longer than most declarations take.
+pub const SMALL_NAMES: u16 = 128;
+
+// How many bytes a small table has.
+pub const SMALL_TABLE: usize = 5248;
 
 // The value given to a name.
 pub fn given(table: &[u8], name: u16) -> Held
-    ensures { λ r. ⌜ (name < 1024 → r ≡ heldOf (givenAt (now (table .entry)) name)) ⌝ }
+    ensures { λ r. ⌜ r ≡ heldOf (givenAt (now (table .entry)) name) ⌝ }
 {
-    if table.len() < TABLE {
-        return Held::Empty;
-    }
-    if 1024 <= name {
-        return Held::Empty;
-    }
     let place = 41 * name as usize;
+    if table.len() < place + 41 {
+        return Held::Empty;
+    }
     let kind = wire::byte_at(table, place);
     if kind <= 1 {
         return Held::Empty;
@@ -102,8 +120,8 @@ pub fn given(table: &[u8], name: u16) -> Held
 
 // Gives a value to a name.
 fn put_given(table: &mut [u8], name: u16, x: Labelled)
-    requires { ⌜ (tableSize ≤ length (now table)) × (name < 1024) ⌝ }
-    ensures { λ _. ⌜ ((n : ℕ) → n < 1024 → givenAt (now (table .exit)) n ≡ pick (eqb n name) (some x) (givenAt (now (table .entry)) n)) ⌝ }
+    requires { ⌜ HasRow (length (now table)) name ⌝ }
+    ensures { λ _. ⌜ ((n : ℕ) → givenAt (now (table .exit)) n ≡ pick (eqb n name) (some x) (givenAt (now (table .entry)) n)) ⌝ }
 {
     let place = 41 * name as usize;
     let value = x.value;
@@ -115,7 +133,7 @@ fn put_given(table: &mut [u8], name: u16, x: Labelled)
 
 // Gives a value to a name that has none yet.
 fn add_given(table: &mut [u8], name: u16, x: Labelled)
-    requires { ⌜ tableSize ≤ length (now table) ⌝ }
+    requires { ⌜ (name < 1024 → HasRow (length (now table)) name) ⌝ }
     ensures { λ _. ⌜ Adds (now (table .entry)) (now (table .exit)) name x ⌝ }
 {
     if 1024 <= name {
@@ -143,7 +161,7 @@ pub fn evaluate_attributes(
     base_is_node: bool,
     table: &mut [u8],
 ) -> Gathered
-    requires { ⌜ (Sized (now m) (now work) (now out) fill end × Siblings (now m) depth Attribute first end) × ((tableSize ≤ length (now table)) × ((n : ℕ) → n < 1024 → givenAt (now table) n ≡ none)) ⌝ }
+    requires { ⌜ (Sized (now m) (now work) (now out) fill end × Siblings (now m) depth Attribute first end) × Fresh (now m) (now table) (fieldsIn (now m) first end) ⌝ }
     ensures { λ r. ⌜ GivenIn (now (m .entry)) (now (work .entry)) (now (out .entry)) fill scope «base_is_node» depth first end (now (table .exit)) r ⌝ }
 {
     let mut q = first;
@@ -172,7 +190,7 @@ pub fn evaluate_titled(
     base_is_node: bool,
     table: &mut [u8],
 ) -> Evaluated
-    requires { ⌜ ((Sized (now m) (now work) (now out) fill p × StandsAs (now m) depth Statement p) × (byte (now m) p ≡ 0x27)) × ((tableSize ≤ length (now table)) × ((n : ℕ) → n < 1024 → givenAt (now table) n ≡ none)) ⌝ }
+    requires { ⌜ ((Sized (now m) (now work) (now out) fill p × StandsAs (now m) depth Statement p) × (byte (now m) p ≡ 0x27)) × Fresh (now m) (now table) (fieldsIn (now m) (endOf (now m) (p + 5)) (endOf (now m) p)) ⌝ }
     ensures { λ r. ⌜ TitledIn (now (m .entry)) (now (work .entry)) (now (out .entry)) fill scope «base_is_node» (depth - 1) p (now (table .exit)) r ⌝ }
 {
     let t = evaluator::evaluate(m, depth - 1, p + 5, work, out, fill, scope, base_is_node);

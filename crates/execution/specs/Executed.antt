@@ -1,11 +1,12 @@
 -- What running a part of the manifest makes of the bytes lent, and what its answer means.
-use Prim.Native.Nat.{ℕ, _-_, _≤_}
+use Prim.Native.Nat.{ℕ, _+_, _-_, _≤_}
 use mathlib.Core.Path.{_≡_}
 use mathlib.Core.Bool.{Bool, true, false}
 use mathlib.Core.List.{List}
 use lib.ListN.{length}
 use Rattle.labels.specs.declared.Labels.{Labels}
 use Rattle.values.specs.declared.Reason.{Reason}
+use Rattle.wire.specs.Bytes.{byte, endOf, fieldsIn}
 use Rattle.rules.specs.Outcome.{Outcome, refused, done, _>>=_}
 use Rattle.rules.specs.Tree.{Statement, Block, ClassDefinition, classDefinition, definition}
 use Rattle.rules.specs.State.{Entry, State, Context, Known, bodyScope, takeStep, free}
@@ -16,7 +17,7 @@ use Rattle.cells.specs.Scopes.{scopeOf}
 use Rattle.cells.specs.Memory.{baseFor, stateOf, Fine}
 use Rattle.memory.specs.Names.{titleOf}
 use Rattle.evaluator.specs.Known.{Ready}
-use Rattle.attributes.specs.Table.{Gives}
+use Rattle.attributes.specs.Table.{Gives, Fresh}
 use Rattle.resources.specs.declared.Ran.{Ran}
 use Rattle.resources.specs.declared.Ran.the-variants.{Done, Refused}
 use Rattle.declarations.specs.Standing.{Set}
@@ -47,6 +48,17 @@ pub record Here (s : ℕ) (node : Bool) (set : Labels) (c : Context) : Type 0 wh
 pub record Under (node : Bool) (set : Labels) (c : Context) : Type 0 where
   pub base : c .base ≡ baseFor node
   pub path : c .path ≡ set
+
+-- the 26s of the 27 or 28 at p begin at `first`: after the title, or after the name
+pub data GivenFrom (m : List ℕ) (p first : ℕ) : Type 0 where
+  afterTitle : byte m p ≡ 0x27 → first ≡ endOf m (p + 5) → GivenFrom m p first
+  afterName : byte m p ≡ 0x28 → first ≡ p + 5 → GivenFrom m p first
+
+-- a table for them, that gives nothing yet
+pub record FreshFor (m t : List ℕ) (p : ℕ) : Type 0 where
+  pub first : ℕ
+  pub begins : GivenFrom m p first
+  pub fresh : Fresh m t (fieldsIn m first (endOf m p))
 
 -- ---- After
 

@@ -15,8 +15,10 @@ ghost use Rattle.attributes.specs.Table.{Gives};
 ghost use Rattle.resources.specs.declared.Ran.the-variants.{Done, Refused};
 ghost use Rattle.declarations.specs.Standing.{NamesKnown};
 ghost use Rattle.declarations.specs.Classes.{ClassStands};
-ghost use Rattle.execution.specs.Executed.{Able, Here, Under, Executes, Enters, begun, bodyRun, asked};
+ghost use Rattle.execution.specs.Executed.{Able, Here, Under, GivenFrom, FreshFor, Executes, Enters, begun, bodyRun, asked};
 use attributes::Gathered;
+use attributes::SMALL_NAMES;
+use attributes::SMALL_TABLE;
 use attributes::TABLE;
 use declarations::Class;
 use declarations::Started;
@@ -121,9 +123,7 @@ pub fn run_statement(
     )
 }
 
-// A statement after its step, by its tag. Declarations are called from two places each, though one would do: a function with one call is merged into
-// its caller in the compiled code, and the frame of this one, which stands on the stack once for every nested condition, would then hold a declaration's
-// table of 42 KB. So the table is on the stack once for every level.
+// A statement after its step, by its tag.
 fn run_begun(
     m: &[u8],
     depth: u8,
@@ -169,66 +169,34 @@ fn run_begun(
             path,
         ),
         0x25 => run_resource(m, depth, p, work, out, fill, scope, base_is_node, path),
-        0x27 => {
-            if base_is_node {
-                return run_defined(
-                    m,
-                    depth,
-                    p,
-                    work,
-                    out,
-                    fill,
-                    left,
-                    levels,
-                    scope,
-                    base_is_node,
-                    path,
-                );
-            }
-            run_defined(
-                m,
-                depth,
-                p,
-                work,
-                out,
-                fill,
-                left,
-                levels,
-                scope,
-                base_is_node,
-                path,
-            )
-        }
-        0x28 => {
-            if base_is_node {
-                return run_class(
-                    m,
-                    depth,
-                    p,
-                    work,
-                    out,
-                    fill,
-                    left,
-                    levels,
-                    scope,
-                    base_is_node,
-                    path,
-                );
-            }
-            run_class(
-                m,
-                depth,
-                p,
-                work,
-                out,
-                fill,
-                left,
-                levels,
-                scope,
-                base_is_node,
-                path,
-            )
-        }
+        0x27 => run_given(
+            m,
+            depth,
+            p,
+            wire::end_of(m, p + 5),
+            work,
+            out,
+            fill,
+            left,
+            levels,
+            scope,
+            base_is_node,
+            path,
+        ),
+        0x28 => run_given(
+            m,
+            depth,
+            p,
+            p + 5,
+            work,
+            out,
+            fill,
+            left,
+            levels,
+            scope,
+            base_is_node,
+            path,
+        ),
         _ => run_include(m, p, work, out, fill, left, levels, base_is_node, path),
     }
 }
@@ -385,9 +353,115 @@ fn run_case(
     }
 }
 
+// ---- Declarations
+
+// The 27 or 28 at p, whose attributes begin at `first`, with a table that has a row for each of their names. It is called from two places, and so it is
+// not merged into its caller in the compiled code: that one's frame, which stands on the stack once for every nested condition, has no table of 42 KB.
+fn run_given(
+    m: &[u8],
+    depth: u8,
+    p: usize,
+    first: usize,
+    work: &mut [u8],
+    out: &mut [u8],
+    fill: usize,
+    left: &mut u16,
+    levels: u8,
+    scope: u16,
+    base_is_node: bool,
+    path: Labels,
+) -> Ran
+    requires { ⌜ (Able (now m) (now work) (now out) fill × (StandsAs (now m) depth Statement p × NamesKnown (now m) p)) × GivenFrom (now m) p first ⌝ }
+    ensures { λ r. ⌜ Executes (now (m .entry)) (now (work .entry)) (now (work .exit)) (now (out .entry)) (now (out .exit)) fill (now (left .entry)) (now (left .exit)) (Here scope «base_is_node» path) r (λ k. run k (declaration k levels) (statementAt (now (m .entry)) depth p)) ⌝ }
+{
+    let end = wire::end_of(m, p);
+    if attributes::has_name_from(m, first, end, SMALL_NAMES) {
+        let mut table = [0u8; TABLE];
+        return run_tabled(
+            m,
+            depth,
+            p,
+            work,
+            out,
+            fill,
+            left,
+            levels,
+            scope,
+            base_is_node,
+            path,
+            &mut table,
+        );
+    }
+    let mut table = [0u8; SMALL_TABLE];
+    run_tabled(
+        m,
+        depth,
+        p,
+        work,
+        out,
+        fill,
+        left,
+        levels,
+        scope,
+        base_is_node,
+        path,
+        &mut table,
+    )
+}
+
+// The same, with a table for its attributes.
+fn run_tabled(
+    m: &[u8],
+    depth: u8,
+    p: usize,
+    work: &mut [u8],
+    out: &mut [u8],
+    fill: usize,
+    left: &mut u16,
+    levels: u8,
+    scope: u16,
+    base_is_node: bool,
+    path: Labels,
+    table: &mut [u8],
+) -> Ran
+    requires { ⌜ (Able (now m) (now work) (now out) fill × (StandsAs (now m) depth Statement p × NamesKnown (now m) p)) × FreshFor (now m) (now table) p ⌝ }
+    ensures { λ r. ⌜ Executes (now (m .entry)) (now (work .entry)) (now (work .exit)) (now (out .entry)) (now (out .exit)) fill (now (left .entry)) (now (left .exit)) (Here scope «base_is_node» path) r (λ k. run k (declaration k levels) (statementAt (now (m .entry)) depth p)) ⌝ }
+{
+    if wire::byte_at(m, p) == 0x28 {
+        return run_class(
+            m,
+            depth,
+            p,
+            work,
+            out,
+            fill,
+            left,
+            levels,
+            scope,
+            base_is_node,
+            path,
+            table,
+        );
+    }
+    run_defined(
+        m,
+        depth,
+        p,
+        work,
+        out,
+        fill,
+        left,
+        levels,
+        scope,
+        base_is_node,
+        path,
+        table,
+    )
+}
+
 // ---- Types
 
-// The 27 at p.
+// The 27 at p, with a table for its attributes.
 fn run_defined(
     m: &[u8],
     depth: u8,
@@ -400,22 +474,12 @@ fn run_defined(
     scope: u16,
     base_is_node: bool,
     path: Labels,
+    table: &mut [u8],
 ) -> Ran
-    requires { ⌜ (Able (now m) (now work) (now out) fill × (StandsAs (now m) depth Statement p × NamesKnown (now m) p)) × (byte (now m) p ≡ 0x27) ⌝ }
+    requires { ⌜ (Able (now m) (now work) (now out) fill × (StandsAs (now m) depth Statement p × NamesKnown (now m) p)) × ((byte (now m) p ≡ 0x27) × FreshFor (now m) (now table) p) ⌝ }
     ensures { λ r. ⌜ Executes (now (m .entry)) (now (work .entry)) (now (work .exit)) (now (out .entry)) (now (out .exit)) fill (now (left .entry)) (now (left .exit)) (Here scope «base_is_node» path) r (λ k. run k (declaration k levels) (statementAt (now (m .entry)) depth p)) ⌝ }
 {
-    let mut table = [0u8; TABLE];
-    let t = attributes::evaluate_titled(
-        m,
-        depth,
-        p,
-        work,
-        out,
-        fill,
-        scope,
-        base_is_node,
-        &mut table,
-    );
+    let t = attributes::evaluate_titled(m, depth, p, work, out, fill, scope, base_is_node, table);
     match t {
         Evaluated::Refused { reason, place } => Ran::Refused { reason, place },
         Evaluated::Value(x) => declare_type(
@@ -423,7 +487,7 @@ fn run_defined(
             p,
             wire::end_of(m, p + 5),
             wire::end_of(m, p),
-            &table,
+            table,
             x,
             work,
             out,
@@ -516,7 +580,7 @@ fn run_body(
 
 // ---- Classes
 
-// The 28 at p.
+// The 28 at p, with a table for its attributes.
 fn run_class(
     m: &[u8],
     depth: u8,
@@ -529,11 +593,11 @@ fn run_class(
     scope: u16,
     base_is_node: bool,
     path: Labels,
+    table: &mut [u8],
 ) -> Ran
-    requires { ⌜ (Able (now m) (now work) (now out) fill × (StandsAs (now m) depth Statement p × NamesKnown (now m) p)) × (byte (now m) p ≡ 0x28) ⌝ }
+    requires { ⌜ (Able (now m) (now work) (now out) fill × (StandsAs (now m) depth Statement p × NamesKnown (now m) p)) × ((byte (now m) p ≡ 0x28) × FreshFor (now m) (now table) p) ⌝ }
     ensures { λ r. ⌜ Executes (now (m .entry)) (now (work .entry)) (now (work .exit)) (now (out .entry)) (now (out .exit)) fill (now (left .entry)) (now (left .exit)) (Here scope «base_is_node» path) r (λ k. run k (declaration k levels) (statementAt (now (m .entry)) depth p)) ⌝ }
 {
-    let mut table = [0u8; TABLE];
     let first = p + 5;
     let end = wire::end_of(m, p);
     let g = attributes::evaluate_attributes(
@@ -546,7 +610,7 @@ fn run_class(
         fill,
         scope,
         base_is_node,
-        &mut table,
+        table,
     );
     match g {
         Gathered::Refused { reason, place } => Ran::Refused { reason, place },
@@ -557,7 +621,7 @@ fn run_class(
             true,
             first,
             end,
-            &table,
+            table,
             work,
             out,
             fill,

@@ -66,23 +66,23 @@ module _ (m t : List ℕ) (first end from to : ℕ) {unknown : Place} (looked : 
   unfolding unknownOutcome
   check-unknown is answer gs g a s small = rw answer (refusedSo (not-known ps gs (known-places m (fieldsIn m from to) a ∙ ap unknownOutcome (sym looked ∙ is))))
 
-  module _ (none : unknown ≡ Nothing) {missing : Place} (sought : SmallNames m (fieldsIn m from to) → missing ≡ missingIn m t (fieldsIn m from to)) where
+  module _ (none : unknown ≡ Nothing) {missing : Place} (sought : missing ≡ missingIn m t (fieldsIn m from to)) where
     known : {gs : List Given} → Alike m gs (fieldsIn m first end) → parametersKnown ps gs ≡ done tt
     unfolding unknownOutcome
     known a = known-places m (fieldsIn m from to) a ∙ ap unknownOutcome (sym looked ∙ none)
 
     pub check-missing : {q : ℕ} {r : Ran} → missing ≡ At q → r ≡ Refused MissingParameter q → Checks m t first end from to r
-    check-missing is answer gs g a s small = rw answer (refusedSo (not-valued ps gs (known a) (valued-not ps gs (missing-places m g small) (sym (sought small) ∙ is))))
+    check-missing is answer gs g a s small = rw answer (refusedSo (not-valued ps gs (known a) (valued-not ps gs (missing-places m g small) (sym sought ∙ is))))
 
     module _ (found : missing ≡ Nothing) {again : Place} (repeated : again ≡ repeatedIn m [] (fieldsIn m first end)) where
       pub check-twice : {q : ℕ} {r : Ran} → again ≡ At q → r ≡ Refused AttributeAgain q → Checks m t first end from to r
       unfolding repeatedOutcome
       check-twice is answer gs g a s small =
-          let v = all-valued (missing-places m g small) (sym (sought small) ∙ found) in
+          let v = all-valued (missing-places m g small) (sym sought ∙ found) in
           rw answer (refusedSo (named-twice ps gs (known a) (v .are) (named-places m repeated a ∙ ap repeatedOutcome is)))
 
       pub check-right : again ≡ Nothing → Checks m t first end from to Done
       unfolding repeatedOutcome
       check-right is gs g a s small =
-          let v = all-valued (missing-places m g small) (sym (sought small) ∙ found) in
+          let v = all-valued (missing-places m g small) (sym sought ∙ found) in
           checkedSo (v .values) (all-right ps gs (known a) (v .are) (named-places m repeated a ∙ ap repeatedOutcome is))

@@ -2,7 +2,7 @@
 use Prim.Native.Nat.{ℕ, _+_, _≤_, _<_}
 use mathlib.Core.Path.{_≡_, refl, sym, ap, _∙_}
 use mathlib.Core.Bool.{Bool, true, false, not}
-use mathlib.Core.List.{List, _∷_}
+use mathlib.Core.List.{List}
 use mathlib.Core.Option.{Option, none, some}
 use native.Mathlib.Omega.{arith}
 use borrow.Author.Tests.{eqb-true, eq-eqb, ne-eqb, ltb-true, ltb-false, lt-ltb, le-ltb, not-true, not-false}
@@ -15,7 +15,6 @@ use Rattle.rules.specs.Format.{allowed}
 use Rattle.rules.specs.Evaluate.{any, ofConstant}
 use Rattle.rules.specs.Run.{defaultOf}
 use Rattle.rules.specs.declared.Kind.the-variants.{Parameter}
-use Rattle.rules.proofs.Lists.{also}
 use Rattle.places.specs.At.{constantAt, defaultAt, Siblings}
 use Rattle.places.proofs.Parts.{first-sibling, siblings-go-on, siblings-stop}
 use Rattle.places.proofs.Items.{BlockEnds}
@@ -25,8 +24,8 @@ use Rattle.cells.specs.Memory.{heldOf}
 use Rattle.catalog.specs.declared.Place.the-variants.{At, Nothing}
 use Rattle.attributes.specs.Names.{hasName}
 use Rattle.attributes.specs.Table.{givenAt}
+use Rattle.attributes.proofs.Table.{held-value, held-nothing}
 use Rattle.parameters.specs.Places.{unknownIn, orDefault, parameterValue, orMissing, missingIn}
-use Rattle.parameters.specs.Checked.{SmallNames}
 
 -- ---- The ways of `end_of_parameters`: the 33s from q on are the last of those from `from` on
 
@@ -77,74 +76,46 @@ module _ (m ps : List ℕ) (first end q : ℕ) (left : unknownIn m ps (fieldsIn 
 
 -- ---- The ways of `value_of`
 
-pub held-value : {h : Held} (o : Option Labelled) {x : Labelled} → h ≡ heldOf o → h ≡ Holds x → o ≡ some x
-unfolding heldOf
-held-value none read is = absurd (let z : _≡_ {A = ℕ} 0 1 = cc in omega arith)
-held-value (some y) read is = ap some cc
+module _ (m t : List ℕ) (q : ℕ) {n : ℕ} {h : Held} (name : n ≡ two m (q + 3)) (read : h ≡ heldOf (givenAt t n)) where
+  given-read : h ≡ heldOf (givenAt t (two m (q + 3)))
+  given-read = read ∙ ap (λ (k : ℕ). heldOf (givenAt t k)) name
 
-pub held-nothing : {h : Held} (o : Option Labelled) → h ≡ heldOf o → h ≡ Empty → o ≡ none
-unfolding heldOf
-held-nothing none read is = refl
-held-nothing (some y) read is = absurd (let z : _≡_ {A = ℕ} 0 1 = cc in omega arith)
-
-module _ (m t : List ℕ) (q : ℕ) {n : ℕ} {h : Held} (name : n ≡ two m (q + 3)) (read : n < 1024 → h ≡ heldOf (givenAt t n)) where
-  given-read : two m (q + 3) < 1024 → h ≡ heldOf (givenAt t (two m (q + 3)))
-  given-read small = read (rw name small) ∙ ap (λ (k : ℕ). heldOf (givenAt t k)) name
-
-  pub value-from-table : {x : Labelled} → h ≡ Holds x → two m (q + 3) < 1024 → h ≡ heldOf (parameterValue m t q)
+  pub value-from-table : {x : Labelled} → h ≡ Holds x → h ≡ heldOf (parameterValue m t q)
   unfolding parameterValue orDefault heldOf
-  value-from-table {x} is small = is ∙ sym (ap (λ (o : Option Labelled). heldOf (orDefault o (defaultOf (defaultAt m q)))) (held-value (givenAt t (two m (q + 3))) (given-read small) is))
+  value-from-table {x} is = is ∙ sym (ap (λ (o : Option Labelled). heldOf (orDefault o (defaultOf (defaultAt m q)))) (held-value (givenAt t (two m (q + 3))) given-read is))
 
   module _ (is : h ≡ Empty) where
-    not-given : two m (q + 3) < 1024 → parameterValue m t q ≡ defaultOf (defaultAt m q)
+    not-given : parameterValue m t q ≡ defaultOf (defaultAt m q)
     unfolding parameterValue orDefault
-    not-given small = ap (λ (o : Option Labelled). orDefault o (defaultOf (defaultAt m q))) (held-nothing (givenAt t (two m (q + 3))) (given-read small) is)
+    not-given = ap (λ (o : Option Labelled). orDefault o (defaultOf (defaultAt m q))) (held-nothing (givenAt t (two m (q + 3))) given-read is)
 
-    pub value-nowhere : {e : ℕ} → e ≡ endOf m q → e ≤ q + 5 → two m (q + 3) < 1024 → Empty ≡ heldOf (parameterValue m t q)
+    pub value-nowhere : {e : ℕ} → e ≡ endOf m q → e ≤ q + 5 → Empty ≡ heldOf (parameterValue m t q)
     unfolding heldOf defaultOf defaultAt
-    value-nowhere end over small = sym (ap heldOf (not-given small ∙ ap (λ (b : Bool). defaultOf (pick b (some (constantAt m (q + 5))) none)) (le-ltb (q + 5) (endOf m q) (omega arith))))
+    value-nowhere end over = sym (ap heldOf (not-given ∙ ap (λ (b : Bool). defaultOf (pick b (some (constantAt m (q + 5))) none)) (le-ltb (q + 5) (endOf m q) (omega arith))))
 
-    pub value-by-default : {e : ℕ} {x : Labelled} → e ≡ endOf m q → q + 5 < e → x ≡ ofConstant (constantAt m (q + 5)) → two m (q + 3) < 1024 → Holds x ≡ heldOf (parameterValue m t q)
+    pub value-by-default : {e : ℕ} {x : Labelled} → e ≡ endOf m q → q + 5 < e → x ≡ ofConstant (constantAt m (q + 5)) → Holds x ≡ heldOf (parameterValue m t q)
     unfolding heldOf defaultOf defaultAt
-    value-by-default end more constant small = ap Holds constant ∙ sym (ap heldOf (not-given small ∙ ap (λ (b : Bool). defaultOf (pick b (some (constantAt m (q + 5))) none)) (lt-ltb (q + 5) (endOf m q) (omega arith))))
+    value-by-default end more constant = ap Holds constant ∙ sym (ap heldOf (not-given ∙ ap (λ (b : Bool). defaultOf (pick b (some (constantAt m (q + 5))) none)) (lt-ltb (q + 5) (endOf m q) (omega arith))))
 
 -- ---- The ways of `find_missing`: what is left from q on says what all of them say
 
-small-head : (m : List ℕ) {q : ℕ} {qs : List ℕ} → SmallNames m (q ∷ qs) → two m (q + 3) < 1024
-small-head m (also s ss) = s
+abbrev pub Missing : (m t : List ℕ) → (from to q : ℕ) → Type 0
+Missing m t from to q = missingIn m t (fieldsIn m q to) ≡ missingIn m t (fieldsIn m from to)
 
-small-tail : (m : List ℕ) {q : ℕ} {qs : List ℕ} → SmallNames m (q ∷ qs) → SmallNames m qs
-small-tail m (also s ss) = ss
-
-module _ (m : List ℕ) {q to : ℕ} (more : q < to) (small : SmallNames m (fieldsIn m q to)) where
-  pub small-first : two m (q + 3) < 1024
-  small-first = small-head m (rw (field-first m q to more) at small)
-
-  pub small-rest : SmallNames m (fieldsIn m (endOf m q) to)
-  small-rest = small-tail m (rw (field-first m q to more) at small)
-
--- if the names are small
-pub record Missing (m t : List ℕ) (from to q : ℕ) : Type 0 where
-  pub small : SmallNames m (fieldsIn m from to) → SmallNames m (fieldsIn m q to)
-  pub left : SmallNames m (fieldsIn m from to) → missingIn m t (fieldsIn m q to) ≡ missingIn m t (fieldsIn m from to)
-
-pub missing-begins : (m t : List ℕ) (from to : ℕ) → Missing m t from to from
-missing-begins m t from to = record { small = λ s. s; left = λ s. refl }
-
-module _ {m t : List ℕ} {from to q : ℕ} (i : Missing m t from to q) where
-  module _ (more : q < to) {h : Held} (read : two m (q + 3) < 1024 → h ≡ heldOf (parameterValue m t q)) where
-    decided : {o : Option Labelled} → SmallNames m (fieldsIn m from to) → parameterValue m t q ≡ o → orMissing q o (missingIn m t (fieldsIn m (endOf m q) to)) ≡ missingIn m t (fieldsIn m from to)
+module _ (m t : List ℕ) (from to q : ℕ) (left : Missing m t from to q) where
+  module _ (more : q < to) {h : Held} (read : h ≡ heldOf (parameterValue m t q)) where
+    decided : {o : Option Labelled} → parameterValue m t q ≡ o → orMissing q o (missingIn m t (fieldsIn m (endOf m q) to)) ≡ missingIn m t (fieldsIn m from to)
     unfolding missingIn
-    decided s e = ap (λ (o : Option Labelled). orMissing q o (missingIn m t (fieldsIn m (endOf m q) to))) (sym e) ∙ ap (missingIn m t) (sym (field-first m q to more)) ∙ i .left s
+    decided e = ap (λ (o : Option Labelled). orMissing q o (missingIn m t (fieldsIn m (endOf m q) to))) (sym e) ∙ ap (missingIn m t) (sym (field-first m q to more)) ∙ left
 
-    pub missing-here : h ≡ Empty → SmallNames m (fieldsIn m from to) → At q ≡ missingIn m t (fieldsIn m from to)
+    pub missing-here : h ≡ Empty → At q ≡ missingIn m t (fieldsIn m from to)
     unfolding orMissing
-    missing-here is s = decided s (held-nothing (parameterValue m t q) (read (small-first m more (i .small s))) is)
+    missing-here is = decided (held-nothing (parameterValue m t q) read is)
 
     pub missing-further : {x : Labelled} {r : ℕ} → h ≡ Holds x → r ≡ endOf m q → Missing m t from to r
     unfolding orMissing
-    missing-further is next = rw next (record { small = λ s. small-rest m more (i .small s); left = λ s. decided s (held-value (parameterValue m t q) (read (small-first m more (i .small s))) is) })
+    missing-further is next = rw next (decided (held-value (parameterValue m t q) read is))
 
-  pub missing-nowhere : to ≤ q → SmallNames m (fieldsIn m from to) → Nothing ≡ missingIn m t (fieldsIn m from to)
+  pub missing-nowhere : to ≤ q → Nothing ≡ missingIn m t (fieldsIn m from to)
   unfolding missingIn
-  missing-nowhere over s = ap (missingIn m t) (sym (no-fields m q to over)) ∙ i .left s
+  missing-nowhere over = ap (missingIn m t) (sym (no-fields m q to over)) ∙ left

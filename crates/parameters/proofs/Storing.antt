@@ -21,22 +21,22 @@ use Rattle.statements.specs.declared.Ran.the-variants.{Done, Refused}
 use Rattle.statements.specs.Answers.{ranAs, Keeps, Does}
 use Rattle.statements.proofs.Assigning.{keeps-same}
 use Rattle.attributes.specs.Table.{Gives}
+use Rattle.attributes.proofs.Table.{each-here, each-after, held-value, held-nothing}
 use Rattle.parameters.specs.Places.{parameterValue}
 use Rattle.parameters.specs.Checked.{SmallNames, Stores, Assigns}
 use Rattle.parameters.proofs.Laws.{FirstValue, first-value, no-values}
-use Rattle.parameters.proofs.Searches.{held-value, held-nothing, small-first, small-rest}
 
 -- ---- The ways of `store_parameter`
 
-module _ {m t w : List ℕ} {q scope : ℕ} {path : Labels} (small : two m (q + 3) < 1024) {h : Held} (read : two m (q + 3) < 1024 → h ≡ heldOf (parameterValue m t q)) where
+module _ {m t w : List ℕ} {q scope : ℕ} {path : Labels} {h : Held} (read : h ≡ heldOf (parameterValue m t q)) where
   pub store-nothing : (answer : Ran) → h ≡ Empty → Stores m t w w q scope path answer
-  store-nothing answer is = record { keeps = keeps-same w; does = λ x e. absurd (let n = held-nothing (parameterValue m t q) (read small) is in let z : _≡_ {A = ℕ} 0 1 = cc in omega arith) }
+  store-nothing answer is = record { keeps = keeps-same w; does = λ x e. absurd (let n = held-nothing (parameterValue m t q) read is in let z : _≡_ {A = ℕ} 0 1 = cc in omega arith) }
 
   pub store-value : {w′ : List ℕ} {n : ℕ} {y : Labelled} (answer : Ran) → h ≡ Holds y → n ≡ two m (q + 3) → Does w w′ scope path (ranAs answer) (λ c. store c q n y) → Stores m t w w′ q scope path answer
   store-value {w′} {n} {y} answer is name stored = record {
     keeps = stored .keeps;
     does = λ x e.
-        let same : y ≡ x = let v = held-value (parameterValue m t q) (read small) is in cc in
+        let same : y ≡ x = let v = held-value (parameterValue m t q) read is in cc in
         record { says = λ c es k r here way. stored .says c es k r here way ∙ ap₂ (λ (a : ℕ) (b : Labelled). store c q a b (stateOf w es k r)) name same; keeps = stored .keeps };
   }
 
@@ -62,7 +62,7 @@ storing-begins m t w from to scope path s = record { small = s; keeps = keeps-sa
 module _ {m t w₀ w : List ℕ} {from to q scope : ℕ} {path : Labels} (i : Storing m t w₀ w from to q scope path) where
   module _ (more : q < to) where
     pub here-small : two m (q + 3) < 1024
-    here-small = small-first m more (i .small)
+    here-small = each-here m more (i .small)
 
     first-left : {gs vs : List Given} → Gives t gs → (l : Left m w₀ w q to scope path gs vs) → FirstValue m t q (fieldsIn m (endOf m q) to) gs (l .values)
     first-left {gs} g l = first-value m q (fieldsIn m (endOf m q) to) g here-small (ap (λ (qs : List ℕ). parameterValues (parametersAt m qs) gs) (sym (field-first m q to more)) ∙ l .are)
@@ -89,7 +89,7 @@ module _ {m t w₀ w : List ℕ} {from to q scope : ℕ} {path : Labels} (i : St
     pub store-further : {w′ : List ℕ} {a : Ran} {s : ℕ} → Stores m t w w′ q scope path a → a ≡ Done → s ≡ endOf m q → Storing m t w₀ w′ from to s scope path
     unfolding ranAs _>>=_
     store-further {w′} stored is next = rw next (record {
-      small = small-rest m more (i .small);
+      small = each-after m more (i .small);
       keeps = keeps-then (i .keeps) (stored .keeps);
       left = λ gs vs g e.
           let l = i .left gs vs g e in

@@ -62,7 +62,7 @@ fn find_unknown(m: &[u8], first: usize, end: usize, from: usize, to: usize) -> c
 // The value of the parameter at q: the one given, or else its default.
 fn value_of(m: &[u8], q: usize, table: &[u8]) -> Held
     requires { ⌜ q ≤ 65535 ⌝ }
-    ensures { λ r. ⌜ (two (now (m .entry)) (q + 3) < 1024 → r ≡ heldOf (parameterValue (now (m .entry)) (now (table .entry)) q)) ⌝ }
+    ensures { λ r. ⌜ r ≡ heldOf (parameterValue (now (m .entry)) (now (table .entry)) q) ⌝ }
 {
     let held = attributes::given(table, wire::two_at(m, q + 3));
     match held {
@@ -78,7 +78,7 @@ fn value_of(m: &[u8], q: usize, table: &[u8]) -> Held
 // The first parameter from `from` to `to` without a value.
 fn find_missing(m: &[u8], from: usize, to: usize, table: &[u8]) -> catalog::Place
     requires { ⌜ to ≤ 65535 ⌝ }
-    ensures { λ r. ⌜ (SmallNames (now (m .entry)) (fieldsIn (now (m .entry)) from to) → r ≡ missingIn (now (m .entry)) (now (table .entry)) (fieldsIn (now (m .entry)) from to)) × Below to r ⌝ }
+    ensures { λ r. ⌜ (r ≡ missingIn (now (m .entry)) (now (table .entry)) (fieldsIn (now (m .entry)) from to)) × Below to r ⌝ }
 {
     let mut q = from;
     while q < to {

@@ -1,21 +1,24 @@
--- `evaluate_attributes`: at the loop's head the attributes up to q are evaluated into the table, which is as long as it was.
+-- `evaluate_attributes`: at the loop's head the attributes up to q are evaluated into the table, which is as long as it was, and has rows for the others.
 use Prim.Native.Nat.{_-_}
 use mathlib.Core.Path.{_≡_, refl}
 use native.Mathlib.Omega.{arith}
 use borrow.Author.Needs.{needs}
 use lib.ListN.{length}
+use Rattle.wire.specs.Bytes.{fieldsIn}
+use Rattle.attributes.specs.Table.{Rows}
+use Rattle.attributes.proofs.Table.{each-after, row-here}
 use Rattle.attributes.proofs.Evaluating.{Evaluating, evaluating-begins, deep, expression-sized, evaluating-stops, evaluating-on, evaluating-ends}
 use Rattle.attributes.proofs.evaluate_attributes.Statement.{statement}
 use Rattle.attributes.proofs.evaluate_attributes.Tie as tie
 
 abbrev Inv-loop : tie.InvT-loop
-Inv-loop m depth first end work out fill scope base-is-node table₀ q₀ table q = Evaluating m work out fill scope base-is-node depth first end q table × (length table ≡ length table₀)
+Inv-loop m depth first end work out fill scope base-is-node table₀ q₀ table q = Evaluating m work out fill scope base-is-node depth first end q table × (Rows m (length table₀) (fieldsIn m q end) × (length table ≡ length table₀))
 
 abbrev μ-loop : tie.MeasureT-loop
 μ-loop m depth first end work out fill scope base-is-node table₀ q₀ table q = end - q
 
 loop-holds : tie.Need-loop-holds Inv-loop μ-loop
-loop-holds c = (evaluating-begins (c .before .before .before .before .pre .0 .1) (c .before .before .before .before .pre .1 .1), refl)
+loop-holds c = (evaluating-begins (c .before .before .before .before .pre .0 .1) (c .before .before .before .before .pre .1 .blank), (c .before .before .before .before .pre .1 .rows, refl))
 
 sub-evaluate : tie.Need-sub-evaluate Inv-loop μ-loop
 sub-evaluate c = omega (arith, deep (c .before .loop .inv .0) (c .loop-test .taken))
@@ -30,7 +33,7 @@ enum-known-e : tie.Need-enum-known-e Inv-loop μ-loop
 enum-known-e c = search needs
 
 same-length : tie.Need-same-length Inv-loop μ-loop
-same-length c = c .before .before .before .before .before .loop .inv .1
+same-length c = c .before .before .before .before .before .loop .inv .1 .1
 
 returns : tie.Need-returns Inv-loop μ-loop
 returns c = evaluating-stops (c .before .before .before .before .before .loop .inv .0) (c .before .before .before .before .loop-test .taken) (c .before .before .before .evaluate .ensures) (c .before .e .given .1)
@@ -45,7 +48,7 @@ two-at-requires : tie.Need-two-at-requires Inv-loop μ-loop
 two-at-requires c κs = tt
 
 add-given-requires : tie.Need-add-given-requires Inv-loop μ-loop
-add-given-requires c κs = omega (arith, c .before .before .before .before .before .before .before .loop .inv .1, c .before .before .before .before .before .before .before .before .before .before .before .before .pre .1 .0)
+add-given-requires c κs = let inv = c .before .before .before .before .before .before .before .loop .inv .1 in row-here _ (c .before .before .before .before .before .before .loop-test .taken) (inv .0) (c .two-at .ensures) (inv .1)
 
 end-of-requires : tie.Need-end-of-requires Inv-loop μ-loop
 end-of-requires c κs = omega (arith, c .before .before .before .before .before .before .before .before .before .loop-test .taken, c .before .before .before .before .before .before .before .before .before .before .before .before .before .before .before .pre .0 .0 .place)
@@ -54,10 +57,10 @@ loop-less : tie.Need-loop-less Inv-loop μ-loop
 loop-less c = omega (arith, c .before .before .before .before .before .before .before .before .before .before .loop-test .taken, c .end-of .ensures)
 
 loop-again : tie.Need-loop-again Inv-loop μ-loop
-loop-again c = (evaluating-on (c .before .before .before .before .before .before .before .before .before .before .before .loop .inv .0) (c .before .before .before .before .before .before .before .before .before .before .loop-test .taken) (c .before .before .before .before .before .before .before .before .before .evaluate .ensures) _ (c .before .before .before .before .before .before .before .e2 .given .1) (c .before .before .before .before .two-at .ensures) (c .before .before .before .add-given .ensures) (c .end-of .ensures), omega arith)
+loop-again c = (evaluating-on (c .before .before .before .before .before .before .before .before .before .before .before .loop .inv .0) (c .before .before .before .before .before .before .before .before .before .before .loop-test .taken) (c .before .before .before .before .before .before .before .before .before .evaluate .ensures) _ (c .before .before .before .before .before .before .before .e2 .given .1) (c .before .before .before .before .two-at .ensures) (c .before .before .before .add-given .ensures) (c .end-of .ensures), (rw (c .end-of .ensures) (each-after _ (c .before .before .before .before .before .before .before .before .before .before .loop-test .taken) (c .before .before .before .before .before .before .before .before .before .before .before .loop .inv .1 .0)), omega (arith, c .before .before .before .before .before .before .before .before .before .before .before .loop .inv .1 .1)))
 
 same-length-2 : tie.Need-same-length-2 Inv-loop μ-loop
-same-length-2 c = c .before .loop .inv .1
+same-length-2 c = c .before .loop .inv .1 .1
 
 returns-2 : tie.Need-returns-2 Inv-loop μ-loop
 returns-2 c = evaluating-ends (c .before .loop .inv .0) (c .loop-test .left)

@@ -3,6 +3,7 @@ use mathlib.Core.Logic.{⊎-elim}
 use native.Mathlib.Omega.{arith}
 use borrow.Author.Needs.{needs}
 use Rattle.evaluator.proofs.Expressions.{resized}
+use Rattle.attributes.proofs.Table.{fresh-between}
 use Rattle.attributes.proofs.Titled.{deep, titled-attributes, title-near, end-near, title-stops, title-wrong, attributes-stop, all-given}
 use Rattle.attributes.proofs.evaluate_titled.Statement.{statement}
 use Rattle.attributes.proofs.evaluate_titled.Tie as tie
@@ -52,7 +53,7 @@ sub-evaluate-attributes c = omega (arith, deep (c .before .before .before .befor
 evaluate-attributes-requires : tie.Need-evaluate-attributes-requires
 evaluate-attributes-requires c κs =
     let s = c .before .before .before .before .before .before .before .before .before .before .before .before .before in
-    ((resized (s .pre .0 .0 .0) (omega (arith, c .before .end-of2 .ensures, end-near (s .pre .0 .0 .1) (s .pre .0 .1) (s .pre .0 .0 .0 .manifest))), titled-attributes (s .pre .0 .0 .1) (s .pre .0 .1) (c .before .before .end-of .ensures) (c .before .end-of2 .ensures)), s .pre .1)
+    ((resized (s .pre .0 .0 .0) (omega (arith, c .before .end-of2 .ensures, end-near (s .pre .0 .0 .1) (s .pre .0 .1) (s .pre .0 .0 .0 .manifest))), titled-attributes (s .pre .0 .0 .1) (s .pre .0 .1) (c .before .before .end-of .ensures) (c .before .end-of2 .ensures)), fresh-between (c .before .before .end-of .ensures) (c .before .end-of2 .ensures) (s .pre .1))
 
 enum-known-g : tie.Need-enum-known-g
 enum-known-g c = search needs

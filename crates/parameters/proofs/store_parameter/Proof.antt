@@ -27,13 +27,13 @@ store-requires : tie.Need-store-requires
 store-requires c κs = (c .before .before .before .before .before .before .before .before .before .pre .1 .0, (omega (arith, c .two-at .ensures, c .before .before .before .before .before .before .before .before .before .pre .1 .1), c .before .before .before .before .before .before .before .before .before .pre .0))
 
 returns : tie.Need-returns
-returns c = store-nothing (c .before .before .before .before .before .before .before .pre .1 .1) (c .before .before .before .value-of .ensures) _ (c .before .enum-told .given .1)
+returns c = store-nothing (c .before .before .before .value-of .ensures) _ (c .before .enum-told .given .1)
 
 same-length : tie.Need-same-length
 same-length c = search needs
 
 returns-2 : tie.Need-returns-2
-returns-2 c = store-value (c .before .before .before .before .before .before .before .before .before .before .before .before .pre .1 .1) (c .before .before .before .before .before .before .before .before .value-of .ensures) _ (c .before .before .before .before .before .before .held .given .1) (c .before .before .before .two-at .ensures) (c .before .before .store .ensures)
+returns-2 c = store-value (c .before .before .before .before .before .before .before .before .value-of .ensures) _ (c .before .before .before .before .before .before .held .given .1) (c .before .before .before .two-at .ensures) (c .before .before .store .ensures)
 
 pub store-parameter-spec : {M : Type 1} → statement M
 store-parameter-spec =

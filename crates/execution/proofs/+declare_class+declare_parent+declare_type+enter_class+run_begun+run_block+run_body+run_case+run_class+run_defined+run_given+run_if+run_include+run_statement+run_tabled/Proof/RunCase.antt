@@ -2,8 +2,8 @@
 use Prim.Native.Nat.{ℕ}
 use native.Mathlib.Omega.{arith}
 use Rattle.execution.proofs.run_case.Reads as run-case
-use Rattle.execution.proofs.+declare_class+declare_parent+declare_type+enter_class+run_begun+run_block+run_body+run_case+run_class+run_defined+run_if+run_include+run_statement.Lts-run_case as run-case-lts
-use Rattle.execution.proofs.+declare_class+declare_parent+declare_type+enter_class+run_begun+run_block+run_body+run_case+run_class+run_defined+run_if+run_include+run_statement.Proof.Measures.{run-case-calls, run-case-at}
+use Rattle.execution.proofs.+declare_class+declare_parent+declare_type+enter_class+run_begun+run_block+run_body+run_case+run_class+run_defined+run_given+run_if+run_include+run_statement+run_tabled.Lts-run_case as run-case-lts
+use Rattle.execution.proofs.+declare_class+declare_parent+declare_type+enter_class+run_begun+run_block+run_body+run_case+run_class+run_defined+run_given+run_if+run_include+run_statement+run_tabled.Proof.Measures.{run-case-calls, run-case-at}
 use mathlib.Core.Path.{refl, _∙_}
 use Rattle.execution.proofs.Ends.{able-kept}
 use Rattle.execution.proofs.Statements.{sized, case-block, case-refused, case-passed, case-chosen}

@@ -5,8 +5,8 @@ use mathlib.Core.Path.{refl, _∙_}
 use Rattle.execution.proofs.Ends.{able-after}
 use Rattle.execution.proofs.Types.{body-refused, body-done}
 use Rattle.execution.proofs.run_body.Reads as run-body
-use Rattle.execution.proofs.+declare_class+declare_parent+declare_type+enter_class+run_begun+run_block+run_body+run_case+run_class+run_defined+run_if+run_include+run_statement.Lts-run_body as run-body-lts
-use Rattle.execution.proofs.+declare_class+declare_parent+declare_type+enter_class+run_begun+run_block+run_body+run_case+run_class+run_defined+run_if+run_include+run_statement.Proof.Measures.{run-body-calls, run-body-at}
+use Rattle.execution.proofs.+declare_class+declare_parent+declare_type+enter_class+run_begun+run_block+run_body+run_case+run_class+run_defined+run_given+run_if+run_include+run_statement+run_tabled.Lts-run_body as run-body-lts
+use Rattle.execution.proofs.+declare_class+declare_parent+declare_type+enter_class+run_begun+run_block+run_body+run_case+run_class+run_defined+run_given+run_if+run_include+run_statement+run_tabled.Proof.Measures.{run-body-calls, run-body-at}
 
 pub add-scope : (t : ℕ) → run-body-lts.Need-add-scope (run-body-calls t) (run-body-at t) run-body.Post
 add-scope t c = omega (arith, c .before .before .before .fits .levels)

@@ -10,39 +10,45 @@ mod RunBody
 mod RunCase
 mod RunClass
 mod RunDefined
+mod RunGiven
 mod RunIf
 mod RunInclude
 mod RunStatement
+mod RunTabled
 use mathlib.Core.Path.{refl}
-use Rattle.execution.proofs.+declare_class+declare_parent+declare_type+enter_class+run_begun+run_block+run_body+run_case+run_class+run_defined+run_if+run_include+run_statement.{statement}
-use Rattle.execution.proofs.+declare_class+declare_parent+declare_type+enter_class+run_begun+run_block+run_body+run_case+run_class+run_defined+run_if+run_include+run_statement.Tie.{close}
+use Rattle.execution.proofs.+declare_class+declare_parent+declare_type+enter_class+run_begun+run_block+run_body+run_case+run_class+run_defined+run_given+run_if+run_include+run_statement+run_tabled.{statement}
+use Rattle.execution.proofs.+declare_class+declare_parent+declare_type+enter_class+run_begun+run_block+run_body+run_case+run_class+run_defined+run_given+run_if+run_include+run_statement+run_tabled.Tie.{close}
 use Rattle.execution.proofs.declare_class.Reads as declare-class
-use Rattle.execution.proofs.+declare_class+declare_parent+declare_type+enter_class+run_begun+run_block+run_body+run_case+run_class+run_defined+run_if+run_include+run_statement.Lts-declare_class as declare-class-lts
+use Rattle.execution.proofs.+declare_class+declare_parent+declare_type+enter_class+run_begun+run_block+run_body+run_case+run_class+run_defined+run_given+run_if+run_include+run_statement+run_tabled.Lts-declare_class as declare-class-lts
 use Rattle.execution.proofs.declare_parent.Reads as declare-parent
-use Rattle.execution.proofs.+declare_class+declare_parent+declare_type+enter_class+run_begun+run_block+run_body+run_case+run_class+run_defined+run_if+run_include+run_statement.Lts-declare_parent as declare-parent-lts
+use Rattle.execution.proofs.+declare_class+declare_parent+declare_type+enter_class+run_begun+run_block+run_body+run_case+run_class+run_defined+run_given+run_if+run_include+run_statement+run_tabled.Lts-declare_parent as declare-parent-lts
 use Rattle.execution.proofs.declare_type.Reads as declare-type
-use Rattle.execution.proofs.+declare_class+declare_parent+declare_type+enter_class+run_begun+run_block+run_body+run_case+run_class+run_defined+run_if+run_include+run_statement.Lts-declare_type as declare-type-lts
+use Rattle.execution.proofs.+declare_class+declare_parent+declare_type+enter_class+run_begun+run_block+run_body+run_case+run_class+run_defined+run_given+run_if+run_include+run_statement+run_tabled.Lts-declare_type as declare-type-lts
 use Rattle.execution.proofs.enter_class.Reads as enter-class
-use Rattle.execution.proofs.+declare_class+declare_parent+declare_type+enter_class+run_begun+run_block+run_body+run_case+run_class+run_defined+run_if+run_include+run_statement.Lts-enter_class as enter-class-lts
+use Rattle.execution.proofs.+declare_class+declare_parent+declare_type+enter_class+run_begun+run_block+run_body+run_case+run_class+run_defined+run_given+run_if+run_include+run_statement+run_tabled.Lts-enter_class as enter-class-lts
 use Rattle.execution.proofs.run_begun.Reads as run-begun
-use Rattle.execution.proofs.+declare_class+declare_parent+declare_type+enter_class+run_begun+run_block+run_body+run_case+run_class+run_defined+run_if+run_include+run_statement.Lts-run_begun as run-begun-lts
+use Rattle.execution.proofs.+declare_class+declare_parent+declare_type+enter_class+run_begun+run_block+run_body+run_case+run_class+run_defined+run_given+run_if+run_include+run_statement+run_tabled.Lts-run_begun as run-begun-lts
 use Rattle.execution.proofs.run_block.Reads as run-block
-use Rattle.execution.proofs.+declare_class+declare_parent+declare_type+enter_class+run_begun+run_block+run_body+run_case+run_class+run_defined+run_if+run_include+run_statement.Lts-run_block as run-block-lts
+use Rattle.execution.proofs.+declare_class+declare_parent+declare_type+enter_class+run_begun+run_block+run_body+run_case+run_class+run_defined+run_given+run_if+run_include+run_statement+run_tabled.Lts-run_block as run-block-lts
 use Rattle.execution.proofs.run_body.Reads as run-body
-use Rattle.execution.proofs.+declare_class+declare_parent+declare_type+enter_class+run_begun+run_block+run_body+run_case+run_class+run_defined+run_if+run_include+run_statement.Lts-run_body as run-body-lts
+use Rattle.execution.proofs.+declare_class+declare_parent+declare_type+enter_class+run_begun+run_block+run_body+run_case+run_class+run_defined+run_given+run_if+run_include+run_statement+run_tabled.Lts-run_body as run-body-lts
 use Rattle.execution.proofs.run_case.Reads as run-case
-use Rattle.execution.proofs.+declare_class+declare_parent+declare_type+enter_class+run_begun+run_block+run_body+run_case+run_class+run_defined+run_if+run_include+run_statement.Lts-run_case as run-case-lts
+use Rattle.execution.proofs.+declare_class+declare_parent+declare_type+enter_class+run_begun+run_block+run_body+run_case+run_class+run_defined+run_given+run_if+run_include+run_statement+run_tabled.Lts-run_case as run-case-lts
 use Rattle.execution.proofs.run_class.Reads as run-class
-use Rattle.execution.proofs.+declare_class+declare_parent+declare_type+enter_class+run_begun+run_block+run_body+run_case+run_class+run_defined+run_if+run_include+run_statement.Lts-run_class as run-class-lts
+use Rattle.execution.proofs.+declare_class+declare_parent+declare_type+enter_class+run_begun+run_block+run_body+run_case+run_class+run_defined+run_given+run_if+run_include+run_statement+run_tabled.Lts-run_class as run-class-lts
 use Rattle.execution.proofs.run_defined.Reads as run-defined
-use Rattle.execution.proofs.+declare_class+declare_parent+declare_type+enter_class+run_begun+run_block+run_body+run_case+run_class+run_defined+run_if+run_include+run_statement.Lts-run_defined as run-defined-lts
+use Rattle.execution.proofs.+declare_class+declare_parent+declare_type+enter_class+run_begun+run_block+run_body+run_case+run_class+run_defined+run_given+run_if+run_include+run_statement+run_tabled.Lts-run_defined as run-defined-lts
+use Rattle.execution.proofs.run_given.Reads as run-given
+use Rattle.execution.proofs.+declare_class+declare_parent+declare_type+enter_class+run_begun+run_block+run_body+run_case+run_class+run_defined+run_given+run_if+run_include+run_statement+run_tabled.Lts-run_given as run-given-lts
 use Rattle.execution.proofs.run_if.Reads as run-if
-use Rattle.execution.proofs.+declare_class+declare_parent+declare_type+enter_class+run_begun+run_block+run_body+run_case+run_class+run_defined+run_if+run_include+run_statement.Lts-run_if as run-if-lts
+use Rattle.execution.proofs.+declare_class+declare_parent+declare_type+enter_class+run_begun+run_block+run_body+run_case+run_class+run_defined+run_given+run_if+run_include+run_statement+run_tabled.Lts-run_if as run-if-lts
 use Rattle.execution.proofs.run_include.Reads as run-include
-use Rattle.execution.proofs.+declare_class+declare_parent+declare_type+enter_class+run_begun+run_block+run_body+run_case+run_class+run_defined+run_if+run_include+run_statement.Lts-run_include as run-include-lts
+use Rattle.execution.proofs.+declare_class+declare_parent+declare_type+enter_class+run_begun+run_block+run_body+run_case+run_class+run_defined+run_given+run_if+run_include+run_statement+run_tabled.Lts-run_include as run-include-lts
 use Rattle.execution.proofs.run_statement.Reads as run-statement
-use Rattle.execution.proofs.+declare_class+declare_parent+declare_type+enter_class+run_begun+run_block+run_body+run_case+run_class+run_defined+run_if+run_include+run_statement.Lts-run_statement as run-statement-lts
-use Measures.{μ-declare-class, declare-class-at, declare-class-calls, μ-declare-parent, declare-parent-at, declare-parent-calls, μ-declare-type, declare-type-at, declare-type-calls, μ-enter-class, enter-class-at, enter-class-calls, μ-run-begun, run-begun-at, run-begun-calls, μ-run-block, run-block-at, run-block-calls, μ-run-body, run-body-at, run-body-calls, μ-run-case, run-case-at, run-case-calls, μ-run-class, run-class-at, run-class-calls, μ-run-defined, run-defined-at, run-defined-calls, μ-run-if, run-if-at, run-if-calls, μ-run-include, run-include-at, run-include-calls, μ-run-statement, run-statement-at, run-statement-calls}
+use Rattle.execution.proofs.+declare_class+declare_parent+declare_type+enter_class+run_begun+run_block+run_body+run_case+run_class+run_defined+run_given+run_if+run_include+run_statement+run_tabled.Lts-run_statement as run-statement-lts
+use Rattle.execution.proofs.run_tabled.Reads as run-tabled
+use Rattle.execution.proofs.+declare_class+declare_parent+declare_type+enter_class+run_begun+run_block+run_body+run_case+run_class+run_defined+run_given+run_if+run_include+run_statement+run_tabled.Lts-run_tabled as run-tabled-lts
+use Measures.{μ-declare-class, declare-class-at, declare-class-calls, μ-declare-parent, declare-parent-at, declare-parent-calls, μ-declare-type, declare-type-at, declare-type-calls, μ-enter-class, enter-class-at, enter-class-calls, μ-run-begun, run-begun-at, run-begun-calls, μ-run-block, run-block-at, run-block-calls, μ-run-body, run-body-at, run-body-calls, μ-run-case, run-case-at, run-case-calls, μ-run-class, run-class-at, run-class-calls, μ-run-defined, run-defined-at, run-defined-calls, μ-run-given, run-given-at, run-given-calls, μ-run-if, run-if-at, run-if-calls, μ-run-include, run-include-at, run-include-calls, μ-run-statement, run-statement-at, run-statement-calls, μ-run-tabled, run-tabled-at, run-tabled-calls}
 use DeclareClass as declare-class-answers
 use DeclareParent as declare-parent-answers
 use DeclareType as declare-type-answers
@@ -53,13 +59,15 @@ use RunBody as run-body-answers
 use RunCase as run-case-answers
 use RunClass as run-class-answers
 use RunDefined as run-defined-answers
+use RunGiven as run-given-answers
 use RunIf as run-if-answers
 use RunInclude as run-include-answers
 use RunStatement as run-statement-answers
+use RunTabled as run-tabled-answers
 
-pub +declare-class+declare-parent+declare-type+enter-class+run-begun+run-block+run-body+run-case+run-class+run-defined+run-if+run-include+run-statement-spec : {M : Type 1} → statement M
-+declare-class+declare-parent+declare-type+enter-class+run-begun+run-block+run-body+run-case+run-class+run-defined+run-if+run-include+run-statement-spec =
-    close μ-declare-class μ-declare-parent μ-declare-type μ-enter-class μ-run-begun μ-run-block μ-run-body μ-run-case μ-run-class μ-run-defined μ-run-if μ-run-include μ-run-statement
+pub +declare-class+declare-parent+declare-type+enter-class+run-begun+run-block+run-body+run-case+run-class+run-defined+run-given+run-if+run-include+run-statement+run-tabled-spec : {M : Type 1} → statement M
++declare-class+declare-parent+declare-type+enter-class+run-begun+run-block+run-body+run-case+run-class+run-defined+run-given+run-if+run-include+run-statement+run-tabled-spec =
+    close μ-declare-class μ-declare-parent μ-declare-type μ-enter-class μ-run-begun μ-run-block μ-run-body μ-run-case μ-run-class μ-run-defined μ-run-given μ-run-if μ-run-include μ-run-statement μ-run-tabled
     (λ t. declare-class-lts.spec (declare-class-calls t) (declare-class-at t) declare-class.Post
     (declare-class-answers.refusal-requires t)
     (declare-class-answers.returns t)
@@ -136,38 +144,33 @@ pub +declare-class+declare-parent+declare-type+enter-class+run-begun+run-block+r
     (run-begun-answers.run-if-requires t)
     (run-begun-answers.run-case-requires t)
     (run-begun-answers.run-resource-requires t)
-    (run-begun-answers.run-defined-requires t)
+    (run-begun-answers.add-end-of t)
+    (run-begun-answers.end-of-requires t)
+    (run-begun-answers.run-given-requires t)
+    (run-begun-answers.add-run-given t)
+    (run-begun-answers.run-given-requires-2 t)
+    (run-begun-answers.run-include-requires t)
     (run-begun-answers.same-length t)
-    (run-begun-answers.same-length-2 t)
+    (λ c. refl)
     (run-begun-answers.returns t)
-    (run-begun-answers.run-defined-requires-2 t)
-    (run-begun-answers.run-class-requires t)
     (run-begun-answers.same-length-3 t)
     (run-begun-answers.same-length-4 t)
     (run-begun-answers.returns-2 t)
-    (run-begun-answers.run-class-requires-2 t)
-    (run-begun-answers.run-include-requires t)
     (run-begun-answers.same-length-5 t)
-    (λ c. refl)
+    (run-begun-answers.same-length-6 t)
     (run-begun-answers.returns-3 t)
-    (run-begun-answers.same-length-7 t)
+    (λ c. refl)
     (run-begun-answers.same-length-8 t)
     (run-begun-answers.returns-4 t)
     (run-begun-answers.same-length-9 t)
     (run-begun-answers.same-length-10 t)
     (run-begun-answers.returns-5 t)
-    (λ c. refl)
+    (run-begun-answers.same-length-11 t)
     (run-begun-answers.same-length-12 t)
     (run-begun-answers.returns-6 t)
     (run-begun-answers.same-length-13 t)
     (run-begun-answers.same-length-14 t)
-    (run-begun-answers.returns-7 t)
-    (run-begun-answers.same-length-15 t)
-    (run-begun-answers.same-length-16 t)
-    (run-begun-answers.returns-8 t)
-    (run-begun-answers.same-length-17 t)
-    (run-begun-answers.same-length-18 t)
-    (run-begun-answers.returns-9 t))
+    (run-begun-answers.returns-7 t))
     (λ t. run-block-lts.spec (run-block-calls t) (run-block-at t) run-block.Post
     run-block-answers.Inv-loop
     run-block-answers.μ-loop
@@ -220,36 +223,49 @@ pub +declare-class+declare-parent+declare-type+enter-class+run-begun+run-block+r
     (run-class-answers.add-first t)
     (run-class-answers.end-of-requires t)
     (run-class-answers.sub-evaluate-attributes t)
-    (run-class-answers.slice-aggregate-evaluate-attributes t)
     (run-class-answers.evaluate-attributes-requires t)
     (λ c. c .match .keys1)
     (λ c. c .match .keys2)
     (run-class-answers.add-two-at t)
     (λ c κs. tt)
-    (run-class-answers.slice-aggregate-declare-class t)
     (run-class-answers.declare-class-requires t)
     (λ c. refl)
     (λ c. refl)
-    (run-class-answers.returns t)
     (run-class-answers.same-length-3 t)
+    (run-class-answers.returns t)
     (run-class-answers.same-length-4 t)
+    (run-class-answers.same-length-5 t)
+    (run-class-answers.same-length-6 t)
     (run-class-answers.returns-2 t))
     (λ t. run-defined-lts.spec (run-defined-calls t) (run-defined-at t) run-defined.Post
-    (run-defined-answers.slice-aggregate-evaluate-titled t)
     (run-defined-answers.evaluate-titled-requires t)
     (λ c. c .match .keys1)
     (λ c. c .match .keys2)
     (run-defined-answers.add-end-of t)
     (run-defined-answers.end-of-requires t)
     (run-defined-answers.end-of-requires-2 t)
-    (run-defined-answers.slice-aggregate-declare-type t)
     (run-defined-answers.declare-type-requires t)
     (λ c. refl)
     (λ c. refl)
-    (run-defined-answers.returns t)
     (run-defined-answers.same-length-3 t)
+    (run-defined-answers.returns t)
     (run-defined-answers.same-length-4 t)
+    (run-defined-answers.same-length-5 t)
+    (run-defined-answers.same-length-6 t)
     (run-defined-answers.returns-2 t))
+    (λ t. run-given-lts.spec (run-given-calls t) (run-given-at t) run-given.Post
+    (run-given-answers.end-of-requires t)
+    (run-given-answers.has-name-from-requires t)
+    (run-given-answers.slice-aggregate-run-tabled t)
+    (run-given-answers.run-tabled-requires t)
+    (run-given-answers.same-length t)
+    (run-given-answers.same-length-2 t)
+    (run-given-answers.returns t)
+    (run-given-answers.slice-aggregate-run-tabled-2 t)
+    (run-given-answers.run-tabled-requires-2 t)
+    (run-given-answers.same-length-3 t)
+    (run-given-answers.same-length-4 t)
+    (run-given-answers.returns-2 t))
     (λ t. run-if-lts.spec (run-if-calls t) (run-if-at t) run-if.Post
     (run-if-answers.test-if-requires t)
     (λ c. c .match .keys1)
@@ -277,11 +293,23 @@ pub +declare-class+declare-parent+declare-type+enter-class+run-begun+run-block+r
     (run-include-answers.same-length-2 t)
     (run-include-answers.same-length-3 t)
     (run-include-answers.returns-2 t))
-    λ t. run-statement-lts.spec (run-statement-calls t) (run-statement-at t) run-statement.Post
+    (λ t. run-statement-lts.spec (run-statement-calls t) (run-statement-at t) run-statement.Post
     (run-statement-answers.refusal-requires t)
     (run-statement-answers.returns t)
     (run-statement-answers.sub-left t)
     (run-statement-answers.run-begun-requires t)
     (run-statement-answers.same-length t)
     (run-statement-answers.same-length-2 t)
-    (run-statement-answers.returns-2 t)
+    (run-statement-answers.returns-2 t))
+    λ t. run-tabled-lts.spec (run-tabled-calls t) (run-tabled-at t) run-tabled.Post
+    (λ c κs. tt)
+    (run-tabled-answers.run-class-requires t)
+    (run-tabled-answers.same-length t)
+    (run-tabled-answers.same-length-2 t)
+    (run-tabled-answers.same-length-3 t)
+    (run-tabled-answers.returns t)
+    (run-tabled-answers.run-defined-requires t)
+    (run-tabled-answers.same-length-4 t)
+    (run-tabled-answers.same-length-5 t)
+    (run-tabled-answers.same-length-6 t)
+    (run-tabled-answers.returns-2 t)
