@@ -1,7 +1,6 @@
 -- From slots to cells by scope number and name. No invariant is needed: the first match determines every cell.
 use mathlib.Core.Path.{_≡_, refl, sym, ap, _∙_, subst}
 use mathlib.Core.Bool.{Bool, true, false, not, _&&_}
-use mathlib.Core.List.{List}
 use mathlib.Core.Option.{none}
 use Prim.Native.Nat.{ℕ, suc, _+_, _≤_, _<_}
 use native.Mathlib.Nat.{add-zero}
@@ -14,11 +13,11 @@ use Rattle.wire.specs.Bytes.{pick}
 use Rattle.rules.specs.State.{noCell, count, isSome, oneIf}
 use Rattle.cells.specs.declared.Found.{Found}
 use Rattle.cells.specs.declared.Found.the-variants.{At, Nothing}
-use Rattle.cells.specs.Layout.{Slot, slot, putAt}
-use Rattle.cells.specs.Slots.{hit, inUse, valueIn, markIn, cellIn, claimed, firstFrom, slotFor, freeSlot, Obtained, obtained, claimFirst, obtainFrom, obtain}
+use Rattle.cells.specs.Layout.{Slot, slot, Beside, putAt}
+use Rattle.cells.specs.Slots.{hit, usedState, inUse, isReached, neverUsed, valueIn, markIn, cellIn, claimed, lastBelow, slotFor, freeSlot, Obtained, obtained, claimFirst, obtainFrom, obtain}
 use Rattle.cells.specs.Memory.{cellAt, cellsIn, usedIn}
 use Rattle.cells.proofs.Tables.{put-same, put-other, put-put, put-kept}
-use Rattle.cells.proofs.Search.{Hit, was-found, not-found, find-new, count-new, count-all, count-le, count-room}
+use Rattle.cells.proofs.Search.{Hit, was-found, not-found, Below, was-last, not-last, last-new, count-new, count-all, count-le, count-room}
 
 -- ---- Keys
 
@@ -29,23 +28,41 @@ split-key false v z e = let k : _≡_ {A = ℕ} 0 1 = cc in absurd (omega arith)
 
 pub hit-key : (s n s′ n′ : ℕ) (x : Slot) → hit s n x ≡ true → hit s′ n′ x ≡ true → (s′ ≡ s) × (n′ ≡ n)
 unfolding hit
-hit-key s n s′ n′ (slot t a b p l m) e e′ =
-    let c = split-key (eqb a s) (eqb b n) (not (eqb t 0)) e in
-    let d = split-key (eqb a s′) (eqb b n′) (not (eqb t 0)) e′ in
+hit-key s n s′ n′ (slot r t a b p l m) e e′ =
+    let c = split-key (eqb a s) (eqb b n) (pick r (usedState t) false) e in
+    let d = split-key (eqb a s′) (eqb b n′) (pick r (usedState t) false) e′ in
     (sym (eqb-true a s′ (d .0)) ∙ eqb-true a s (c .0), sym (eqb-true b n′ (d .1 .0)) ∙ eqb-true b n (c .1 .0))
+
+pub both : (u v : Bool) → pick u v false ≡ true → (u ≡ true) × (v ≡ true)
+both true v e = (refl, e)
+both false v e = let k : _≡_ {A = ℕ} 0 1 = cc in absurd (omega arith)
 
 pub hit-used : (s n : ℕ) (x : Slot) → hit s n x ≡ true → inUse x ≡ true
 unfolding hit inUse
-hit-used s n (slot t a b p l m) e = split-key (eqb a s) (eqb b n) (not (eqb t 0)) e .1 .1
+hit-used s n (slot r t a b p l m) e = both r (usedState t) (split-key (eqb a s) (eqb b n) (pick r (usedState t) false) e .1 .1) .1
+
+pub hit-reached : (s n : ℕ) (x : Slot) → hit s n x ≡ true → isReached x ≡ true
+unfolding hit isReached
+hit-reached s n (slot r t a b p l m) e = both r (usedState t) (split-key (eqb a s) (eqb b n) (pick r (usedState t) false) e .1 .1) .0
 
 pub free-miss : (s n : ℕ) (x : Slot) → inUse x ≡ false → hit s n x ≡ false
 unfolding hit inUse
-free-miss s n (slot t a b p l m) e = go (eqb a s) (eqb b n)
+free-miss s n (slot r t a b p l m) e = go (eqb a s) (eqb b n) r
   where
-    go : (u v : Bool) → pick u (pick v (not (eqb t 0)) false) false ≡ false
-    go true true = e
-    go true false = refl
-    go false v = refl
+    go : (u v r : Bool) → pick u (pick v (pick r (usedState t) false) false) false ≡ false
+    go true true true = e
+    go true true false = refl
+    go true false r = refl
+    go false v r = refl
+
+-- a slot that is in use was used
+pub used-once : (x : Slot) → inUse x ≡ true → neverUsed x ≡ false
+unfolding inUse neverUsed usedState
+used-once (slot r t s n p a m) u = go (eqb t 0) u
+  where
+    go : (z : Bool) → pick z false (not (eqb t 5)) ≡ true → z ≡ false
+    go true e = sym e
+    go false e = refl
 
 pub to-false : (b : Bool) → (b ≡ true → ⊥) → b ≡ false
 to-false true h = absurd (h refl)
@@ -55,8 +72,8 @@ pub not-hit : (s n s′ n′ : ℕ) (x : Slot) → hit s n x ≡ true → (s′ 
 not-hit s n s′ n′ x e ne = to-false (hit s′ n′ x) (λ p. (let k = hit-key s n s′ n′ x e p in ne (k .0) (k .1)))
 
 pub claimed-hit : (s n : ℕ) (x : Slot) → hit s n (claimed s n x) ≡ true
-unfolding hit claimed
-claimed-hit s n (slot t a b p l m) = simp (eq-eqb s s refl, eq-eqb n n refl)
+unfolding hit claimed usedState
+claimed-hit s n (slot r t a b p l m) = simp (eq-eqb s s refl, eq-eqb n n refl)
 
 -- a store that leaves the key
 abbrev pub Keeps : Slot → Slot → Type 0
@@ -68,7 +85,7 @@ module _ (f : ℕ → Slot) (i : ℕ) (x : Slot) (s n : ℕ) (found : slotFor (p
   kept-cell : (s′ n′ : ℕ) → hit s′ n′ (f i) ≡ false → (r : Found) → slotFor f s′ n′ ≡ r → cellAt (putAt i x f) r ≡ cellAt f r
   unfolding cellAt slotFor
   kept-cell s′ n′ miss (At j) q =
-      let h = was-found 512 0 (λ k. hit s′ n′ (f k)) j q in
+      let h = was-last 512 (λ k. hit s′ n′ (f k)) j q in
       let ne : j ≡ i → ⊥ = λ e. (let a : hit s′ n′ (f i) ≡ true = rw e at (h .passes) in let z : _≡_ {A = ℕ} 0 1 = cc in omega arith) in
       rw (put-other i x f j ne)
   kept-cell s′ n′ miss Nothing q = refl
@@ -77,7 +94,7 @@ module _ (f : ℕ → Slot) (i : ℕ) (x : Slot) (s n : ℕ) (found : slotFor (p
   unfolding slotFor
   other-cell s′ n′ ne =
       let a = apart s′ n′ ne in
-      ap (λ (h : ℕ → Bool). cellAt (putAt i x f) (firstFrom 512 0 h)) (put-kept (hit s′ n′) i x f (a .0 ∙ sym (a .1))) ∙ kept-cell s′ n′ (a .1) (slotFor f s′ n′) refl
+      ap (λ (h : ℕ → Bool). cellAt (putAt i x f) (lastBelow 512 h)) (put-kept (hit s′ n′) i x f (a .0 ∙ sym (a .1))) ∙ kept-cell s′ n′ (a .1) (slotFor f s′ n′) refl
 
   own-cell : cellAt (putAt i x f) (slotFor (putAt i x f) s n) ≡ cellIn x
   unfolding cellAt
@@ -98,6 +115,7 @@ pub record Ready (f : ℕ → Slot) (s n i : ℕ) (f′ : ℕ → Slot) : Type 0
   pub below : i < 512
   pub value : valueIn (f′ i) ≡ cellsIn f s n .value
   pub mark : markIn (f′ i) ≡ cellsIn f s n .mark
+  pub key : hit s n (f′ i) ≡ true
   pub used : inUse (f′ i) ≡ true
   pub room : usedIn f + oneIf (not (cellsIn f s n .exists)) ≤ 512
   pub cells : (x : Slot) → Keeps x (f′ i) → (s′ n′ : ℕ) → cellsIn (putAt i x f′) s′ n′ ≡ pick (eqb s′ s && eqb n′ n) (cellIn x) (cellsIn f s′ n′)
@@ -109,13 +127,13 @@ used-small f = count-le 512 (λ i. inUse (f i))
 
 -- a key that is there
 module _ (f : ℕ → Slot) (s n i : ℕ) (found : slotFor f s n ≡ At i) where
-  there : Hit 512 0 (λ k. hit s n (f k)) i
+  there : Below 512 (λ k. hit s n (f k)) i
   unfolding slotFor
-  there = was-found 512 0 (λ k. hit s n (f k)) i found
+  there = was-last 512 (λ k. hit s n (f k)) i found
 
   still-found : (x : Slot) → Keeps x (f i) → slotFor (putAt i x f) s n ≡ At i
   unfolding slotFor
-  still-found x keeps = ap (firstFrom 512 0) (put-kept (hit s n) i x f (keeps s n)) ∙ found
+  still-found x keeps = ap (lastBelow 512) (put-kept (hit s n) i x f (keeps s n)) ∙ found
 
   still-used : (x : Slot) → Keeps x (f i) → usedIn (putAt i x f) ≡ usedIn f
   unfolding usedIn
@@ -129,6 +147,7 @@ module _ (f : ℕ → Slot) (s n i : ℕ) (found : slotFor f s n ≡ At i) where
         below = there .below;
         value = rw found;
         mark = rw found;
+        key = there .passes;
         used = u;
         room = rw (found, u) (omega (arith, used-small f));
         cells = λ x keeps. cells-put f i x s n (still-found x keeps) (λ s′ n′ ne. (let m = not-hit s n s′ n′ (f i) (there .passes) ne in (keeps s′ n′ ∙ m, m)));
@@ -137,11 +156,15 @@ module _ (f : ℕ → Slot) (s n i : ℕ) (found : slotFor f s n ≡ At i) where
 
 claimed-value : (s n : ℕ) (x : Slot) → valueIn (claimed s n x) ≡ none
 unfolding valueIn claimed
-claimed-value s n (slot t a b p l m) = refl
+claimed-value s n (slot r t a b p l m) = refl
 
 claimed-mark : (s n : ℕ) (x : Slot) → markIn (claimed s n x) ≡ noLabels
 unfolding markIn claimed
-claimed-mark s n (slot t a b p l m) = refl
+claimed-mark s n (slot r t a b p l m) = refl
+
+pub not-false : (b : Bool) → not b ≡ false → b ≡ true
+not-false true x = refl
+not-false false x = sym x
 
 not-true : (b : Bool) → not b ≡ true → b ≡ false
 not-true true e = sym e
@@ -159,7 +182,7 @@ module _ (f : ℕ → Slot) (s n i : ℕ) (missing : slotFor f s n ≡ Nothing) 
   module _ (x : Slot) (is : hit s n x ≡ true) where
     new-found : slotFor (putAt i x f) s n ≡ At i
     unfolding slotFor
-    new-found = find-new 512 0 (λ k. hit s n (f k)) (λ k. hit s n (putAt i x f k)) i (not-found 512 0 (λ k. hit s n (f k)) missing) (omega arith) (open-slot .below) (rw (put-same i x f) is) (λ l ne. ap (hit s n) (put-other i x f l ne))
+    new-found = last-new 512 (λ k. hit s n (f k)) (λ k. hit s n (putAt i x f k)) i (not-last 512 (λ k. hit s n (f k)) missing) (open-slot .below) (rw (put-same i x f) is) (λ l ne. ap (hit s n) (put-other i x f l ne))
 
     new-cells : (s′ n′ : ℕ) → cellsIn (putAt i x f) s′ n′ ≡ pick (eqb s′ s && eqb n′ n) (cellIn x) (cellsIn f s′ n′)
     new-cells = cells-put f i x s n new-found (λ s′ n′ ne. (not-hit s n s′ n′ x is ne, free-miss s′ n′ (f i) unused))
@@ -182,6 +205,7 @@ module _ (f : ℕ → Slot) (s n i : ℕ) (missing : slotFor f s n ≡ Nothing) 
         below = open-slot .below;
         value = rw (own, missing) (claimed-value s n (f i));
         mark = rw (own, missing) (claimed-mark s n (f i));
+        key = rw own (claimed-hit s n (f i));
         used = rw own (hit-used s n x (claimed-hit s n (f i)));
         room = rw missing (omega (arith, new-room));
         cells = λ y keeps s′ n′. rw (put-put i y x f) (new-cells y (is y keeps) s′ n′);
@@ -190,12 +214,12 @@ module _ (f : ℕ → Slot) (s n i : ℕ) (missing : slotFor f s n ≡ Nothing) 
 
 -- ---- The ways of `obtain`
 
-module _ (f : ℕ → Slot) (r : List ℕ) (s n : ℕ) where
+module _ (f : ℕ → Slot) (r : Beside) (s n : ℕ) where
   pub obtain-old : (i : ℕ) {q : Found} → q ≡ slotFor f s n → q ≡ At i → obtained (At i) f r ≡ obtain f r s n
   unfolding obtain obtainFrom
   obtain-old i e p = let a : slotFor f s n ≡ At i = sym e ∙ p in rw a
 
-  pub obtain-new : (i : ℕ) {q q′ : Found} {f′ : ℕ → Slot} {r′ : List ℕ} → q ≡ slotFor f s n → q ≡ Nothing → q′ ≡ freeSlot f → q′ ≡ At i
+  pub obtain-new : (i : ℕ) {q q′ : Found} {f′ : ℕ → Slot} {r′ : Beside} → q ≡ slotFor f s n → q ≡ Nothing → q′ ≡ freeSlot f → q′ ≡ At i
       → (f′ ≡ putAt i (claimed s n (f i)) f) × (r′ ≡ r) → obtained (At i) f′ r′ ≡ obtain f r s n
   unfolding obtain obtainFrom claimFirst
   obtain-new i e p e′ p′ c = let a : slotFor f s n ≡ Nothing = sym e ∙ p in let b : freeSlot f ≡ At i = sym e′ ∙ p′ in rw (a, b, c .0, c .1)
@@ -205,13 +229,13 @@ module _ (f : ℕ → Slot) (r : List ℕ) (s n : ℕ) where
   obtain-none e p e′ p′ = let a : slotFor f s n ≡ Nothing = sym e ∙ p in let b : freeSlot f ≡ Nothing = sym e′ ∙ p′ in rw (a, b)
 
 -- what `obtain` did: the key was there, a slot was claimed, or none was left
-pub data Came (f : ℕ → Slot) (r : List ℕ) (s n : ℕ) : Found → (ℕ → Slot) → List ℕ → Type 0 where
+pub data Came (f : ℕ → Slot) (r : Beside) (s n : ℕ) : Found → (ℕ → Slot) → Beside → Type 0 where
   cameOld : {i : ℕ} → slotFor f s n ≡ At i → Came f r s n (At i) f r
   cameNew : {i : ℕ} → slotFor f s n ≡ Nothing → freeSlot f ≡ At i → Came f r s n (At i) (putAt i (claimed s n (f i)) f) r
   cameNone : slotFor f s n ≡ Nothing → freeSlot f ≡ Nothing → Came f r s n Nothing f r
 
-module _ (f : ℕ → Slot) (r : List ℕ) (s n : ℕ) where
-  by-obtained : (P : Obtained → Type 0) → ((q : Found) (f′ : ℕ → Slot) (r′ : List ℕ) → Came f r s n q f′ r′ → P (obtained q f′ r′)) → P (obtain f r s n)
+module _ (f : ℕ → Slot) (r : Beside) (s n : ℕ) where
+  by-obtained : (P : Obtained → Type 0) → ((q : Found) (f′ : ℕ → Slot) (r′ : Beside) → Came f r s n q f′ r′ → P (obtained q f′ r′)) → P (obtain f r s n)
   unfolding obtain obtainFrom claimFirst
   by-obtained P each = go (slotFor f s n) refl (freeSlot f) refl
     where
@@ -226,43 +250,39 @@ module _ (f : ℕ → Slot) (r : List ℕ) (s n : ℕ) where
   slotsIn : Obtained → ℕ → Slot
   slotsIn (obtained q f′ r′) = f′
 
-  afterIn : Obtained → List ℕ
-  afterIn (obtained q f′ r′) = r′
+  besideIn : Obtained → Beside
+  besideIn (obtained q f′ r′) = r′
 
-  pub came : {q : Found} {f′ : ℕ → Slot} {r′ : List ℕ} → obtained q f′ r′ ≡ obtain f r s n → Came f r s n q f′ r′
-  unfolding foundIn slotsIn afterIn
+  pub came : {q : Found} {f′ : ℕ → Slot} {r′ : Beside} → obtained q f′ r′ ≡ obtain f r s n → Came f r s n q f′ r′
+  unfolding foundIn slotsIn besideIn
   came {q} {f′} {r′} e =
-      let whole : Came f r s n (foundIn (obtain f r s n)) (slotsIn (obtain f r s n)) (afterIn (obtain f r s n)) = by-obtained (λ o. Came f r s n (foundIn o) (slotsIn o) (afterIn o)) (λ q f′ r′ c. c) in
-      subst (λ (o : Obtained). Came f r s n (foundIn o) (slotsIn o) (afterIn o)) (sym e) whole
+      let whole : Came f r s n (foundIn (obtain f r s n)) (slotsIn (obtain f r s n)) (besideIn (obtain f r s n)) = by-obtained (λ o. Came f r s n (foundIn o) (slotsIn o) (besideIn o)) (λ q f′ r′ c. c) in
+      subst (λ (o : Obtained). Came f r s n (foundIn o) (slotsIn o) (besideIn o)) (sym e) whole
 
-  pub after-same : {q : Found} {f′ : ℕ → Slot} {r′ : List ℕ} → Came f r s n q f′ r′ → r′ ≡ r
-  after-same (cameOld p) = refl
-  after-same (cameNew p q) = refl
-  after-same (cameNone p q) = refl
+  pub beside-kept : {q : Found} {f′ : ℕ → Slot} {r′ : Beside} → Came f r s n q f′ r′ → r′ ≡ r
+  beside-kept (cameOld p) = refl
+  beside-kept (cameNew p q) = refl
+  beside-kept (cameNone p q) = refl
 
-  pub ready : (i : ℕ) {q : Found} {f′ : ℕ → Slot} {r′ : List ℕ} → Came f r s n q f′ r′ → q ≡ At i → Ready f s n i f′
+  pub ready : (i : ℕ) {q : Found} {f′ : ℕ → Slot} {r′ : Beside} → Came f r s n q f′ r′ → q ≡ At i → Ready f s n i f′
   ready i (cameOld {i = j} p) e = let same : i ≡ j = cc in ready-old f s n i (p ∙ ap At (sym same))
   ready i (cameNew {i = j} p q) e = let same : j ≡ i = cc in rw same (ready-new f s n i p (q ∙ ap At same))
   ready i (cameNone p q) e = let z : _≡_ {A = ℕ} 0 1 = cc in absurd (omega arith)
 
   -- none was left: there is no such cell, and all are in use
-  pub full : {q : Found} {f′ : ℕ → Slot} {r′ : List ℕ} → Came f r s n q f′ r′ → q ≡ Nothing → (cellsIn f s n ≡ noCell) × (usedIn f ≡ 512)
+  pub full : {q : Found} {f′ : ℕ → Slot} {r′ : Beside} → Came f r s n q f′ r′ → q ≡ Nothing → (cellsIn f s n ≡ noCell) × (usedIn f ≡ 512)
   unfolding cellsIn cellAt usedIn freeSlot
   full (cameOld p) e = let z : _≡_ {A = ℕ} 0 1 = cc in absurd (omega arith)
   full (cameNew p q) e = let z : _≡_ {A = ℕ} 0 1 = cc in absurd (omega arith)
   full (cameNone p q) e = (rw p, count-all 512 (λ k. inUse (f k)) (λ l h. not-false (inUse (f l)) (not-found 512 0 (λ k. not (inUse (f k))) q l (omega arith) (omega arith))))
-    where
-      not-false : (b : Bool) → not b ≡ false → b ≡ true
-      not-false true x = refl
-      not-false false x = sym x
 
   -- where none was left, or the cell has a value already, no slot was changed
-  pub none-changed : {q : Found} {f′ : ℕ → Slot} {r′ : List ℕ} → Came f r s n q f′ r′ → q ≡ Nothing → f′ ≡ f
+  pub none-changed : {q : Found} {f′ : ℕ → Slot} {r′ : Beside} → Came f r s n q f′ r′ → q ≡ Nothing → f′ ≡ f
   none-changed (cameOld p) e = refl
   none-changed (cameNew p q) e = let z : _≡_ {A = ℕ} 0 1 = cc in absurd (omega arith)
   none-changed (cameNone p q) e = refl
 
-  pub value-kept : {q : Found} {f′ : ℕ → Slot} {r′ : List ℕ} → Came f r s n q f′ r′ → isSome (cellsIn f s n .value) ≡ true → f′ ≡ f
+  pub value-kept : {q : Found} {f′ : ℕ → Slot} {r′ : Beside} → Came f r s n q f′ r′ → isSome (cellsIn f s n .value) ≡ true → f′ ≡ f
   unfolding cellsIn cellAt noCell isSome
   value-kept (cameOld p) e = refl
   value-kept (cameNew p q) e = let none-there : isSome (cellsIn f s n .value) ≡ false = rw p refl in let z : _≡_ {A = ℕ} 0 1 = cc in absurd (omega arith)

@@ -1,36 +1,36 @@
 -- Freeing a scope: the loop, the cells, and the count, for which the invariant is needed.
 use mathlib.Core.Path.{_≡_, refl, sym, ap, _∙_, fun-ext}
-use mathlib.Core.Bool.{Bool, true, false, not, _&&_, _||_}
+use mathlib.Core.Bool.{Bool, true, false, not, _&&_, _||_, false≢true}
 use mathlib.Core.List.{List}
 use Prim.Native.Nat.{ℕ, zero, suc, _+_, _-_, _≤_, _<_}
 use native.Mathlib.Omega.{arith}
 use lib.Dec.{eqb, ltb}
 use lib.ListN.{length}
 use borrow.Author.Tests.{eqb-true, eqb-false, eq-eqb, le-ltb, ltb-true, ltb-false}
-use Rattle.wire.specs.Bytes.{pick}
+use Rattle.wire.specs.Bytes.{pick, byte}
 use Rattle.wire.specs.Numbers.{highBytes}
 use Rattle.wire.specs.Runs.{over}
 use Rattle.rules.specs.State.{sameScope, Cell, noCell, freed, count, free}
 use Rattle.cells.specs.declared.Found.{Found}
 use Rattle.cells.specs.declared.Found.the-variants.{At, Nothing}
-use Rattle.cells.specs.Layout.{reached, Slot, slot, slotsOf, afterSlots, putAt}
+use Rattle.cells.specs.Layout.{table, Slot, slot, blankSlot, slotAt, slotsOf, besideSlots, putAt}
 use Rattle.cells.specs.Scopes.{scopeOf}
-use Rattle.cells.specs.Slots.{StoresAt, hit, inUse, ofScope, emptied, freedSlot, slotFor, firstFrom, FineSlots}
+use Rattle.cells.specs.Slots.{StoresAt, hit, usedState, inUse, isReached, neverUsed, ofScope, emptied, freedSlot, slotFor, lastBelow, FineSlots}
 use Rattle.cells.specs.Memory.{cellAt, cellsIn, usedIn, cellsOf, usedOf, stateOf, Fine, Becomes}
 use Rattle.cells.proofs.Tables.{put-self}
-use Rattle.cells.proofs.Slots.{empty-way}
-use Rattle.cells.proofs.Search.{was-found, not-found, find-nothing, tally, count-zero, count-more, count-same, count-none, count-new, count-split}
+use Rattle.cells.proofs.Slots.{slot-in, nameOf, empty-way}
+use Rattle.cells.proofs.Search.{was-last, not-last, last-nothing, tally, count-zero, count-more, count-same, count-none, count-new, count-split}
 use Rattle.cells.proofs.Scopes.{cell-at, by-number}
-use Rattle.cells.proofs.Cells.{split-key, to-false, hit-used, free-miss, not-hit}
+use Rattle.cells.proofs.Cells.{split-key, both, to-false, hit-used, free-miss, not-hit}
 use Rattle.cells.proofs.Keep.{fine-fewer}
 use Rattle.cells.proofs.Regions.{trail-after, records-after, rest-after, names-by, classes-by}
 
 -- ---- At a slot
 
-pub free-yes : (w : List ℕ) (i s : ℕ) (w′ : List ℕ) {b : Bool} → i < 512 → 65536 ≤ length w → reached w (i + 1) ≡ true → b ≡ ofScope s (slotsOf w i) → b ≡ true → w′ ≡ over w i (highBytes 1 5)
+pub free-yes : (w : List ℕ) (i s : ℕ) (w′ : List ℕ) {b : Bool} → i < 512 → 65536 ≤ length w → b ≡ ofScope s (slotsOf w i) → b ≡ true → w′ ≡ over w i (highBytes 1 5)
     → StoresAt i (freedSlot s) w w′
 unfolding freedSlot
-free-yes w i s w′ below room r e t p = let y : ofScope s (slotsOf w i) ≡ true = sym e ∙ t in rw y (empty-way w i below room r p)
+free-yes w i s w′ below room e t p = let y : ofScope s (slotsOf w i) ≡ true = sym e ∙ t in rw y (empty-way w i below room p)
 
 pub free-no : (w : List ℕ) (i s : ℕ) {b : Bool} → b ≡ ofScope s (slotsOf w i) → b ≡ false → StoresAt i (freedSlot s) w w
 unfolding freedSlot
@@ -65,23 +65,23 @@ freedSlots s f = λ j. freedSlot s (f j)
 
 hit-scoped : (s n : ℕ) (x : Slot) → hit s n x ≡ true → ofScope s x ≡ true
 unfolding hit ofScope
-hit-scoped s n (slot t a b p l m) e = let c = split-key (eqb a s) (eqb b n) (not (eqb t 0)) e in rw (c .0, c .1 .1) refl
-
-both : (u v : Bool) → pick u v false ≡ true → (u ≡ true) × (v ≡ true)
-both true v e = (refl, e)
-both false v e = let q : _≡_ {A = ℕ} 0 1 = cc in absurd (omega arith)
+hit-scoped s n (slot r t a b p l m) e = let c = split-key (eqb a s) (eqb b n) (pick r (usedState t) false) e in rw (c .0, both r (usedState t) (c .1 .1) .1) refl
 
 scope-one : (s s′ n : ℕ) (x : Slot) → ofScope s x ≡ true → hit s′ n x ≡ true → s′ ≡ s
 unfolding hit ofScope
-scope-one s s′ n (slot t a b p l m) o e = sym (eqb-true a s′ (split-key (eqb a s′) (eqb b n) (not (eqb t 0)) e .0)) ∙ eqb-true a s (both (eqb a s) (not (eqb t 0)) o .0)
+scope-one s s′ n (slot r t a b p l m) o e = sym (eqb-true a s′ (split-key (eqb a s′) (eqb b n) (pick r (usedState t) false) e .0)) ∙ eqb-true a s (both (eqb a s) (usedState t) o .0)
 
 scoped-used : (s : ℕ) (x : Slot) → ofScope s x ≡ true → inUse x ≡ true
 unfolding ofScope inUse
-scoped-used s (slot t a b p l m) e = both (eqb a s) (not (eqb t 0)) e .1
+scoped-used s (slot r t a b p l m) e = both (eqb a s) (usedState t) e .1
 
 emptied-free : (x : Slot) → inUse (emptied x) ≡ false
-unfolding emptied inUse
-emptied-free (slot t s n p a m) = refl
+unfolding emptied inUse usedState
+emptied-free (slot r t s n p a m) = refl
+
+emptied-once : (x : Slot) → neverUsed (emptied x) ≡ false
+unfolding emptied neverUsed
+emptied-once (slot r t s n p a m) = refl
 
 -- a freed slot is emptied, or is not of the scope and stays
 freed-cases : (P : Slot → Type 0) (s : ℕ) (x : Slot) → (ofScope s x ≡ true → P (emptied x)) → (ofScope s x ≡ false → P x) → P (freedSlot s x)
@@ -125,12 +125,20 @@ freed-was s s′ n x h =
     (λ o h. (let t = free-miss s′ n (emptied x) (emptied-free x) in let z : _≡_ {A = ℕ} 0 1 = cc in absurd (omega arith)))
     (λ o h. h) h
 
+freed-linked : (s : ℕ) (x : Slot) → (inUse x ≡ true → isReached x ≡ true) → inUse (freedSlot s x) ≡ true → isReached (freedSlot s x) ≡ true
+freed-linked s x linked =
+    freed-cases (λ y. inUse y ≡ true → isReached y ≡ true) s x (λ o u. (let z = emptied-free x in let q : _≡_ {A = ℕ} 0 1 = cc in absurd (omega arith))) (λ o. linked)
+
+freed-never : (s : ℕ) (x : Slot) → neverUsed (freedSlot s x) ≡ true → neverUsed x ≡ true
+freed-never s x =
+    freed-cases (λ y. neverUsed y ≡ true → neverUsed x ≡ true) s x (λ o u. absurd (false≢true (sym (emptied-once x) ∙ u))) (λ o u. u)
+
 -- ---- The cells
 
 module _ (s : ℕ) (f : ℕ → Slot) where
   stay : (s′ n : ℕ) → (s′ ≡ s → ⊥) → (r : Found) → slotFor f s′ n ≡ r → cellAt (freedSlots s f) r ≡ cellAt f r
   unfolding cellAt freedSlots slotFor
-  stay s′ n ne (At j) q = rw (freed-stays s s′ n (f j) ne (was-found 512 0 (λ k. hit s′ n (f k)) j q .passes)) refl
+  stay s′ n ne (At j) q = rw (freed-stays s s′ n (f j) ne (was-last 512 (λ k. hit s′ n (f k)) j q .passes)) refl
   stay s′ n ne Nothing q = refl
 
   freed-cells : (s′ n : ℕ) → cellsIn (freedSlots s f) s′ n ≡ freed (eqb s′ s) (cellsIn f s′ n)
@@ -138,11 +146,11 @@ module _ (s : ℕ) (f : ℕ → Slot) where
   freed-cells s′ n = go (eqb s′ s) refl
     where
       go : (t : Bool) → eqb s′ s ≡ t → cellAt (freedSlots s f) (slotFor (freedSlots s f) s′ n) ≡ freed t (cellAt f (slotFor f s′ n))
-      go true p = rw (eqb-true s′ s p, find-nothing 512 0 (λ k. hit s n (freedSlot s (f k))) (λ l. freed-miss s n (f l))) refl
+      go true p = rw (eqb-true s′ s p, last-nothing 512 (λ k. hit s n (freedSlot s (f k))) (λ l. freed-miss s n (f l))) refl
       go false p =
           let ne : s′ ≡ s → ⊥ = eqb-false s′ s p in
           let same : _≡_ {A = ℕ → Bool} (λ k. hit s′ n (freedSlot s (f k))) (λ k. hit s′ n (f k)) = fun-ext (λ k. freed-keeps s s′ n (f k) ne) in
-          ap (λ (h : ℕ → Bool). cellAt (freedSlots s f) (firstFrom 512 0 h)) same ∙ stay s′ n ne (slotFor f s′ n) refl
+          ap (λ (h : ℕ → Bool). cellAt (freedSlots s f) (lastBelow 512 h)) same ∙ stay s′ n ne (slotFor f s′ n) refl
 
 -- ---- The count: the slots of a scope are as many as the names that have a cell there
 
@@ -173,12 +181,9 @@ any-more : (k : ℕ) (h : ℕ → Bool) → h k ≡ false → anyBelow (suc k) h
 unfolding anyBelow
 any-more k h e = rw e refl
 
-nameOf : Slot → ℕ
-nameOf (slot t s n p a m) = n
-
-scope-hit : (s : ℕ) (x : Slot) → ofScope s x ≡ true → hit s (nameOf x) x ≡ true
-unfolding ofScope hit nameOf
-scope-hit s (slot t a b p l m) e = rw (eq-eqb b b refl) e
+scope-hit : (s : ℕ) (x : Slot) → isReached x ≡ true → ofScope s x ≡ true → hit s (nameOf x) x ≡ true
+unfolding ofScope hit nameOf isReached
+scope-hit s (slot r t a b p l m) there e = rw (there, eq-eqb b b refl) e
 
 module _ (s : ℕ) (f : ℕ → Slot) (fine : FineSlots f) where
   -- whether one of the k lowest slots is of s and n
@@ -210,7 +215,7 @@ module _ (s : ℕ) (f : ℕ → Slot) (fine : FineSlots f) where
       go : count k (λ j. ofScope s (f j)) ≡ count 1024 (λ n. seen k n) → (t : Bool) → ofScope s (f k) ≡ t → tally t (count k (λ j. ofScope s (f j))) ≡ count 1024 (λ n. seen (suc k) n)
       go before true o =
           let m = nameOf (f k) in
-          let e : hit s m (f k) ≡ true = scope-hit s (f k) o in
+          let e : hit s m (f k) ≡ true = scope-hit s (f k) (fine .linked k (scoped-used s (f k) o)) o in
           ap suc before
           ∙ sym (count-new 1024 (λ n. seen k n) (λ n. seen (suc k) n) m (fine .small k s m e) (not-before k m (omega arith) e) (seen-now k m e) (λ l ne. seen-same k l (not-hit s m s l (f k) e (λ a b. ne b))))
       go before false o = before ∙ sym (count-same 1024 (λ n. seen k n) (λ n. seen (suc k) n) (λ n b. seen-same k n (no-hit s n (f k) o)))
@@ -221,9 +226,9 @@ module _ (s : ℕ) (f : ℕ → Slot) (fine : FineSlots f) where
     where
       go : (r : Found) → slotFor f s n ≡ r → cellAt f r .exists ≡ anyBelow 512 (λ j. hit s n (f j))
       go (At j) q =
-          let h = was-found 512 0 (λ k. hit s n (f k)) j q in
+          let h = was-last 512 (λ k. hit s n (f k)) j q in
           hit-used s n (f j) (h .passes) ∙ sym (any-hit 512 (λ k. hit s n (f k)) j (h .below) (h .passes))
-      go Nothing q = sym (any-none 512 (λ k. hit s n (f k)) (λ j l. not-found 512 0 (λ k. hit s n (f k)) q j (omega arith) (omega arith)))
+      go Nothing q = sym (any-none 512 (λ k. hit s n (f k)) (λ j l. not-last 512 (λ k. hit s n (f k)) q j (omega arith)))
 
   used-or : (x : Slot) → inUse x ≡ (inUse (freedSlot s x) || ofScope s x)
   used-or x = freed-cases (λ y. inUse x ≡ (inUse y || ofScope s x)) s x (λ o. rw (emptied-free x, o) (scoped-used s x o)) (λ o. rw o (or-false (inUse x)))
@@ -249,11 +254,28 @@ module _ (s : ℕ) (f : ℕ → Slot) (fine : FineSlots f) where
 
   freed-fine : FineSlots (freedSlots s f)
   unfolding freedSlots
-  freed-fine = fine-fewer f (λ j. freedSlot s (f j)) (λ i s′ n h. freed-was s s′ n (f i) h) fine
+  freed-fine = fine-fewer f (λ j. freedSlot s (f j)) (λ i s′ n h. freed-was s s′ n (f i) h) (λ i. freed-linked s (f i) (fine .linked i))
+      (λ i j e l. (let free : inUse (f j) ≡ false = fine .packed i j (freed-never s (f i) e) l in ap inUse (unused-stays s (f j) free) ∙ free)) fine
 
 -- ---- The way of `free_scope`
 
-pub free-way : (w w′ : List ℕ) (i s : ℕ) → Fine w → ((j : ℕ) → i ≤ j → inUse (slotsOf w′ j) ≡ false) → slotsOf w′ ≡ freedTo i s (slotsOf w) → afterSlots w′ ≡ afterSlots w → Becomes w w′ (free (scopeOf s)) (λ ns. ns)
+-- it ends past the slots, or at one that was never used
+pub none-past : (w : List ℕ) (j : ℕ) → 512 ≤ j → inUse (slotsOf w j) ≡ false
+unfolding slotsOf table blankSlot inUse usedState
+none-past w j l = rw (le-ltb j 512 l) refl
+
+never-used : (w : List ℕ) (i : ℕ) → i < 512 → byte w i ≡ 0 → neverUsed (slotsOf w i) ≡ true
+unfolding neverUsed slotAt
+never-used w i l e = rw (slot-in w i l, e) refl
+
+pub none-after : (w w′ : List ℕ) (i s : ℕ) {t : ℕ} → Fine w → i < 512 → slotsOf w′ ≡ freedTo i s (slotsOf w) → t ≡ byte w′ i → t ≡ 0 → (j : ℕ) → i ≤ j → inUse (slotsOf w′ j) ≡ false
+unfolding freedTo
+none-after w w′ i s fine below e et z j l =
+    let stays : (k : ℕ) → i ≤ k → slotsOf w′ k ≡ slotsOf w k = λ k h. ap (λ (g : ℕ → Slot). g k) e ∙ rw (le-ltb k i h) refl in
+    let never : neverUsed (slotsOf w i) ≡ true = ap neverUsed (sym (stays i (omega arith))) ∙ never-used w′ i below (sym et ∙ z) in
+    ap inUse (stays j l) ∙ fine .packed i j never l
+
+pub free-way : (w w′ : List ℕ) (i s : ℕ) → Fine w → ((j : ℕ) → i ≤ j → inUse (slotsOf w′ j) ≡ false) → slotsOf w′ ≡ freedTo i s (slotsOf w) → besideSlots w′ ≡ besideSlots w → Becomes w w′ (free (scopeOf s)) (λ ns. ns)
 unfolding stateOf free freed cellsOf usedOf
 free-way w w′ i s fine rest e after =
     let f : ℕ → Slot = slotsOf w in

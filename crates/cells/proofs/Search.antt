@@ -10,7 +10,7 @@ use Rattle.wire.specs.Bytes.{pick}
 use Rattle.rules.specs.State.{count}
 use Rattle.cells.specs.declared.Found.{Found}
 use Rattle.cells.specs.declared.Found.the-variants.{At, Nothing}
-use Rattle.cells.specs.Slots.{firstFrom}
+use Rattle.cells.specs.Slots.{firstFrom, lastBelow}
 
 -- ---- A search, as the loop goes
 
@@ -35,6 +35,14 @@ pub record Hit (k i : ℕ) (h : ℕ → Bool) (j : ℕ) : Type 0 where
   pub passes : h j ≡ true
   pub from : i ≤ j
   pub below : j < i + k
+  pub before : (l : ℕ) → i ≤ l → l < j → h l ≡ false
+
+one-more : (i j : ℕ) (h : ℕ → Bool) → h i ≡ false → ((l : ℕ) → suc i ≤ l → l < j → h l ≡ false) → (l : ℕ) → i ≤ l → l < j → h l ≡ false
+one-more i j h e later l a b = go (eqb i l) refl
+  where
+    go : (t : Bool) → eqb i l ≡ t → h l ≡ false
+    go true f = rw (sym (eqb-true i l f)) e
+    go false f = let ne : i ≡ l → ⊥ = eqb-false i l f in later l (omega arith) b
 
 pub was-found : (k i : ℕ) (h : ℕ → Bool) (j : ℕ) → firstFrom k i h ≡ At j → Hit k i h j
 unfolding firstFrom
@@ -42,8 +50,8 @@ was-found zero i h j p = let z : _≡_ {A = ℕ} 0 1 = cc in absurd (omega arith
 was-found (suc k) i h j p = go (firstFrom k (suc i) h) (λ q. was-found k (suc i) h j q) (h i) refl p
   where
     go : (rest : Found) → (rest ≡ At j → Hit k (suc i) h j) → (t : Bool) → h i ≡ t → pick t (At i) rest ≡ At j → Hit (suc k) i h j
-    go rest more true e q = let z : i ≡ j = cc in record { passes = rw z at e; from = omega arith; below = omega arith }
-    go rest more false e q = let r : Hit k (suc i) h j = more q in record { passes = r .passes; from = omega arith; below = omega arith }
+    go rest more true e q = let z : i ≡ j = cc in record { passes = rw z at e; from = omega arith; below = omega arith; before = λ l a b. absurd (omega arith) }
+    go rest more false e q = let r : Hit k (suc i) h j = more q in record { passes = r .passes; from = omega arith; below = omega arith; before = one-more i j h e (r .before) }
 
 -- no number in reach passes
 abbrev pub None : ℕ → ℕ → (ℕ → Bool) → Type 0
@@ -59,23 +67,55 @@ not-found (suc k) i h p j a b = go (firstFrom k (suc i) h) (not-found k (suc i) 
     go rest more false e q true f = rw (eqb-true i j f) at e
     go rest more false e q false f = let ne : i ≡ j → ⊥ = eqb-false i j f in more q j (omega arith) (omega arith)
 
-pub nothing-from : (k i : ℕ) (h : ℕ → Bool) → ((l : ℕ) → i ≤ l → h l ≡ false) → firstFrom k i h ≡ Nothing
-unfolding firstFrom
-nothing-from zero i h e = refl
-nothing-from (suc k) i h e = rw (e i (omega arith)) (nothing-from k (suc i) h (λ l p. e l (omega arith)))
+-- ---- A search from above
 
-pub find-nothing : (k i : ℕ) (h : ℕ → Bool) → ((l : ℕ) → h l ≡ false) → firstFrom k i h ≡ Nothing
-find-nothing k i h e = nothing-from k i h (λ l p. e l)
+pub last-zero : (h : ℕ → Bool) → lastBelow 0 h ≡ Nothing
+unfolding lastBelow
+last-zero h = refl
+
+pub last-open : (k : ℕ) (h : ℕ → Bool) → lastBelow (suc k) h ≡ pick (h k) (At k) (lastBelow k h)
+unfolding lastBelow
+last-open k h = refl
+
+-- what a search from above finds
+pub record Below (k : ℕ) (h : ℕ → Bool) (j : ℕ) : Type 0 where
+  pub passes : h j ≡ true
+  pub below : j < k
+
+pub was-last : (k : ℕ) (h : ℕ → Bool) (j : ℕ) → lastBelow k h ≡ At j → Below k h j
+was-last zero h j p = let q = sym (last-zero h) ∙ p in let z : _≡_ {A = ℕ} 0 1 = cc in absurd (omega arith)
+was-last (suc k) h j p = go (lastBelow k h) (was-last k h j) (h k) refl (sym (last-open k h) ∙ p)
+  where
+    go : (rest : Found) → (rest ≡ At j → Below k h j) → (t : Bool) → h k ≡ t → pick t (At k) rest ≡ At j → Below (suc k) h j
+    go rest more true e q = let z : k ≡ j = cc in record { passes = rw z at e; below = omega arith }
+    go rest more false e q = let r : Below k h j = more q in record { passes = r .passes; below = omega arith }
+
+pub not-last : (k : ℕ) (h : ℕ → Bool) → lastBelow k h ≡ Nothing → (j : ℕ) → j < k → h j ≡ false
+not-last zero h p j l = absurd (omega arith)
+not-last (suc k) h p j l = go (lastBelow k h) (not-last k h) (h k) refl (sym (last-open k h) ∙ p) (eqb k j) refl
+  where
+    go : (rest : Found) → (rest ≡ Nothing → (j : ℕ) → j < k → h j ≡ false) → (t : Bool) → h k ≡ t → pick t (At k) rest ≡ Nothing → (u : Bool) → eqb k j ≡ u → h j ≡ false
+    go rest more true e q u f = let z : _≡_ {A = ℕ} 0 1 = cc in absurd (omega arith)
+    go rest more false e q true f = rw (eqb-true k j f) at e
+    go rest more false e q false f = let ne : k ≡ j → ⊥ = eqb-false k j f in more q j (omega arith)
+
+-- numbers from b on that do not pass are of no concern
+pub last-skip : (k b : ℕ) (h : ℕ → Bool) → b ≤ k → ((l : ℕ) → b ≤ l → l < k → h l ≡ false) → lastBelow k h ≡ lastBelow b h
+last-skip zero b h l none = let z : b ≡ 0 = omega arith in rw z refl
+last-skip (suc k) b h l none = go (eqb b (suc k)) refl (λ m. last-skip k b h m (λ i p q. none i p (omega arith)))
+  where
+    go : (t : Bool) → eqb b (suc k) ≡ t → (b ≤ k → lastBelow k h ≡ lastBelow b h) → lastBelow (suc k) h ≡ lastBelow b h
+    go true e more = rw (eqb-true b (suc k) e) refl
+    go false e more =
+        let ne : b ≡ suc k → ⊥ = eqb-false b (suc k) e in
+        last-open k h ∙ rw (none k (omega arith) (omega arith)) (more (omega arith))
+
+pub last-nothing : (k : ℕ) (h : ℕ → Bool) → ((l : ℕ) → h l ≡ false) → lastBelow k h ≡ Nothing
+last-nothing k h e = last-skip k 0 h (omega arith) (λ l p q. e l) ∙ last-zero h
 
 -- a test that differs at j alone from one that nothing passes, and passes there
-pub find-new : (k i : ℕ) (h h′ : ℕ → Bool) (j : ℕ) → None k i h → i ≤ j → j < i + k → h′ j ≡ true → ((l : ℕ) → (l ≡ j → ⊥) → h′ l ≡ h l) → firstFrom k i h′ ≡ At j
-unfolding firstFrom
-find-new zero i h h′ j none a b e same = absurd (omega arith)
-find-new (suc k) i h h′ j none a b e same = go (eqb i j) refl (λ ne. find-new k (suc i) h h′ j (λ l p q. none l (omega arith) (omega arith)) (omega arith) (omega arith) e same)
-  where
-    go : (u : Bool) → eqb i j ≡ u → ((i ≡ j → ⊥) → firstFrom k (suc i) h′ ≡ At j) → pick (h′ i) (At i) (firstFrom k (suc i) h′) ≡ At j
-    go true f more = let z : i ≡ j = eqb-true i j f in rw (z, e)
-    go false f more = let ne : i ≡ j → ⊥ = eqb-false i j f in rw (same i ne, none i (omega arith) (omega arith)) (more ne)
+pub last-new : (k : ℕ) (h h′ : ℕ → Bool) (j : ℕ) → ((l : ℕ) → l < k → h l ≡ false) → j < k → h′ j ≡ true → ((l : ℕ) → (l ≡ j → ⊥) → h′ l ≡ h l) → lastBelow k h′ ≡ At j
+last-new k h h′ j none b e same = last-skip k (suc j) h′ (omega arith) (λ l p q. same l (λ z. omega arith) ∙ none l q) ∙ last-open j h′ ∙ rw e refl
 
 -- ---- Counts
 

@@ -1,29 +1,29 @@
 -- One law for each way through the functions that read a slot.
-use mathlib.Core.Path.{_≡_, refl, sym, _∙_}
-use mathlib.Core.Bool.{Bool, true, false, not}
+use mathlib.Core.Path.{_≡_, refl, sym, ap, _∙_}
+use mathlib.Core.Bool.{Bool, true, false, not, false≢true}
 use mathlib.Core.List.{List}
-use Prim.Native.Nat.{ℕ, zero, suc, _+_, _*_, _-_, _%_, _≤_, _<_}
-use native.Mathlib.Numerals.{add-one}
+use Prim.Native.Nat.{ℕ, suc, _+_, _*_, _-_, _%_, _≤_, _<_}
 use native.Mathlib.Omega.{arith}
-use lib.Dec.{eqb, ltb}
+use lib.Dec.{eqb}
 use lib.IntN.{ℤ}
-use borrow.Author.Tests.{eq-eqb, ne-eqb, lt-ltb, le-ltb}
+use borrow.Author.Tests.{eqb-true, eq-eqb, ne-eqb, lt-ltb, le-ltb}
 use Rattle.labels.specs.declared.Labels.{Labels}
 use Rattle.values.specs.declared.Value.{Value}
 use Rattle.values.specs.declared.Value.the-variants.{Integer, String, Boolean}
 use Rattle.wire.specs.Bytes.{pick, byte, two}
 use Rattle.wire.specs.Numbers.{number, signed64}
 use Rattle.wire.specs.Runs.{bytesAt}
-use Rattle.cells.specs.declared.Found.{Found}
 use Rattle.cells.specs.declared.Found.the-variants.{At, Nothing}
 use Rattle.cells.specs.declared.Held.the-variants.{Empty, Holds}
-use Rattle.cells.specs.Layout.{keyAt, bodyAt, setAt, wordAt, table, reached, stateIn, blankSlot, slotAt, slotsOf}
-use Rattle.cells.specs.Slots.{valueFrom, labelled, inUse, hit, ofScope, valueIn, firstFrom, freeSlot}
+use Rattle.cells.specs.Chains.{counted, Way, begin, step}
+use Rattle.cells.specs.Layout.{keyAt, bodyAt, setAt, wordAt, nameIn, linkIn, nextIn, chained, LastAbove, slotAt, slotsOf}
+use Rattle.cells.specs.Slots.{valueFrom, labelled, usedState, inUse, hit, ofScope, valueIn, lastBelow, slotFor}
 use Rattle.cells.specs.Memory.{heldOf}
-use Rattle.cells.proofs.Reached.{reached-none, past-free, never-free, freed-free, in-state, used-reached, not-freed}
-use Rattle.cells.proofs.Search.{nothing-from}
-use Rattle.cells.proofs.Cells.{free-miss}
-use Rattle.cells.proofs.Slots.{slot-in, used-slot, used-byte}
+use Rattle.cells.proofs.Chains.{counted-none, counted-past, counted-other, counted-some}
+use Rattle.cells.proofs.Search.{last-zero, last-open, last-skip}
+use Rattle.cells.proofs.Links.{next-falls, chain-on, chain-gap, chain-small, chain-named}
+use Rattle.cells.proofs.Cells.{split-key, both, to-false}
+use Rattle.cells.proofs.Slots.{slot-in}
 
 -- a number whose low byte is not that of n is not n
 low-differs : (w : List ℕ) (p q n : ℕ) → q ≡ p + 1 → (byte w q ≡ n % 256 → ⊥) → byte w q < 256 → two w p ≡ n → ⊥
@@ -31,28 +31,6 @@ unfolding two
 low-differs w p q n at ne fits e = let number : byte w p * 256 + byte w q ≡ n = rw at e in ne (omega arith)
 
 module _ (w : List ℕ) (i : ℕ) (below : i < 512) where
-  -- hits
-  pub other-scope : (s n : ℕ) {r : ℕ} → r ≡ two w (keyAt i) → (r ≡ s → ⊥) → false ≡ hit s n (slotsOf w i)
-  unfolding hit slotAt
-  other-scope s n {r} p ne = rw (slot-in w i below) (simp (ne-eqb (two w (keyAt i)) s (λ e. ne (p ∙ e))))
-
-  pub other-name : (s n : ℕ) {r q : ℕ} → r ≡ two w (keyAt i) → r ≡ s → q ≡ two w (keyAt i + 2) → (q ≡ n → ⊥) → false ≡ hit s n (slotsOf w i)
-  unfolding hit slotAt
-  other-name s n {r} {q} p e p′ ne = rw (slot-in w i below) (simp (eq-eqb (two w (keyAt i)) s (sym p ∙ e), ne-eqb (two w (keyAt i + 2)) n (λ e′. ne (p′ ∙ e′))))
-
-  pub own-key : (s n : ℕ) {r q t : ℕ} → reached w (i + 1) ≡ true → r ≡ two w (keyAt i) → r ≡ s → q ≡ two w (keyAt i + 2) → q ≡ n → t ≡ byte w i → not (eqb t 5) ≡ hit s n (slotsOf w i)
-  unfolding hit slotAt
-  own-key s n {r} {q} {t} used p e p′ e′ pt = rw (slot-in w i below, pt) (simp (eq-eqb (two w (keyAt i)) s (sym p ∙ e), eq-eqb (two w (keyAt i + 2)) n (sym p′ ∙ e′)) (not-freed w i used))
-
-  -- find: the low byte of the name is another one
-  pub other-low : (s n : ℕ) → (byte w (keyAt i + 3) ≡ n % 256 → ⊥) → byte w (keyAt i + 3) < 256 → hit s n (slotsOf w i) ≡ false
-  unfolding hit slotAt
-  other-low s n ne fits = rw (slot-in w i below, ne-eqb (two w (keyAt i + 2)) n (low-differs w (keyAt i + 2) (keyAt i + 3) n (omega arith) ne fits)) (go (eqb (two w (keyAt i)) s))
-    where
-      go : (u : Bool) → pick u false false ≡ false
-      go true = refl
-      go false = refl
-
   -- in_scope
   pub not-of-scope : (s : ℕ) {r : ℕ} → r ≡ two w (keyAt i) → (r ≡ s → ⊥) → false ≡ ofScope s (slotsOf w i)
   unfolding ofScope slotAt
@@ -61,66 +39,133 @@ module _ (w : List ℕ) (i : ℕ) (below : i < 512) where
   pub low-not-of-scope : (s : ℕ) → (byte w (keyAt i + 1) ≡ s % 256 → ⊥) → byte w (keyAt i + 1) < 256 → false ≡ ofScope s (slotsOf w i)
   low-not-of-scope s ne fits = not-of-scope s refl (low-differs w (keyAt i) (keyAt i + 1) s refl ne fits)
 
-  pub of-scope : (s : ℕ) {r t : ℕ} → reached w (i + 1) ≡ true → r ≡ two w (keyAt i) → r ≡ s → t ≡ byte w i → not (eqb t 5) ≡ ofScope s (slotsOf w i)
+  pub of-scope : (s : ℕ) {r t : ℕ} {u : Bool} → r ≡ two w (keyAt i) → r ≡ s → t ≡ byte w i → u ≡ usedState t → u ≡ ofScope s (slotsOf w i)
   unfolding ofScope slotAt
-  of-scope s {r} {t} used p e pt = rw (slot-in w i below, pt) (simp (eq-eqb (two w (keyAt i)) s (sym p ∙ e)) (not-freed w i used))
+  of-scope s {r} {t} {u} p e pt pu = rw (slot-in w i below, pu, pt) (simp (eq-eqb (two w (keyAt i)) s (sym p ∙ e)))
 
   -- find_free
-  is-free : stateIn w i ≡ 0 → not (inUse (slotsOf w i)) ≡ true
+  pub free-read : {u b : Bool} → u ≡ usedState (byte w i) → not u ≡ b → not (inUse (slotsOf w i)) ≡ b
   unfolding inUse slotAt
-  is-free e = rw (slot-in w i below, e) refl
-
-  pub never-used : byte w i ≡ 0 → not (inUse (slotsOf w i)) ≡ true
-  never-used e = is-free (never-free w i e)
-
-  pub was-freed : byte w i ≡ 5 → not (inUse (slotsOf w i)) ≡ true
-  was-freed e = is-free (freed-free w i e)
-
-  pub not-free : reached w i ≡ true → (byte w i ≡ 0 → ⊥) → (byte w i ≡ 5 → ⊥) → not (inUse (slotsOf w i)) ≡ false
-  unfolding inUse slotAt
-  not-free r ne ne′ = rw (slot-in w i below, in-state w i r ne′, ne-eqb (byte w i) 0 ne) refl
+  free-read e f = rw (slot-in w i below, sym e) f
 
   -- held_at
-  pub held-none : {t : ℕ} → inUse (slotsOf w i) ≡ true → t ≡ byte w i → t ≤ 1 → Empty ≡ heldOf (valueIn (slotsOf w i))
+  pub held-none : {t : ℕ} → t ≡ byte w i → t ≤ 1 → Empty ≡ heldOf (valueIn (slotsOf w i))
   unfolding valueIn slotAt heldOf
-  held-none {t} u p h = rw (slot-in w i below, used-byte w i below u) (simp (le-ltb 1 (byte w i) (omega arith)))
+  held-none {t} p h = rw (slot-in w i below) (simp (le-ltb 1 (byte w i) (omega arith)))
 
-  pub held-some : {t : ℕ} {v : Value} {a : Labels} → inUse (slotsOf w i) ≡ true → t ≡ byte w i → 1 < t → v ≡ valueFrom t (wordAt w (bodyAt i)) → a ≡ setAt w (bodyAt i + 8)
+  pub held-some : {t : ℕ} {v : Value} {a : Labels} → t ≡ byte w i → 1 < t → v ≡ valueFrom t (wordAt w (bodyAt i)) → a ≡ setAt w (bodyAt i + 8)
       → Holds (labelled v a) ≡ heldOf (valueIn (slotsOf w i))
   unfolding valueIn slotAt heldOf
-  held-some {t} {v} {a} u p h ev ea = rw (slot-in w i below, ev, ea, p, used-byte w i below u) (simp (lt-ltb 1 (byte w i) (omega arith)))
+  held-some {t} {v} {a} p h ev ea = rw (slot-in w i below, ev, ea, p) (simp (lt-ltb 1 (byte w i) (omega arith)))
 
--- past a slot that was never used, all are free
-pub none-in-use : (w : List ℕ) (i j : ℕ) → byte w i ≡ 0 → i ≤ j → inUse (slotsOf w j) ≡ false
-unfolding slotsOf table slotAt blankSlot inUse
-none-in-use w i j e l = go (ltb j 512)
-  where
-    go : (t : Bool) → inUse (pick t (slotAt w j) blankSlot) ≡ false
-    go true = rw (past-free w j i e l) refl
-    go false = refl
+-- ---- Chains
 
--- find: nothing is found from there on
-pub find-ended : (w : List ℕ) (s n i : ℕ) {whole : Found} → byte w i ≡ 0 → firstFrom (512 - i) i (λ k. hit s n (slotsOf w k)) ≡ whole → Nothing ≡ whole
-find-ended w s n i e inv = sym (nothing-from (512 - i) i (λ k. hit s n (slotsOf w k)) (λ l p. free-miss s n (slotsOf w l) (none-in-use w i l e p))) ∙ inv
+-- next_of
+module _ (w : List ℕ) (n p : ℕ) {r : ℕ} (read : r ≡ linkIn w n p) where
+  pub next-none : r ≡ 0 → 0 ≡ nextIn w n p
+  unfolding nextIn
+  next-none e = rw (sym read, e) (sym (counted-none (nameIn w) n p))
 
-pub none-past : (w : List ℕ) (j : ℕ) → 512 ≤ j → inUse (slotsOf w j) ≡ false
-unfolding slotsOf table blankSlot inUse
-none-past w j l = rw (le-ltb j 512 l) refl
+  -- r leads to slot r - 1
+  one-less : (r ≡ 0 → ⊥) → r ≡ suc (r - 1)
+  one-less ne = omega arith
 
--- every slot before the first free one is in use
-reached-first : (w : List ℕ) (j k i : ℕ) → i + k ≤ 512 → reached w i ≡ true → firstFrom k i (λ l. not (inUse (slotsOf w l))) ≡ At j → reached w j ≡ true
-unfolding firstFrom
-reached-first w j zero i l r f = let z : _≡_ {A = ℕ} 0 1 = cc in absurd (omega arith)
-reached-first w j (suc k) i l r f = go (inUse (slotsOf w i)) refl f (λ r′. reached-first w j k (suc i) (omega arith) r′)
-  where
-    go : (u : Bool) → inUse (slotsOf w i) ≡ u → pick (not u) (At i) (firstFrom k (suc i) (λ l. not (inUse (slotsOf w l)))) ≡ At j
-        → (reached w (suc i) ≡ true → firstFrom k (suc i) (λ l. not (inUse (slotsOf w l))) ≡ At j → reached w j ≡ true) → reached w j ≡ true
-    go true p f later = later (rw (sym (add-one i)) (used-reached w i (used-slot w i (omega arith) p))) f
-    go false p f later = let z : i ≡ j = cc in rw (sym z) r
+  pub next-past : (r ≡ 0 → ⊥) → p ≤ r - 1 → 0 ≡ nextIn w n p
+  unfolding nextIn
+  next-past ne l = sym (ap (counted (nameIn w) n p) (sym read ∙ one-less ne) ∙ counted-past (nameIn w) n p (r - 1) l)
 
-pub free-reached : (w : List ℕ) (j : ℕ) {q : Found} → q ≡ freeSlot (slotsOf w) → q ≡ At j → reached w j ≡ true
-unfolding freeSlot
-free-reached w j e p = reached-first w j 512 0 (omega arith) (reached-none w) (sym e ∙ p)
+  pub next-other : (r ≡ 0 → ⊥) → r - 1 < p → {q : ℕ} → q ≡ nameIn w (r - 1) → (q ≡ n → ⊥) → 0 ≡ nextIn w n p
+  unfolding nextIn
+  next-other ne l e other = sym (ap (counted (nameIn w) n p) (sym read ∙ one-less ne) ∙ counted-other (nameIn w) n p (r - 1) l (λ z. other (e ∙ z)))
+
+  pub next-some : (r ≡ 0 → ⊥) → r - 1 < p → {q : ℕ} → q ≡ nameIn w (r - 1) → q ≡ n → r ≡ nextIn w n p
+  unfolding nextIn
+  next-some ne l e own = sym (ap (counted (nameIn w) n p) (sym read ∙ one-less ne) ∙ counted-some (nameIn w) n p (r - 1) l (sym e ∙ own) ∙ sym (one-less ne))
+
+pub next-low : (w : List ℕ) (n p : ℕ) {r : ℕ} → r ≡ nextIn w n p → r ≤ p
+next-low w n p e = omega (arith, e, next-falls w n p)
+
+pub last-small : (w : List ℕ) (n j p : ℕ) → LastAbove w n j p → p ≤ 512
+last-small w n j p at = chain-small w n p (at .way)
+
+-- last_above: at the loop's head p is on the chain's way, above j, and r is what follows it
+pub record Walked (w : List ℕ) (n j p r : ℕ) : Type 0 where
+  pub way : Way (nextIn w n) p
+  pub above : j < p
+  pub follows : r ≡ nextIn w n p
+  pub small : r ≤ 512
+
+module _ (w : List ℕ) (n j : ℕ) where
+  pub walk-start : {r : ℕ} → j < 512 → r ≡ nextIn w n 512 → Walked w n j 512 r
+  walk-start l e = record { way = begin; above = l; follows = e; small = next-low w n 512 e }
+
+  pub walk-next : (p r : ℕ) {r′ : ℕ} → Walked w n j p r → j + 1 < r → r′ ≡ nextIn w n (r - 1) → Walked w n j (r - 1) r′
+  walk-next p r at l e =
+      let one : r ≡ suc (r - 1) = omega arith in
+      record { way = step (at .way) (sym (at .follows) ∙ one); above = omega arith; follows = e; small = omega (arith, next-low w n (r - 1) e, at .small) }
+
+  pub walk-end : (p r : ℕ) → Walked w n j p r → r ≤ j + 1 → LastAbove w n j p
+  walk-end p r at l = record { way = at .way; above = at .above; last = omega (arith, at .follows) }
+
+-- find: at the loop's head, a chain's slots that are left find what the whole search finds
+module _ (w : List ℕ) (s n : ℕ) where
+  abbrev test : ℕ → Bool
+  test = λ i. hit s n (slotsOf w i)
+
+  pub record Left (r : ℕ) : Type 0 where
+    pub small : r ≤ 512
+    pub way : (i : ℕ) → r ≡ suc i → Way (nextIn w n) i
+    pub search : lastBelow r test ≡ slotFor (slotsOf w) s n
+
+  -- only a slot that the chain of the name has is a match
+  hit-chained : (i : ℕ) → i < 512 → hit s n (slotsOf w i) ≡ true → chained w n i ≡ true
+  unfolding hit slotAt
+  hit-chained i l h =
+      let at : hit s n (slotAt w i) ≡ true = sym (ap (hit s n) (slot-in w i l)) ∙ h in
+      let k = split-key (eqb (two w (keyAt i)) s) (eqb (nameIn w i) n) (pick (chained w (nameIn w i) i) (usedState (byte w i)) false) at in
+      let name : nameIn w i ≡ n = eqb-true (nameIn w i) n (k .1 .0) in
+      rw (sym name) (both (chained w (nameIn w i) i) (usedState (byte w i)) (k .1 .1) .0)
+
+  -- from slot p on: what follows it
+  follow : (p : ℕ) → Way (nextIn w n) p → lastBelow p test ≡ slotFor (slotsOf w) s n → {r : ℕ} → r ≡ nextIn w n p → Left r
+  follow p way whole e =
+      let small = chain-small w n p way in
+      rw e (record {
+        small = omega (arith, next-falls w n p);
+        way = λ i q. step way q;
+        search = sym (last-skip p (nextIn w n p) test (next-falls w n p) (λ l a b. to-false (hit s n (slotsOf w l)) (λ h. false≢true (sym (chain-gap w n p l way b a) ∙ hit-chained l (omega arith) h)))) ∙ whole;
+      })
+
+  pub left-start : {r : ℕ} → r ≡ nextIn w n 512 → Left r
+  unfolding slotFor
+  left-start e = follow 512 begin refl e
+
+  pub left-none : {r : ℕ} → Left r → r ≡ 0 → Nothing ≡ slotFor (slotsOf w) s n
+  left-none left e = let none : lastBelow 0 test ≡ slotFor (slotsOf w) s n = rw e at (left .search) in sym (last-zero test) ∙ none
+
+  -- a slot of the chain matches if it is in use in the scope
+  scoped-hit : (i : ℕ) → i < 512 → Way (nextIn w n) i → hit s n (slotsOf w i) ≡ ofScope s (slotsOf w i)
+  unfolding hit ofScope slotAt
+  scoped-hit i l way =
+      let name : nameIn w i ≡ n = chain-named w n i way l in
+      let there : chained w n i ≡ true = chain-on w n i way l in
+      rw (slot-in w i l, name, there, eq-eqb n n refl) refl
+
+  module _ (r : ℕ) (left : Left r) (some : r ≡ 0 → ⊥) {b : Bool} (tested : b ≡ ofScope s (slotsOf w (r - 1))) where
+    at-slot : r ≡ suc (r - 1)
+    at-slot = omega arith
+
+    passes : hit s n (slotsOf w (r - 1)) ≡ b
+    passes = scoped-hit (r - 1) (omega (arith, left .small)) (left .way (r - 1) at-slot) ∙ sym tested
+
+    opened : pick b (At (r - 1)) (lastBelow (r - 1) test) ≡ slotFor (slotsOf w) s n
+    opened = sym (ap (λ (k : ℕ). lastBelow k test) at-slot ∙ last-open (r - 1) test ∙ ap (λ (t : Bool). pick t (At (r - 1)) (lastBelow (r - 1) test)) passes) ∙ left .search
+
+    pub left-found : b ≡ true → At (r - 1) ≡ slotFor (slotsOf w) s n
+    left-found e = rw e at opened
+
+    pub left-next : b ≡ false → {r′ : ℕ} → r′ ≡ nextIn w n (r - 1) → Left r′
+    left-next e next = follow (r - 1) (left .way (r - 1) at-slot) (rw e at opened) next
 
 -- value_at
 module _ (w : List ℕ) (t p : ℕ) where

@@ -17,8 +17,7 @@ use Rattle.wire.specs.Numbers.{word64, highBytes}
 use Rattle.wire.specs.Runs.{over}
 use Rattle.wire.proofs.Laws.{word-lt, signed-back}
 use Rattle.rules.specs.State.{oneIf}
-use Rattle.cells.specs.Layout.{stateFrom}
-use Rattle.cells.specs.Slots.{kindOf, payloadOf, valueFrom}
+use Rattle.cells.specs.Slots.{kindOf, payloadOf, valueFrom, usedState}
 
 -- the range of a value, which its type has in code
 pub data Ranged : Value → Type 0 where
@@ -52,11 +51,11 @@ kind-value (Integer z) = lit< tt
 kind-value (String n) = lit< tt
 kind-value (Boolean b) = lit< tt
 
-pub kind-state : (v : Value) → stateFrom true (kindOf v) ≡ kindOf v
-unfolding kindOf
-kind-state (Integer z) = refl
-kind-state (String n) = refl
-kind-state (Boolean b) = refl
+pub kind-used : (v : Value) → usedState (kindOf v) ≡ true
+unfolding kindOf usedState
+kind-used (Integer z) = refl
+kind-used (String n) = refl
+kind-used (Boolean b) = refl
 
 -- put_payload
 module _ (w : List ℕ) (p : ℕ) (v : Value) {w′ : List ℕ} where

@@ -6,7 +6,7 @@ use mathlib.Core.Option.{Option, some}
 use Prim.Native.Nat.{ℕ, _+_, _≤_, _<_}
 use native.Mathlib.Omega.{arith}
 use lib.Dec.{eqb}
-use borrow.Author.Tests.{eqb-true, ne-eqb, lt-ltb, le-ltb}
+use borrow.Author.Tests.{eqb-true, lt-ltb, le-ltb}
 use Rattle.labels.specs.declared.Labels.{Labels}
 use Rattle.labels.specs.Sets.{noLabels, _∪_}
 use Rattle.values.specs.declared.Labelled.{Labelled}
@@ -21,15 +21,15 @@ use Rattle.cells.specs.declared.Stored.the-variants.{Done, HasValue, NoR
 use Rattle.cells.specs.declared.Held.{Held}
 use Rattle.cells.specs.declared.Held.the-variants.{Empty}
 use Rattle.cells.specs.declared.Seen.{Seen}
-use Rattle.cells.specs.Layout.{bodyAt, Slot, slot, slotAt, slotsOf, afterSlots, setAt, trailOf, putAt}
+use Rattle.cells.specs.Layout.{bodyAt, Slot, slot, slotAt, slotsOf, besideSlots, setAt, trailOf, putAt}
 use Rattle.cells.specs.Scopes.{scopeOf}
 use Rattle.cells.specs.Slots.{StoresAt, kindOf, hit, inUse, valueIn, markIn, cellIn, filled, marked, slotFor, freeSlot, obtained, obtain}
 use Rattle.cells.specs.Memory.{cellAt, cellsIn, usedIn, cellsOf, usedOf, classesOf, stateOf, outcome, Answers, markedOne, markOne, heldOf, seenOf}
-use Rattle.cells.proofs.Values.{Ranged, value-back, kind-value}
-use Rattle.cells.proofs.Slots.{slot-in, used-byte}
-use Rattle.cells.proofs.Search.{was-found}
+use Rattle.cells.proofs.Values.{Ranged, value-back, kind-value, kind-used}
+use Rattle.cells.proofs.Slots.{slot-in}
+use Rattle.cells.proofs.Search.{was-found, was-last}
 use Rattle.cells.proofs.Scopes.{cell-at, by-number}
-use Rattle.cells.proofs.Cells.{hit-used, Keeps, Ready, used-small, Came, came, after-same, ready, full, none-changed, value-kept}
+use Rattle.cells.proofs.Cells.{Keeps, Ready, used-small, Came, came, beside-kept, ready, full, none-changed, value-kept}
 use Rattle.cells.proofs.Keep.{fine-keeps, fine-came}
 use Rattle.cells.proofs.Regions.{trail-after, records-after, rest-after, names-by, classes-by, cells-by, used-by}
 
@@ -69,13 +69,13 @@ module _ (p : ℕ) (s : Scope) (n : ℕ) (st : State) where
 
 -- ---- Slots
 
-has-value : (w : List ℕ) (i : ℕ) → i < 512 → inUse (slotsOf w i) ≡ true → 1 < byte w i → isSome (valueIn (slotsOf w i)) ≡ true
+has-value : (w : List ℕ) (i : ℕ) → i < 512 → 1 < byte w i → isSome (valueIn (slotsOf w i)) ≡ true
 unfolding valueIn slotAt isSome
-has-value w i below u h = rw (slot-in w i below, used-byte w i below u, lt-ltb 1 (byte w i) h) refl
+has-value w i below h = rw (slot-in w i below, lt-ltb 1 (byte w i) h) refl
 
-no-value : (w : List ℕ) (i : ℕ) → i < 512 → inUse (slotsOf w i) ≡ true → byte w i ≤ 1 → isSome (valueIn (slotsOf w i)) ≡ false
+no-value : (w : List ℕ) (i : ℕ) → i < 512 → byte w i ≤ 1 → isSome (valueIn (slotsOf w i)) ≡ false
 unfolding valueIn slotAt isSome
-no-value w i below u h = rw (slot-in w i below, used-byte w i below u, le-ltb 1 (byte w i) h) refl
+no-value w i below h = rw (slot-in w i below, le-ltb 1 (byte w i) h) refl
 
 mark-read : (w : List ℕ) (i : ℕ) → i < 512 → setAt w (bodyAt i + 40) ≡ markIn (slotsOf w i)
 unfolding markIn slotAt
@@ -86,21 +86,21 @@ cellWith v m = record { exists = true; value = v; mark = m }
 
 filled-keeps : (x : Labelled) (y : Slot) → inUse y ≡ true → Keeps (filled x y) y
 unfolding hit filled inUse
-filled-keeps x (slot t s n p a m) u s′ n′ = simp (u, ne-eqb (kindOf (x .value)) 0 (λ e. omega (arith, kind-value (x .value))))
+filled-keeps x (slot r t s n p a m) u s′ n′ = simp (u, kind-used (x .value))
 
 filled-cell : (x : Labelled) (y : Slot) → Ranged (x .value) → _≡_ {A = Cell} (cellIn (filled x y)) (cellWith (some x) (markIn y))
 unfolding filled inUse valueIn markIn
-filled-cell x (slot t s n p a m) h =
+filled-cell x (slot r t s n p a m) h =
     let v = x .value in
-    rw (ne-eqb (kindOf v) 0 (λ e. omega (arith, kind-value v)), lt-ltb 1 (kindOf v) (kind-value v), value-back v h) refl
+    rw (kind-used v, lt-ltb 1 (kindOf v) (kind-value v), value-back v h) refl
 
 marked-keeps : (k : Labels) (y : Slot) → Keeps (marked k y) y
 unfolding hit marked
-marked-keeps k (slot t s n p a m) s′ n′ = refl
+marked-keeps k (slot r t s n p a m) s′ n′ = refl
 
 marked-cell : (k : Labels) (y : Slot) → _≡_ {A = Cell} (cellIn (marked k y)) (record { exists = inUse y; value = valueIn y; mark = k })
 unfolding marked inUse valueIn markIn
-marked-cell k (slot t s n p a m) = refl
+marked-cell k (slot r t s n p a m) = refl
 
 -- one cell becomes y, by a change that leaves the others
 into : (c : ℕ → ℕ → Cell) (s n : ℕ) (y : Cell) (g : Bool → Cell → Cell) → ((z : Cell) → g false z ≡ z) → y ≡ g true (c s n) → (s′ m : ℕ)
@@ -114,15 +114,15 @@ into c s n y g keeps e s′ m = go (eqb s′ s) refl (eqb m n) refl
 
 -- ---- The ways
 
-module _ (w w′ : List ℕ) (s n : ℕ) {q : Found} (e : obtained q (slotsOf w′) (afterSlots w′) ≡ obtain (slotsOf w) (afterSlots w) s n) (small : n < 1024) where
-  obtained-by : Came (slotsOf w) (afterSlots w) s n q (slotsOf w′) (afterSlots w′)
-  obtained-by = came (slotsOf w) (afterSlots w) s n e
+module _ (w w′ : List ℕ) (s n : ℕ) {q : Found} (e : obtained q (slotsOf w′) (besideSlots w′) ≡ obtain (slotsOf w) (besideSlots w) s n) (small : n < 1024) where
+  obtained-by : Came (slotsOf w) (besideSlots w) s n q (slotsOf w′) (besideSlots w′)
+  obtained-by = came (slotsOf w) (besideSlots w) s n e
 
-  same-after : afterSlots w′ ≡ afterSlots w
-  same-after = after-same (slotsOf w) (afterSlots w) s n obtained-by
+  same-beside : besideSlots w′ ≡ besideSlots w
+  same-beside = beside-kept (slotsOf w) (besideSlots w) s n obtained-by
 
   pub ready-at : (i : ℕ) → q ≡ At i → Ready (slotsOf w) s n i (slotsOf w′)
-  ready-at i at = ready (slotsOf w) (afterSlots w) s n i obtained-by at
+  ready-at i at = ready (slotsOf w) (besideSlots w) s n i obtained-by at
 
   cell-is : cellsOf w (scopeOf s) n ≡ cellsIn (slotsOf w) s n
   unfolding cellsOf
@@ -134,38 +134,38 @@ module _ (w w′ : List ℕ) (s n : ℕ) {q : Found} (e : obtained q (slotsOf w�
   unfolding stateOf
   refused-by answer run slots refusal = record {
     state = λ p es k r. sym (refusal p es k r);
-    stays = λ _ es k r. rw (cells-by w w′ slots, used-by w w′ slots, classes-by w w′ (records-after w w′ same-after), trail-after w w′ same-after) refl;
-    names = names-by w w′ (records-after w w′ same-after);
-    rest = rest-after w w′ same-after;
-    fine = fine-came (slotsOf w) (afterSlots w) s n small obtained-by;
+    stays = λ _ es k r. rw (cells-by w w′ slots, used-by w w′ slots, classes-by w w′ (records-after w w′ same-beside), trail-after w w′ same-beside) refl;
+    names = names-by w w′ (records-after w w′ same-beside);
+    rest = rest-after w w′ same-beside;
+    fine = fine-came (slotsOf w) (besideSlots w) s n small obtained-by;
   }
 
   no-slot : q ≡ Nothing → (cellsOf w (scopeOf s) n ≡ noCell) × (usedOf w ≡ 512)
   unfolding usedOf
-  no-slot at = let f = full (slotsOf w) (afterSlots w) s n obtained-by at in (cell-is ∙ f .0, f .1)
+  no-slot at = let f = full (slotsOf w) (besideSlots w) s n obtained-by at in (cell-is ∙ f .0, f .1)
 
   pub assign-full : (x : Labelled) → q ≡ Nothing → Answers w w′ NoRoom (λ p. assign p (scopeOf s) n x)
   unfolding outcome stateOf
   assign-full x at =
-      refused-by NoRoom (λ p. assign p (scopeOf s) n x) (none-changed (slotsOf w) (afterSlots w) s n obtained-by at)
+      refused-by NoRoom (λ p. assign p (scopeOf s) n x) (none-changed (slotsOf w) (besideSlots w) s n obtained-by at)
       (λ p es k r. assign-no-room p (scopeOf s) n (stateOf w es k r) x (no-slot at .0) (no-slot at .1))
 
   pub mark-full : (k : Labels) → q ≡ Nothing → Answers w w′ NoRoom (λ p. markOne p (scopeOf s) n k)
   unfolding outcome stateOf
   mark-full l at =
-      refused-by NoRoom (λ p. markOne p (scopeOf s) n l) (none-changed (slotsOf w) (afterSlots w) s n obtained-by at)
+      refused-by NoRoom (λ p. markOne p (scopeOf s) n l) (none-changed (slotsOf w) (besideSlots w) s n obtained-by at)
       (λ p es k r. mark-no-room p (scopeOf s) n (stateOf w es k r) l (no-slot at .0) (no-slot at .1))
 
   pub assign-has : (x : Labelled) (i : ℕ) → q ≡ At i → {t : ℕ} → t ≡ byte w′ i → 1 < t → Answers w w′ HasValue (λ p. assign p (scopeOf s) n x)
   unfolding outcome stateOf
   assign-has x i at et h =
       let o = ready-at i at in
-      let there : isSome (cellsIn (slotsOf w) s n .value) ≡ true = rw (sym (o .value)) (has-value w′ i (o .below) (o .used) (omega arith)) in
-      refused-by HasValue (λ p. assign p (scopeOf s) n x) (value-kept (slotsOf w) (afterSlots w) s n obtained-by there)
+      let there : isSome (cellsIn (slotsOf w) s n .value) ≡ true = rw (sym (o .value)) (has-value w′ i (o .below) (omega arith)) in
+      refused-by HasValue (λ p. assign p (scopeOf s) n x) (value-kept (slotsOf w) (besideSlots w) s n obtained-by there)
       (λ p es k r. assign-again p (scopeOf s) n (stateOf w es k r) x (ap (λ (c : Cell). isSome (c .value)) cell-is ∙ there))
 
   -- a store at the slot
-  module _ (i : ℕ) (at : q ≡ At i) (x : Slot) (w″ : List ℕ) (keeps : Keeps x (slotsOf w′ i)) (c : (slotsOf w″ ≡ putAt i x (slotsOf w′)) × (afterSlots w″ ≡ afterSlots w′)) where
+  module _ (i : ℕ) (at : q ≡ At i) (x : Slot) (w″ : List ℕ) (keeps : Keeps x (slotsOf w′ i)) (c : (slotsOf w″ ≡ putAt i x (slotsOf w′)) × (besideSlots w″ ≡ besideSlots w′)) where
     cells-changed : (g : Bool → Cell → Cell) → ((z : Cell) → g false z ≡ z) → cellIn x ≡ g true (cellsIn (slotsOf w) s n)
         → cellsOf w″ ≡ λ t m. g (sameScope t (scopeOf s) && eqb m n) (cellsOf w t m)
     unfolding cellsOf
@@ -181,8 +181,8 @@ module _ (w w′ : List ℕ) (s n : ℕ) {q : Found} (e : obtained q (slotsOf w�
     unfolding usedOf
     room-left = rw cell-is (ready-at i at .room)
 
-    all-after : afterSlots w″ ≡ afterSlots w
-    all-after = c .1 ∙ same-after
+    all-beside : besideSlots w″ ≡ besideSlots w
+    all-beside = c .1 ∙ same-beside
 
     -- the state after a change of one cell
     abbrev after : (Bool → Cell → Cell) → List Entry → ℕ → ℕ → State
@@ -199,7 +199,7 @@ module _ (w w′ : List ℕ) (s n : ℕ) {q : Found} (e : obtained q (slotsOf w�
     state-changed : (g : Bool → Cell → Cell) → ((z : Cell) → g false z ≡ z) → cellIn x ≡ g true (cellsIn (slotsOf w) s n) → (es : List Entry) (k r : ℕ) → stateOf w″ es k r ≡ after g es k r
     unfolding stateOf
     state-changed g none-else own es k r =
-        rw (cells-changed g none-else own, used-changed, classes-by w w″ (records-after w w″ all-after), trail-after w w″ all-after) refl
+        rw (cells-changed g none-else own, used-changed, classes-by w w″ (records-after w w″ all-beside), trail-after w w″ all-beside) refl
 
     stored-by : (run : ℕ → State → Outcome State) (g : Bool → Cell → Cell) → ((z : Cell) → g false z ≡ z) → cellIn x ≡ g true (cellsIn (slotsOf w) s n)
         → ((p : ℕ) (es : List Entry) (k r : ℕ) → run p (stateOf w es k r) ≡ done (after g es k r)) → Answers w w″ Done run
@@ -207,9 +207,9 @@ module _ (w w′ : List ℕ) (s n : ℕ) {q : Found} (e : obtained q (slotsOf w�
     stored-by run g none-else own ran = record {
       state = λ p es k r. ap done (state-changed g none-else own es k r) ∙ sym (ran p es k r);
       stays = λ other. absurd (other refl);
-      names = names-by w w″ (records-after w w″ all-after);
-      rest = rest-after w w″ all-after;
-      fine = λ f. rw (c .0) (fine-keeps (slotsOf w′) i x keeps (fine-came (slotsOf w) (afterSlots w) s n small obtained-by f));
+      names = names-by w w″ (records-after w w″ all-beside);
+      rest = rest-after w w″ all-beside;
+      fine = λ f. rw (c .0) (fine-keeps (slotsOf w′) i x s n keeps (ready-at i at .key) (fine-came (slotsOf w) (besideSlots w) s n small obtained-by f));
     }
 
   pub assign-done : (x : Labelled) (i : ℕ) (w″ : List ℕ) → Ranged (x .value) → q ≡ At i → {t : ℕ} → t ≡ byte w′ i → t ≤ 1
@@ -219,7 +219,7 @@ module _ (w w′ : List ℕ) (s n : ℕ) {q : Found} (e : obtained q (slotsOf w�
       let o = ready-at i at in
       let y : Slot = filled x (slotsOf w′ i) in
       let keeps : Keeps y (slotsOf w′ i) = filled-keeps x (slotsOf w′ i) (o .used) in
-      let none-there : isSome (cellsOf w (scopeOf s) n .value) ≡ false = rw (cell-is, sym (o .value)) (no-value w′ i (o .below) (o .used) (omega arith)) in
+      let none-there : isSome (cellsOf w (scopeOf s) n .value) ≡ false = rw (cell-is, sym (o .value)) (no-value w′ i (o .below) (omega arith)) in
       stored-by i at y w″ keeps c (λ p. assign p (scopeOf s) n x) (λ b z. valueInto b x z) (λ z. refl) (filled-cell x (slotsOf w′ i) range ∙ ap (cellWith (some x)) (o .mark))
       (λ p es k r. assign-fits p (scopeOf s) n (stateOf w es k r) x none-there (room-left i at y w″ keeps c))
 
@@ -238,11 +238,7 @@ module _ (w w′ : List ℕ) (s n : ℕ) {q : Found} (e : obtained q (slotsOf w�
 
 pub in-slots : (f : ℕ → Slot) (s n i : ℕ) {q : Found} → q ≡ slotFor f s n → q ≡ At i → i < 512
 unfolding slotFor
-in-slots f s n i e p = was-found 512 0 (λ k. hit s n (f k)) i (sym e ∙ p) .below
-
-pub found-used : (f : ℕ → Slot) (s n i : ℕ) {q : Found} → q ≡ slotFor f s n → q ≡ At i → inUse (f i) ≡ true
-unfolding slotFor
-found-used f s n i e p = hit-used s n (f i) (was-found 512 0 (λ k. hit s n (f k)) i (sym e ∙ p) .passes)
+in-slots f s n i e p = was-last 512 (λ k. hit s n (f k)) i (sym e ∙ p) .below
 
 pub free-in-slots : (f : ℕ → Slot) (i : ℕ) {q : Found} → q ≡ freeSlot f → q ≡ At i → i < 512
 unfolding freeSlot

@@ -1,6 +1,7 @@
--- Where everything stands in the working memory, and what is read there: 512 slots for cells, the trail, and a record for each of 1,024 names.
-use Prim.Native.Nat.{ℕ, zero, suc, _+_, _*_}
-use mathlib.Core.Bool.{Bool, true, false}
+-- Where everything stands in the working memory, and what is read there: 512 slots for cells, the trail, a record for each of 1,024 names, and the
+-- links of the slots.
+use Prim.Native.Nat.{ℕ, _+_, _*_, _≤_, _<_}
+use mathlib.Core.Bool.{Bool, false}
 use mathlib.Core.List.{List}
 use lib.Dec.{eqb, ltb}
 use lib.ListN.{drop}
@@ -8,8 +9,9 @@ use Rattle.labels.specs.declared.Labels.{Labels}
 use Rattle.labels.specs.Sets.{noLabels}
 use Rattle.labels.specs.Bytes.{labelsFrom}
 use Rattle.wire.specs.Bytes.{pick, byte, two}
-use Rattle.wire.specs.Numbers.{number, highBytes}
-use Rattle.wire.specs.Runs.{bytesAt, over}
+use Rattle.wire.specs.Numbers.{number}
+use Rattle.wire.specs.Runs.{bytesAt}
+use Rattle.cells.specs.Chains.{counted, leadsTo, Way}
 
 -- ---- Places
 
@@ -29,15 +31,19 @@ bodyAt i = 2560 + 72 * i
 abbrev pub trailAt : ℕ
 trailAt = 39424
 
--- the record of name k: string's place 2 bytes, definition's place 2, class 1, built-in 1, parent's scope number 2
+-- the record of name k: its chain's head 2 bytes, definition's place 2, class 1, built-in 1, parent's scope number 2
 abbrev pub recordAt : ℕ → ℕ
 recordAt k = 39456 + 8 * k
 
+-- the link of slot i: 2 bytes
+abbrev pub linkAt : ℕ → ℕ
+linkAt i = 47648 + 2 * i
+
 -- from here on the bytes belong to others
 abbrev pub restAt : ℕ
-restAt = 47648
+restAt = 48672
 
--- ---- What stands there
+-- ---- What is read there
 
 -- n entries read one by one; past them there are only blank ones
 unfoldable pub table : {A : Type 0} → (n : ℕ) → (ℕ → A) → (blank : A) → ℕ → A
@@ -53,54 +59,73 @@ setAt w p = labelsFrom (bytesAt w p 32)
 unfoldable pub wordAt : List ℕ → ℕ → ℕ
 wordAt w p = number (bytesAt w p 8) 0
 
--- whether no slot before i was never used; a state byte of 0 says so of its slot
-unfoldable pub reached : List ℕ → ℕ → Bool
-reached w zero = true
-reached w (suc i) = pick (eqb (byte w (stateAt i)) 0) false (reached w i)
+-- ---- Chains: a slot is found from its name
 
--- the state that a slot's byte tells: 5 is that of a slot that was freed, and past one that was never used all are free, whatever their bytes are
-abbrev pub stateFrom : (reached : Bool) → ℕ → ℕ
-stateFrom r t = pick (eqb t 0) 0 (pick r (pick (eqb t 5) 0 t) 0)
+abbrev pub nameIn : List ℕ → ℕ → ℕ
+nameIn w i = two w (keyAt i + 2)
 
-abbrev pub stateIn : List ℕ → ℕ → ℕ
-stateIn w i = stateFrom (reached w i) (byte w (stateAt i))
+-- where the link of slot p stands; that of 512 is the head of the name's chain
+unfoldable pub placeAt : (name p : ℕ) → ℕ
+placeAt n p = pick (ltb p 512) (linkAt p) (recordAt n)
 
--- state: 0 free; 1 in use without a value; 2, 3, 4 in use with an integer, a string, a boolean
+-- past the names there are no heads
+unfoldable pub linkIn : List ℕ → (name p : ℕ) → ℕ
+linkIn w n p = pick (ltb p 512) (two w (linkAt p)) (pick (ltb n 1024) (two w (recordAt n)) 0)
+
+-- what follows slot p in the chain of a name
+unfoldable pub nextIn : List ℕ → (name p : ℕ) → ℕ
+nextIn w n p = counted (nameIn w) n p (linkIn w n p)
+
+unfoldable pub chained : List ℕ → (name slot : ℕ) → Bool
+chained w n i = leadsTo (nextIn w n) 512 (nextIn w n 512) i
+
+-- the last slot of a name's chain whose number is above j, or 512
+pub record LastAbove (w : List ℕ) (name j p : ℕ) : Type 0 where
+  pub way : Way (nextIn w name) p
+  pub above : j < p
+  pub last : nextIn w name p ≤ j + 1
+
+-- ---- Slots
+
+-- reached: whether the chain of its name has the slot. state: 0 never used; 1 in use without a value; 2, 3, 4 in use with an integer, a string, a boolean; 5 freed
 pub data Slot : Type 0 where
-  slot : (state scope name payload : ℕ) → (set mark : Labels) → Slot
+  slot : (reached : Bool) → (state scope name payload : ℕ) → (set mark : Labels) → Slot
 
 unfoldable pub blankSlot : Slot
-blankSlot = slot 0 0 0 0 noLabels noLabels
+blankSlot = slot false 0 0 0 0 noLabels noLabels
 
 unfoldable pub slotAt : List ℕ → ℕ → Slot
-slotAt w i = slot (stateIn w i) (two w (keyAt i)) (two w (keyAt i + 2)) (wordAt w (bodyAt i)) (setAt w (bodyAt i + 8)) (setAt w (bodyAt i + 40))
+slotAt w i = slot (chained w (nameIn w i) i) (byte w (stateAt i)) (two w (keyAt i)) (nameIn w i) (wordAt w (bodyAt i)) (setAt w (bodyAt i + 8)) (setAt w (bodyAt i + 40))
 
 unfoldable pub slotsOf : List ℕ → ℕ → Slot
 slotsOf w = table 512 (slotAt w) blankSlot
 
--- a slot is to be used that may be the first that never was: then the next one is, from now on
-unfoldable pub endedAfter : List ℕ → ℕ → List ℕ
-endedAfter w i = pick (eqb (byte w (stateAt i)) 0) (pick (ltb i 511) (over w (stateAt i + 1) (highBytes 1 0)) w) w
+-- ---- What stands beside them
 
 unfoldable pub trailOf : List ℕ → Labels
 trailOf w = setAt w trailAt
 
 -- class: 0 not declared; 1 declared with base top, 2 with base node. definition: 0 none
 pub data NameRecord : Type 0 where
-  nameRecord : (string definition class builtIn parent : ℕ) → NameRecord
+  nameRecord : (definition class builtIn parent : ℕ) → NameRecord
 
 unfoldable pub blankRecord : NameRecord
-blankRecord = nameRecord 0 0 0 0 0
+blankRecord = nameRecord 0 0 0 0
 
 unfoldable pub nameAt : List ℕ → ℕ → NameRecord
-nameAt w k = nameRecord (two w (recordAt k)) (two w (recordAt k + 2)) (byte w (recordAt k + 4)) (byte w (recordAt k + 5)) (two w (recordAt k + 6))
+nameAt w k = nameRecord (two w (recordAt k + 2)) (byte w (recordAt k + 4)) (byte w (recordAt k + 5)) (two w (recordAt k + 6))
 
 unfoldable pub recordsOf : List ℕ → ℕ → NameRecord
 recordsOf w = table 1024 (nameAt w) blankRecord
 
--- what follows the slots, and what belongs to others
-unfoldable pub afterSlots : List ℕ → List ℕ
-afterSlots w = drop trailAt w
-
 unfoldable pub restOf : List ℕ → List ℕ
 restOf w = drop restAt w
+
+-- all that a store at a slot leaves as it is
+pub record Beside : Type 0 where
+  pub trail : Labels
+  pub records : ℕ → NameRecord
+  pub rest : List ℕ
+
+unfoldable pub besideSlots : List ℕ → Beside
+besideSlots w = record { trail = trailOf w; records = recordsOf w; rest = restOf w }

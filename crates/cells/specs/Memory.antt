@@ -56,24 +56,18 @@ unfoldable pub classFrom : (state parent : ℕ) → Option DeclaredClass
 classFrom t q = pick (eqb t 0) none (some (record { parent = scopeOf q; base = baseFor (eqb t 2) }))
 
 unfoldable pub classIn : NameRecord → Option DeclaredClass
-classIn (nameRecord s d t b q) = classFrom t q
-
-unfoldable pub stringIn : NameRecord → ℕ
-stringIn (nameRecord s d t b q) = s
+classIn (nameRecord d t b q) = classFrom t q
 
 unfoldable pub definitionIn : NameRecord → ℕ
-definitionIn (nameRecord s d t b q) = d
+definitionIn (nameRecord d t b q) = d
 
 unfoldable pub builtInIn : NameRecord → Bool
-builtInIn (nameRecord s d t b q) = not (eqb b 0)
+builtInIn (nameRecord d t b q) = not (eqb b 0)
 
 unfoldable pub classesOf : List ℕ → ℕ → Option DeclaredClass
 classesOf w = λ k. classIn (recordsOf w k)
 
--- where a name's string stands in the manifest; where its definition does, 0 if there is none; whether it is a built-in type
-unfoldable pub stringPlaceOf : List ℕ → ℕ → ℕ
-stringPlaceOf w = λ k. stringIn (recordsOf w k)
-
+-- where a name's definition stands in the manifest, 0 if there is none; whether it is a built-in type
 unfoldable pub definitionOf : List ℕ → ℕ → ℕ
 definitionOf w = λ k. definitionIn (recordsOf w k)
 
@@ -81,12 +75,11 @@ unfoldable pub builtInOf : List ℕ → ℕ → Bool
 builtInOf w = λ k. builtInIn (recordsOf w k)
 
 pub record Names : Type 0 where
-  pub strings : ℕ → ℕ
   pub definitions : ℕ → ℕ
   pub builtIns : ℕ → Bool
 
 unfoldable pub namesOf : List ℕ → Names
-namesOf w = record { strings = stringPlaceOf w; definitions = definitionOf w; builtIns = builtInOf w }
+namesOf w = record { definitions = definitionOf w; builtIns = builtInOf w }
 
 -- ---- The state
 

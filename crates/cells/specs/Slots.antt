@@ -1,5 +1,5 @@
 -- Slots: what one holds, what a store makes of it, and searches among the 512.
-use Prim.Native.Nat.{ℕ, zero, suc, _%_, _<_}
+use Prim.Native.Nat.{ℕ, zero, suc, _%_, _≤_, _<_}
 use mathlib.Core.Path.{_≡_}
 use mathlib.Core.Bool.{Bool, true, false, not}
 use mathlib.Core.List.{List}
@@ -15,7 +15,7 @@ use Rattle.wire.specs.Numbers.{signed64, word64}
 use Rattle.rules.specs.State.{Cell, oneIf}
 use Rattle.cells.specs.declared.Found.{Found}
 use Rattle.cells.specs.declared.Found.the-variants.{At, Nothing}
-use Rattle.cells.specs.Layout.{Slot, slot, slotsOf, afterSlots, putAt}
+use Rattle.cells.specs.Layout.{Slot, slot, slotsOf, Beside, besideSlots, putAt}
 
 -- ---- Values
 
@@ -35,51 +35,64 @@ valueFrom t p = pick (eqb t 2) (Integer (signed64 p)) (pick (eqb t 3) (String (p
 
 -- ---- What a slot holds
 
-unfoldable pub inUse : Slot → Bool
-inUse (slot t s n p a m) = not (eqb t 0)
+unfoldable pub usedState : (state : ℕ) → Bool
+usedState t = pick (eqb t 0) false (not (eqb t 5))
 
--- in use for this scope number and name; in use for this scope number
+unfoldable pub inUse : Slot → Bool
+inUse (slot r t s n p a m) = usedState t
+
+unfoldable pub neverUsed : Slot → Bool
+neverUsed (slot r t s n p a m) = eqb t 0
+
+unfoldable pub isReached : Slot → Bool
+isReached (slot r t s n p a m) = r
+
+-- reached, and in use for this scope number and name; in use for this scope number
 unfoldable pub hit : (scope name : ℕ) → Slot → Bool
-hit s n (slot t s′ n′ p a m) = pick (eqb s′ s) (pick (eqb n′ n) (not (eqb t 0)) false) false
+hit s n (slot r t s′ n′ p a m) = pick (eqb s′ s) (pick (eqb n′ n) (pick r (usedState t) false) false) false
 
 unfoldable pub ofScope : (scope : ℕ) → Slot → Bool
-ofScope s (slot t s′ n p a m) = pick (eqb s′ s) (not (eqb t 0)) false
+ofScope s (slot r t s′ n p a m) = pick (eqb s′ s) (usedState t) false
 
 abbrev pub labelled : Value → Labels → Labelled
 labelled v a = record { value = v; labels = a }
 
 unfoldable pub valueIn : Slot → Option Labelled
-valueIn (slot t s n p a m) = pick (ltb 1 t) (some (labelled (valueFrom t p) a)) none
+valueIn (slot r t s n p a m) = pick (ltb 1 t) (some (labelled (valueFrom t p) a)) none
 
 unfoldable pub markIn : Slot → Labels
-markIn (slot t s n p a m) = m
+markIn (slot r t s n p a m) = m
 
 abbrev pub cellIn : Slot → Cell
 cellIn x = record { exists = inUse x; value = valueIn x; mark = markIn x }
 
 -- ---- What the stores make of a slot
 
-unfoldable pub occupied : Slot → Slot
-occupied (slot t s n p a m) = slot 1 s n p a m
+-- out of its chain; into the chain of a name
+unfoldable pub takenOut : Slot → Slot
+takenOut (slot r t s n p a m) = slot false t s n p a m
+
+unfoldable pub putIn : (name : ℕ) → Slot → Slot
+putIn n (slot r t s n′ p a m) = slot true t s n p a m
 
 unfoldable pub claimed : (scope name : ℕ) → Slot → Slot
-claimed s n (slot t s′ n′ p a m) = slot 1 s n p a noLabels
+claimed s n (slot r t s′ n′ p a m) = slot true 1 s n p a noLabels
 
 unfoldable pub filled : Labelled → Slot → Slot
-filled x (slot t s n p a m) = slot (kindOf (x .value)) s n (payloadOf (x .value)) (x .labels) m
+filled x (slot r t s n p a m) = slot r (kindOf (x .value)) s n (payloadOf (x .value)) (x .labels) m
 
 unfoldable pub marked : Labels → Slot → Slot
-marked k (slot t s n p a m) = slot t s n p a k
+marked k (slot r t s n p a m) = slot r t s n p a k
 
 unfoldable pub emptied : Slot → Slot
-emptied (slot t s n p a m) = slot 0 s n p a m
+emptied (slot r t s n p a m) = slot r 5 s n p a m
 
 unfoldable pub freedSlot : (scope : ℕ) → Slot → Slot
 freedSlot s x = pick (ofScope s x) (emptied x) x
 
--- slot i goes by g; no other slot changes, and nothing after the slots
+-- slot i goes by g; no other slot changes, and nothing beside the slots
 abbrev pub StoresAt : ℕ → (Slot → Slot) → (before after : List ℕ) → Type 0
-StoresAt i g w w′ = (slotsOf w′ ≡ putAt i (g (slotsOf w i)) (slotsOf w)) × (afterSlots w′ ≡ afterSlots w)
+StoresAt i g w w′ = (slotsOf w′ ≡ putAt i (g (slotsOf w i)) (slotsOf w)) × (besideSlots w′ ≡ besideSlots w)
 
 -- ---- Searches
 
@@ -88,30 +101,38 @@ unfoldable pub firstFrom : ℕ → ℕ → (ℕ → Bool) → Found
 firstFrom zero i h = Nothing
 firstFrom (suc k) i h = pick (h i) (At i) (firstFrom k (suc i) h)
 
--- "first match in slot order"
+-- the last number below k that passes a test
+unfoldable pub lastBelow : ℕ → (ℕ → Bool) → Found
+lastBelow zero h = Nothing
+lastBelow (suc k) h = pick (h k) (At k) (lastBelow k h)
+
+-- the first match in a chain, whose numbers fall
 unfoldable pub slotFor : (ℕ → Slot) → (scope name : ℕ) → Found
-slotFor f s n = firstFrom 512 0 (λ i. hit s n (f i))
+slotFor f s n = lastBelow 512 (λ i. hit s n (f i))
 
 unfoldable pub freeSlot : (ℕ → Slot) → Found
 freeSlot f = firstFrom 512 0 (λ i. not (inUse (f i)))
 
 -- a slot for a key, made if there is none
 pub data Obtained : Type 0 where
-  obtained : Found → (ℕ → Slot) → (after : List ℕ) → Obtained
+  obtained : Found → (ℕ → Slot) → Beside → Obtained
 
-unfoldable pub claimFirst : (ℕ → Slot) → List ℕ → (scope name : ℕ) → Found → Obtained
+unfoldable pub claimFirst : (ℕ → Slot) → Beside → (scope name : ℕ) → Found → Obtained
 claimFirst f r s n (At i) = obtained (At i) (putAt i (claimed s n (f i)) f) r
 claimFirst f r s n Nothing = obtained Nothing f r
 
-unfoldable pub obtainFrom : (ℕ → Slot) → List ℕ → (scope name : ℕ) → Found → Obtained
+unfoldable pub obtainFrom : (ℕ → Slot) → Beside → (scope name : ℕ) → Found → Obtained
 obtainFrom f r s n (At i) = obtained (At i) f r
 obtainFrom f r s n Nothing = claimFirst f r s n (freeSlot f)
 
-unfoldable pub obtain : (ℕ → Slot) → List ℕ → (scope name : ℕ) → Obtained
+unfoldable pub obtain : (ℕ → Slot) → Beside → (scope name : ℕ) → Obtained
 obtain f r s n = obtainFrom f r s n (slotFor f s n)
 
--- ---- The invariant, which freeing a scope requires: no key twice, and every name below 1,024
+-- ---- The invariant, which freeing a scope requires: no key twice, every name below 1,024, every slot in use is reached, and none is in use past one
+-- that never was
 
 pub record FineSlots (f : ℕ → Slot) : Type 0 where
   pub once : (i j s n : ℕ) → i < 512 → j < 512 → hit s n (f i) ≡ true → hit s n (f j) ≡ true → i ≡ j
   pub small : (i s n : ℕ) → hit s n (f i) ≡ true → n < 1024
+  pub linked : (i : ℕ) → inUse (f i) ≡ true → isReached (f i) ≡ true
+  pub packed : (i j : ℕ) → neverUsed (f i) ≡ true → i ≤ j → inUse (f j) ≡ false

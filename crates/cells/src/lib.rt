@@ -1,6 +1,6 @@
 // The cells of the working memory: 512 slots in lent bytes. Contracts speak of the definition's state, which the bytes stand for (specs/Memory.antt).
 ghost use mathlib.Core.Path.{_≡_};
-ghost use mathlib.Core.Bool.{true};
+ghost use mathlib.Core.Bool.{true, false};
 ghost use Prim.Native.Nat.{_+_, _≤_, _<_};
 ghost use lib.ListN.{length};
 ghost use Rattle.labels.specs.Bytes.{labelBytes};
@@ -8,21 +8,25 @@ ghost use Rattle.wire.specs.Numbers.{highBytes};
 ghost use Rattle.wire.specs.Runs.{over};
 ghost use Rattle.rules.specs.State.{free};
 ghost use Rattle.rules.specs.State as state;
-ghost use Rattle.cells.specs.Layout.{bodyAt, reached, slotsOf, afterSlots, endedAfter, setAt, wordAt};
+ghost use Rattle.cells.specs.Layout.{bodyAt, slotsOf, besideSlots, setAt, wordAt, placeAt, linkIn, nextIn, LastAbove};
 ghost use Rattle.cells.specs.Scopes.{scopeOf};
-ghost use Rattle.cells.specs.Slots.{kindOf, payloadOf, valueFrom, inUse, hit, ofScope, valueIn, occupied, claimed, filled, marked, freedSlot, StoresAt, slotFor, freeSlot, obtained};
+ghost use Rattle.cells.specs.Slots.{kindOf, payloadOf, valueFrom, usedState, isReached, ofScope, valueIn, takenOut, putIn, claimed, filled, marked, freedSlot, StoresAt, slotFor, freeSlot, obtained};
 ghost use Rattle.cells.specs.Slots as slots;
 ghost use Rattle.cells.specs.Memory.{heldOf, seenOf, cellsOf, Fine, Becomes, Answers, markOne};
 use labels::Labels;
 use values::Labelled;
 use values::Value;
 
-// The state of a slot that was freed; that of one never used is 0, and ends every search.
+// The state of a slot that was freed; that of one never used is 0.
 const FREED: u8 = 5;
 
 const KEYS: usize = 512;
 
 const BODIES: usize = 2560;
+
+const NAMES: usize = 39456;
+
+const LINKS: usize = 47648;
 
 // What a search among the slots finds.
 pub enum Found {
@@ -64,40 +68,101 @@ pub fn put_labels(work: &mut [u8], p: usize, set: Labels)
     set.to_slice(&mut work[p..]);
 }
 
-// ---- Searches
+// ---- Chains: the slots of one name, by falling numbers. A reference is one more than a slot's number, or 0
 
-fn hits(work: &[u8], i: usize, scope: u16, name: u16) -> bool
-    requires { ⌜ (i < 512) × (reached (now work) (i + 1) ≡ true) ⌝ }
-    ensures { λ r. ⌜ r ≡ hit scope name (slotsOf (now (work .entry)) i) ⌝ }
+// The reference at slot p; at 512, the head of the name's chain.
+fn link_of(work: &[u8], name: u16, p: usize) -> u16
+    ensures { λ r. ⌜ r ≡ linkIn (now (work .entry)) name p ⌝ }
 {
-    let key = KEYS + 4 * i;
-    if wire::two_at(work, key) != scope {
-        return false;
+    if p < 512 {
+        return wire::two_at(work, LINKS + 2 * p);
     }
-    if wire::two_at(work, key + 2) != name {
-        return false;
+    if 1024 <= name {
+        return 0;
     }
-    wire::byte_at(work, i) != FREED
+    wire::two_at(work, NAMES + 8 * name as usize)
 }
 
-// The low byte of the name first: most slots fail there.
+fn put_link(work: &mut [u8], name: u16, p: usize, next: u16)
+    ensures { λ _. ⌜ now (work .exit) ≡ over (now (work .entry)) (placeAt name p) (highBytes 2 next) ⌝ }
+{
+    if p < 512 {
+        wire::put_two(work, LINKS + 2 * p, next);
+        return;
+    }
+    wire::put_two(work, NAMES + 8 * name as usize, next);
+}
+
+// What follows slot p in the chain of a name: a reference that does not fall, or leads to another name, is none.
+fn next_of(work: &[u8], name: u16, p: usize) -> u16
+    requires { ⌜ p ≤ 512 ⌝ }
+    ensures { λ r. ⌜ r ≡ nextIn (now (work .entry)) name p ⌝ }
+{
+    let next = link_of(work, name, p);
+    if next == 0 {
+        return 0;
+    }
+    let i = next as usize - 1;
+    if p <= i {
+        return 0;
+    }
+    if wire::two_at(work, KEYS + 4 * i + 2) != name {
+        return 0;
+    }
+    next
+}
+
+// The place in a name's chain where slot j stands, or would: after the slot answered.
+fn last_above(work: &[u8], name: u16, j: usize) -> usize
+    requires { ⌜ j < 512 ⌝ }
+    ensures { λ r. ⌜ LastAbove (now (work .entry)) name j r ⌝ }
+{
+    let mut p = 512;
+    let mut next = next_of(work, name, 512);
+    while j + 1 < next as usize {
+        p = next as usize - 1;
+        next = next_of(work, name, p);
+    }
+    p
+}
+
+// ---- Searches
+
+fn is_used(state: u8) -> bool
+    ensures { λ r. ⌜ r ≡ usedState state ⌝ }
+{
+    if state == 0 {
+        return false;
+    }
+    state != FREED
+}
+
+// The low byte first: most slots fail there.
+fn in_scope(work: &[u8], i: usize, scope: u16) -> bool
+    requires { ⌜ (i < 512) × (65536 ≤ length (now work)) ⌝ }
+    ensures { λ r. ⌜ r ≡ ofScope scope (slotsOf (now (work .entry)) i) ⌝ }
+{
+    let low = KEYS + 4 * i + 1;
+    if work[low] != (scope % 256) as u8 {
+        return false;
+    }
+    if wire::two_at(work, KEYS + 4 * i) != scope {
+        return false;
+    }
+    is_used(wire::byte_at(work, i))
+}
+
 fn find(work: &[u8], scope: u16, name: u16) -> Found
     requires { ⌜ 65536 ≤ length (now work) ⌝ }
     ensures { λ r. ⌜ r ≡ slotFor (slotsOf (now (work .entry))) scope name ⌝ }
 {
-    let low = (name % 256) as u8;
-    let mut i = 0;
-    while i < 512 {
-        if work[i] == 0 {
-            return Found::Nothing;
+    let mut next = next_of(work, name, 512);
+    while next != 0 {
+        let i = next as usize - 1;
+        if in_scope(work, i, scope) {
+            return Found::At(i);
         }
-        let at = KEYS + 4 * i + 3;
-        if work[at] == low {
-            if hits(work, i, scope, name) {
-                return Found::At(i);
-            }
-        }
-        i += 1;
+        next = next_of(work, name, i);
     }
     Found::Nothing
 }
@@ -108,11 +173,7 @@ fn find_free(work: &[u8]) -> Found
 {
     let mut i = 0;
     while i < 512 {
-        let state = work[i];
-        if state == 0 {
-            return Found::At(i);
-        }
-        if state == FREED {
+        if !is_used(work[i]) {
             return Found::At(i);
         }
         i += 1;
@@ -136,7 +197,7 @@ pub fn value_at(work: &[u8], state: u8, body: usize) -> Value
 }
 
 fn held_at(work: &[u8], i: usize) -> Held
-    requires { ⌜ (i < 512) × ((65536 ≤ length (now work)) × (inUse (slotsOf (now work) i) ≡ true)) ⌝ }
+    requires { ⌜ (i < 512) × (65536 ≤ length (now work)) ⌝ }
     ensures { λ r. ⌜ r ≡ heldOf (valueIn (slotsOf (now (work .entry)) i)) ⌝ }
 {
     let state = wire::byte_at(work, i);
@@ -174,36 +235,40 @@ pub fn read_cell(work: &[u8], scope: u16, name: u16) -> Seen
 
 // ---- Stores at a slot
 
-// Where slot i was never used, the next one is the first such.
-fn end_after(work: &mut [u8], i: usize)
-    requires { ⌜ i < 512 ⌝ }
-    ensures { λ _. ⌜ now (work .exit) ≡ endedAfter (now (work .entry)) i ⌝ }
+// A slot that was freed is still in the chain of its old name.
+fn take_out(work: &mut [u8], j: usize)
+    requires { ⌜ (j < 512) × (65536 ≤ length (now work)) ⌝ }
+    ensures { λ _. ⌜ StoresAt j takenOut (now (work .entry)) (now (work .exit)) ⌝ }
 {
-    if wire::byte_at(work, i) != 0 {
+    let name = wire::two_at(work, KEYS + 4 * j + 2);
+    let p = last_above(work, name, j);
+    if next_of(work, name, p) as usize != j + 1 {
         return;
     }
-    if i < 511 {
-        wire::put_byte(work, i + 1, 0);
-    }
+    let next = next_of(work, name, j);
+    put_link(work, name, p, next);
 }
 
-fn occupy(work: &mut [u8], i: usize)
-    requires { ⌜ (i < 512) × ((65536 ≤ length (now work)) × (reached (now work) i ≡ true)) ⌝ }
-    ensures { λ _. ⌜ StoresAt i occupied (now (work .entry)) (now (work .exit)) ⌝ }
+fn put_in(work: &mut [u8], j: usize, name: u16)
+    requires { ⌜ (j < 512) × ((65536 ≤ length (now work)) × ((name < 1024) × (isReached (slotsOf (now work) j) ≡ false))) ⌝ }
+    ensures { λ _. ⌜ StoresAt j (putIn name) (now (work .entry)) (now (work .exit)) ⌝ }
 {
-    end_after(work, i);
-    wire::put_byte(work, i, 1);
+    let p = last_above(work, name, j);
+    let next = next_of(work, name, p);
+    put_link(work, name, j, next);
+    wire::put_two(work, KEYS + 4 * j + 2, name);
+    put_link(work, name, p, (j + 1) as u16);
 }
 
-fn claim(work: &mut [u8], i: usize, scope: u16, name: u16)
-    requires { ⌜ (i < 512) × ((65536 ≤ length (now work)) × (reached (now work) i ≡ true)) ⌝ }
-    ensures { λ _. ⌜ StoresAt i (claimed scope name) (now (work .entry)) (now (work .exit)) ⌝ }
+fn claim(work: &mut [u8], j: usize, scope: u16, name: u16)
+    requires { ⌜ (j < 512) × ((65536 ≤ length (now work)) × (name < 1024)) ⌝ }
+    ensures { λ _. ⌜ StoresAt j (claimed scope name) (now (work .entry)) (now (work .exit)) ⌝ }
 {
-    occupy(work, i);
-    let key = KEYS + 4 * i;
-    wire::put_two(work, key, scope);
-    wire::put_two(work, key + 2, name);
-    put_labels(work, BODIES + 72 * i + 40, Labels::EMPTY);
+    take_out(work, j);
+    wire::put_byte(work, j, 1);
+    wire::put_two(work, KEYS + 4 * j, scope);
+    put_labels(work, BODIES + 72 * j + 40, Labels::EMPTY);
+    put_in(work, j, name);
 }
 
 pub fn kind_of(value: Value) -> u8
@@ -227,7 +292,7 @@ pub fn put_payload(work: &mut [u8], body: usize, value: Value)
 }
 
 fn put_value(work: &mut [u8], i: usize, x: Labelled)
-    requires { ⌜ (i < 512) × ((65536 ≤ length (now work)) × (inUse (slotsOf (now work) i) ≡ true)) ⌝ }
+    requires { ⌜ (i < 512) × (65536 ≤ length (now work)) ⌝ }
     ensures { λ _. ⌜ StoresAt i (filled x) (now (work .entry)) (now (work .exit)) ⌝ }
 {
     let body = BODIES + 72 * i;
@@ -247,8 +312,8 @@ fn put_mark(work: &mut [u8], i: usize, mark: Labels)
 
 // The slot of a key, claimed if there is none; Nothing where all are in use.
 fn obtain(work: &mut [u8], scope: u16, name: u16) -> Found
-    requires { ⌜ 65536 ≤ length (now work) ⌝ }
-    ensures { λ r. ⌜ obtained r (slotsOf (now (work .exit))) (afterSlots (now (work .exit))) ≡ slots.obtain (slotsOf (now (work .entry))) (afterSlots (now (work .entry))) scope name ⌝ }
+    requires { ⌜ (65536 ≤ length (now work)) × (name < 1024) ⌝ }
+    ensures { λ r. ⌜ obtained r (slotsOf (now (work .exit))) (besideSlots (now (work .exit))) ≡ slots.obtain (slotsOf (now (work .entry))) (besideSlots (now (work .entry))) scope name ⌝ }
 {
     match find(work, scope, name) {
         Found::At(i) => Found::At(i),
@@ -294,25 +359,9 @@ pub fn join_mark(work: &mut [u8], scope: u16, name: u16, set: Labels) -> Stored
 
 // ---- Freeing a scope
 
-// The low byte first: most slots fail there.
-fn in_scope(work: &[u8], i: usize, scope: u16) -> bool
-    requires { ⌜ (i < 512) × ((65536 ≤ length (now work)) × (reached (now work) (i + 1) ≡ true)) ⌝ }
-    ensures { λ r. ⌜ r ≡ ofScope scope (slotsOf (now (work .entry)) i) ⌝ }
-{
-    let low = KEYS + 4 * i + 1;
-    if work[low] != (scope % 256) as u8 {
-        return false;
-    }
-    if wire::two_at(work, KEYS + 4 * i) != scope {
-        return false;
-    }
-    wire::byte_at(work, i) != FREED
-}
-
 fn free_at(work: &mut [u8], i: usize, scope: u16)
-    requires { ⌜ (i < 512) × ((65536 ≤ length (now work)) × (reached (now work) (i + 1) ≡ true)) ⌝ }
+    requires { ⌜ (i < 512) × (65536 ≤ length (now work)) ⌝ }
     ensures { λ _. ⌜ StoresAt i (freedSlot scope) (now (work .entry)) (now (work .exit)) ⌝ }
-    ensures reach { λ _. ⌜ reached (now (work .exit)) (i + 1) ≡ true ⌝ }
 {
     if in_scope(work, i, scope) {
         wire::put_byte(work, i, FREED);

@@ -14,7 +14,7 @@ use Rattle.wire.specs.Runs.{over}
 use Rattle.rules.specs.State.{Base, topBase, nodeBase, baseScope, DeclaredClass, parentOfClass, parentOf, Entry, isDeclared, declared, oneIf}
 use Rattle.cells.specs.Layout.{recordAt, putAt, NameRecord, nameAt, recordsOf}
 use Rattle.cells.specs.Scopes.{scopeOf}
-use Rattle.cells.specs.Memory.{baseFor, classFrom, classIn, stringIn, definitionIn, builtInIn, classesOf, stringPlaceOf, definitionOf, builtInOf, namesOf, stateOf, Becomes}
+use Rattle.cells.specs.Memory.{baseFor, classFrom, classIn, definitionIn, builtInIn, classesOf, definitionOf, builtInOf, namesOf, stateOf, Becomes}
 use Rattle.cells.proofs.Scopes.{scope-cases, top-scope, node-scope}
 use Rattle.memory.specs.declared.Above.the-variants.{At, Nothing}
 use Rattle.memory.specs.Names.{classState, placed, scopeAbove, isNode, atNode}
@@ -33,7 +33,7 @@ class-back false q = refl
 -- declare_class
 pub declare-way : (w : List ℕ) (k q : ℕ) (b : Bool) {t : ℕ} {w1 w2 : List ℕ} → 65536 ≤ length w → k < 1024 → q < 65536 → t ≡ classState b
     → w1 ≡ over w (recordAt k + 4) (highBytes 1 t) → w2 ≡ over w1 (recordAt k + 6) (highBytes 2 q) → Becomes w w2 (declared k (placed q b)) (λ ns. ns)
-unfolding declared stateOf namesOf stringPlaceOf definitionOf builtInOf classTo parentTo classIn stringIn definitionIn builtInIn classesOf putAt
+unfolding declared stateOf namesOf definitionOf builtInOf classTo parentTo classIn definitionIn builtInIn classesOf putAt
 declare-way w k q b {t} {w1} {w2} room below fits et e1 e2 =
     let g : NameRecord → NameRecord = λ x. parentTo q (classTo (classState b) x) in
     let first : w1 ≡ over w (recordAt k + 4) (highBytes 1 (classState b)) = rw et at e1 in
@@ -41,13 +41,12 @@ declare-way w k q b {t} {w1} {w2} room below fits et e1 e2 =
     let step : Filed k w w2 g = and-then one (parent-filed w1 k below (omega (arith, one .size)) q fits e2) in
     let d : Option DeclaredClass = some (placed q b) in
     let classes : classesOf w2 ≡ λ n. elim (eqb n k) [ true ↦ d | false ↦ classesOf w n ] =
-    read-put k w w2 g below step classIn d (by-record (λ x. classIn (g x) ≡ d) (λ s d t b′ q′. class-back b q) (recordsOf w k)) ∙ fun-ext (λ n. pick-elim (eqb n k) d (classesOf w n)) in
+    read-put k w w2 g below step classIn d (by-record (λ x. classIn (g x) ≡ d) (λ d t b′ q′. class-back b q) (recordsOf w k)) ∙ fun-ext (λ n. pick-elim (eqb n k) d (classesOf w n)) in
     record {
       state = λ es n r. state-is k w w2 g below step es n r (λ n. elim (eqb n k) [ true ↦ d | false ↦ classesOf w n ]) classes;
-      names = names-are k w w2 g below step (stringPlaceOf w) (definitionOf w) (builtInOf w)
-          (read-kept k w w2 g below step stringIn (by-record (λ x. stringIn (g x) ≡ stringIn x) (λ s d t b q. refl) (recordsOf w k)))
-          (read-kept k w w2 g below step definitionIn (by-record (λ x. definitionIn (g x) ≡ definitionIn x) (λ s d t b q. refl) (recordsOf w k)))
-          (read-kept k w w2 g below step builtInIn (by-record (λ x. builtInIn (g x) ≡ builtInIn x) (λ s d t b q. refl) (recordsOf w k)));
+      names = names-are k w w2 g below step (definitionOf w) (builtInOf w)
+          (read-kept k w w2 g below step definitionIn (by-record (λ x. definitionIn (g x) ≡ definitionIn x) (λ d t b q. refl) (recordsOf w k)))
+          (read-kept k w w2 g below step builtInIn (by-record (λ x. builtInIn (g x) ≡ builtInIn x) (λ d t b q. refl) (recordsOf w k)));
       rest = rest-kept k w w2 g below step;
       fine = λ f. rw (slots-kept k w w2 g below step) f;
     }

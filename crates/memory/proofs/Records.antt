@@ -13,11 +13,12 @@ use Rattle.wire.specs.Runs.{bytesAt, over}
 use Rattle.wire.proofs.Laws.{run-length, over-length, byte-outside, run-outside, high-length, stored-byte, stored-two, two-same}
 use Rattle.rules.specs.State.{DeclaredClass, Entry, oneIf}
 use Rattle.cells.specs.Layout.{recordAt, putAt, NameRecord, nameRecord, blankRecord, nameAt, recordsOf, slotsOf, trailOf, restOf}
-use Rattle.cells.specs.Memory.{classIn, stringIn, definitionIn, builtInIn, classesOf, stringPlaceOf, definitionOf, builtInOf, Names, namesOf, stateOf, Becomes}
+use Rattle.cells.specs.Memory.{classIn, definitionIn, builtInIn, classesOf, definitionOf, builtInOf, Names, namesOf, stateOf, Becomes}
 use Rattle.cells.proofs.Runs.{byte-in, two-in, over-in}
 use Rattle.cells.proofs.Tables.{table-in, table-put, put-map, put-kept}
-use Rattle.cells.proofs.Regions.{names, same-name, slots-same, trail-same, rest-same, cells-by, used-by}
-use Rattle.memory.specs.Names.{withString, withDefinition, withBuiltIn}
+use Rattle.cells.proofs.Regions.{names, same-two, same-name, trail-same, rest-same, cells-by, used-by}
+use Rattle.cells.proofs.Slots.{slots-same}
+use Rattle.memory.specs.Names.{withDefinition, withBuiltIn}
 
 -- a flag in a byte
 one-small : (b : Bool) → oneIf b < 256
@@ -34,10 +35,10 @@ pub record-in : (w : List ℕ) (k : ℕ) → k < 1024 → recordsOf w k ≡ name
 unfolding recordsOf
 record-in w k h = table-in 1024 (nameAt w) blankRecord k h
 
--- ---- A record by its eight bytes
+-- ---- A record by its eight bytes, of which the first two are the head of a chain
 
 recordFrom : List ℕ → NameRecord
-recordFrom m = nameRecord (two m 0) (two m 2) (byte m 4) (byte m 5) (two m 6)
+recordFrom m = nameRecord (two m 2) (byte m 4) (byte m 5) (two m 6)
 
 abbrev runOf : List ℕ → ℕ → List ℕ
 runOf w k = bytesAt w (recordAt k) 8
@@ -45,47 +46,41 @@ runOf w k = bytesAt w (recordAt k) 8
 record-run : (w : List ℕ) (k : ℕ) → nameAt w k ≡ recordFrom (runOf w k)
 unfolding nameAt recordFrom
 record-run w k =
-    let start : recordAt k + 0 ≡ recordAt k = omega arith in
     rw (
-      two-in w (recordAt k) 8 0 (omega arith),
       two-in w (recordAt k) 8 2 (omega arith),
       byte-in w (recordAt k) 8 4 (omega arith),
       byte-in w (recordAt k) 8 5 (omega arith),
       two-in w (recordAt k) 8 6 (omega arith),
-      start,
     )
 
 -- ---- Stores in record k
 
--- record k goes by g, and nothing else changes
+-- record k goes by g, and nothing else changes, nor does its chain's head
 pub record Filed (k : ℕ) (w w′ : List ℕ) (g : NameRecord → NameRecord) : Type 0 where
   pub own : nameAt w′ k ≡ g (nameAt w k)
-  pub mine : (i : ℕ) → (recordAt k ≤ i → i < recordAt k + 8 → ⊥) → byte w′ i ≡ byte w i
+  pub mine : (i : ℕ) → (recordAt k + 2 ≤ i → i < recordAt k + 8 → ⊥) → byte w′ i ≡ byte w i
   pub size : length w′ ≡ length w
 
 pub and-then : {k : ℕ} {w w′ w″ : List ℕ} {g g′ : NameRecord → NameRecord} → Filed k w w′ g → Filed k w′ w″ g′ → Filed k w w″ (λ x. g′ (g x))
 and-then {g′ = g′} a b = record { own = b .own ∙ ap g′ (a .own); mine = λ i out. b .mine i out ∙ a .mine i out; size = b .size ∙ a .size }
 
-unfoldable pub stringTo : ℕ → NameRecord → NameRecord
-stringTo v (nameRecord s d t b q) = nameRecord v d t b q
-
 unfoldable pub definitionTo : ℕ → NameRecord → NameRecord
-definitionTo v (nameRecord s d t b q) = nameRecord s v t b q
+definitionTo v (nameRecord d t b q) = nameRecord v t b q
 
 unfoldable pub classTo : ℕ → NameRecord → NameRecord
-classTo v (nameRecord s d t b q) = nameRecord s d v b q
+classTo v (nameRecord d t b q) = nameRecord d v b q
 
 unfoldable pub builtInTo : ℕ → NameRecord → NameRecord
-builtInTo v (nameRecord s d t b q) = nameRecord s d t v q
+builtInTo v (nameRecord d t b q) = nameRecord d t v q
 
 unfoldable pub parentTo : ℕ → NameRecord → NameRecord
-parentTo v (nameRecord s d t b q) = nameRecord s d t b v
+parentTo v (nameRecord d t b q) = nameRecord d t b v
 
 module _ (w : List ℕ) (k : ℕ) (below : k < 1024) (room : 65536 ≤ length w) where
   -- any store within the record
-  filed : (o : ℕ) (bs : List ℕ) (g : NameRecord → NameRecord) {w′ : List ℕ} → o + length bs ≤ 8 → w′ ≡ over w (recordAt k + o) bs
+  filed : (o : ℕ) (bs : List ℕ) (g : NameRecord → NameRecord) {w′ : List ℕ} → 2 ≤ o → o + length bs ≤ 8 → w′ ≡ over w (recordAt k + o) bs
       → recordFrom (over (runOf w k) o bs) ≡ g (recordFrom (runOf w k)) → Filed k w w′ g
-  filed o bs g fits e field =
+  filed o bs g past fits e field =
       rw e (record {
         own = record-run (over w (recordAt k + o) bs) k ∙ ap recordFrom (over-in w (recordAt k) 8 o bs fits (omega arith)) ∙ field ∙ ap g (sym (record-run w k));
         mine = λ i out. byte-outside w (recordAt k + o) bs i (λ a b. out (omega arith) (omega arith));
@@ -102,29 +97,13 @@ module _ (w : List ℕ) (k : ℕ) (below : k < 1024) (room : 65536 ≤ length w)
   byte-left : (o : ℕ) (bs : List ℕ) (q : ℕ) → (o ≤ q → q < o + length bs → ⊥) → byte (over (runOf w k) o bs) q ≡ byte (runOf w k) q
   byte-left o bs q apart = byte-outside (runOf w k) o bs q apart
 
-  pub string-filed : {w′ : List ℕ} (v : ℕ) → v < 65536 → w′ ≡ over w (recordAt k) (highBytes 2 v) → Filed k w w′ (stringTo v)
-  unfolding recordFrom stringTo
-  string-filed {w′} v fits e =
-      let bs : List ℕ = highBytes 2 v in
-      let two-bytes : length bs ≡ 2 = high-length 2 v in
-      let start : w′ ≡ over w (recordAt k + 0) bs = e ∙ ap (λ (p : ℕ). over w p bs) (omega arith) in
-      filed 0 bs (stringTo v) (omega arith) start
-      (rw (
-        stored-two (runOf w k) 0 v (omega (arith, size)) fits,
-        two-left 0 bs 2 (λ i a b c d. omega arith),
-        byte-left 0 bs 4 (λ a b. omega arith),
-        byte-left 0 bs 5 (λ a b. omega arith),
-        two-left 0 bs 6 (λ i a b c d. omega arith),
-      ) refl)
-
   pub definition-filed : {w′ : List ℕ} (v : ℕ) → v < 65536 → w′ ≡ over w (recordAt k + 2) (highBytes 2 v) → Filed k w w′ (definitionTo v)
   unfolding recordFrom definitionTo
   definition-filed v fits e =
       let bs : List ℕ = highBytes 2 v in
       let two-bytes : length bs ≡ 2 = high-length 2 v in
-      filed 2 bs (definitionTo v) (omega arith) e
+      filed 2 bs (definitionTo v) (omega arith) (omega arith) e
       (rw (
-        two-left 2 bs 0 (λ i a b c d. omega arith),
         stored-two (runOf w k) 2 v (omega (arith, size)) fits,
         byte-left 2 bs 4 (λ a b. omega arith),
         byte-left 2 bs 5 (λ a b. omega arith),
@@ -136,9 +115,8 @@ module _ (w : List ℕ) (k : ℕ) (below : k < 1024) (room : 65536 ≤ length w)
   class-filed v fits e =
       let bs : List ℕ = highBytes 1 v in
       let one-byte : length bs ≡ 1 = high-length 1 v in
-      filed 4 bs (classTo v) (omega arith) e
+      filed 4 bs (classTo v) (omega arith) (omega arith) e
       (rw (
-        two-left 4 bs 0 (λ i a b c d. omega arith),
         two-left 4 bs 2 (λ i a b c d. omega arith),
         stored-byte (runOf w k) 4 v (omega (arith, size)) fits,
         byte-left 4 bs 5 (λ a b. omega arith),
@@ -150,9 +128,8 @@ module _ (w : List ℕ) (k : ℕ) (below : k < 1024) (room : 65536 ≤ length w)
   built-in-filed v fits e =
       let bs : List ℕ = highBytes 1 v in
       let one-byte : length bs ≡ 1 = high-length 1 v in
-      filed 5 bs (builtInTo v) (omega arith) e
+      filed 5 bs (builtInTo v) (omega arith) (omega arith) e
       (rw (
-        two-left 5 bs 0 (λ i a b c d. omega arith),
         two-left 5 bs 2 (λ i a b c d. omega arith),
         byte-left 5 bs 4 (λ a b. omega arith),
         stored-byte (runOf w k) 5 v (omega (arith, size)) fits,
@@ -164,9 +141,8 @@ module _ (w : List ℕ) (k : ℕ) (below : k < 1024) (room : 65536 ≤ length w)
   parent-filed v fits e =
       let bs : List ℕ = highBytes 2 v in
       let two-bytes : length bs ≡ 2 = high-length 2 v in
-      filed 6 bs (parentTo v) (omega arith) e
+      filed 6 bs (parentTo v) (omega arith) (omega arith) e
       (rw (
-        two-left 6 bs 0 (λ i a b c d. omega arith),
         two-left 6 bs 2 (λ i a b c d. omega arith),
         byte-left 6 bs 4 (λ a b. omega arith),
         byte-left 6 bs 5 (λ a b. omega arith),
@@ -180,10 +156,10 @@ module _ (k : ℕ) (w w′ : List ℕ) (g : NameRecord → NameRecord) (below : 
   unfolding recordsOf
   records-put =
       table-put 1024 (nameAt w) (nameAt w′) blankRecord k (g (recordsOf w k)) below (step .own ∙ ap g (sym (record-in w k below)))
-      (λ i l ne. same-name w w′ i (λ j u. step .mine (recordAt i + j) (λ a b. ne (omega arith))))
+      (λ i l ne. same-name w w′ i (λ j h u. step .mine (recordAt i + j) (λ a b. ne (omega arith))))
 
   pub slots-kept : slotsOf w′ ≡ slotsOf w
-  slots-kept = slots-same w w′ (λ i l. step .mine i (λ a b. omega arith))
+  slots-kept = slots-same w w′ (λ i l. step .mine i (λ a b. omega arith)) (λ q l. same-two w w′ (recordAt q) (λ j h. step .mine (recordAt q + j) (λ a b. omega arith))) (λ i l u. step .mine i (λ a b. omega arith))
 
   trail-kept : trailOf w′ ≡ trailOf w
   trail-kept = trail-same w w′ (λ i l u. step .mine i (λ a b. omega arith))
@@ -199,12 +175,10 @@ module _ (k : ℕ) (w w′ : List ℕ) (g : NameRecord → NameRecord) (below : 
     pub read-put : (v : A) → read (g (recordsOf w k)) ≡ v → _≡_ {A = ℕ → A} (λ i. read (recordsOf w′ i)) (putAt k v (λ i. read (recordsOf w i)))
     read-put v e = ap {B = ℕ → A} (λ (f : ℕ → NameRecord) (i : ℕ). read (f i)) records-put ∙ put-map read k (g (recordsOf w k)) (recordsOf w) ∙ ap (λ (x : A). putAt k x (λ i. read (recordsOf w i))) e
 
-  -- the three fields of the names
-  pub names-are : (s d : ℕ → ℕ) (b : ℕ → Bool) → _≡_ {A = ℕ → ℕ} (λ i. stringIn (recordsOf w′ i)) s → _≡_ {A = ℕ → ℕ} (λ i. definitionIn (recordsOf w′ i)) d
-      → _≡_ {A = ℕ → Bool} (λ i. builtInIn (recordsOf w′ i)) b → namesOf w′ ≡ names s d b
-  unfolding namesOf stringPlaceOf definitionOf builtInOf
-  names-are s d b es ed eb =
-      ap (λ (x : ℕ → ℕ). names x (λ i. definitionIn (recordsOf w′ i)) (λ i. builtInIn (recordsOf w′ i))) es ∙ ap (λ (x : ℕ → ℕ). names s x (λ i. builtInIn (recordsOf w′ i))) ed ∙ ap (names s d) eb
+  -- the two fields of the names
+  pub names-are : (d : ℕ → ℕ) (b : ℕ → Bool) → _≡_ {A = ℕ → ℕ} (λ i. definitionIn (recordsOf w′ i)) d → _≡_ {A = ℕ → Bool} (λ i. builtInIn (recordsOf w′ i)) b → namesOf w′ ≡ names d b
+  unfolding namesOf definitionOf builtInOf
+  names-are d b ed eb = ap (λ (x : ℕ → ℕ). names x (λ i. builtInIn (recordsOf w′ i))) ed ∙ ap (names d) eb
 
   pub state-is : (es : List Entry) (n r : ℕ) (c : ℕ → Option DeclaredClass) → classesOf w′ ≡ c
       → stateOf w′ es n r ≡ record { cells = stateOf w es n r .cells; used = stateOf w es n r .used; classes = c; trail = stateOf w es n r .trail; entries = es; stepsLeft = n; room = r }
@@ -223,48 +197,31 @@ module _ (k : ℕ) (w w′ : List ℕ) (g : NameRecord → NameRecord) (below : 
 
 -- ---- The ways
 
-pub by-record : (P : NameRecord → Type 0) → ((s d t b q : ℕ) → P (nameRecord s d t b q)) → (x : NameRecord) → P x
-by-record P each (nameRecord s d t b q) = each s d t b q
+pub by-record : (P : NameRecord → Type 0) → ((d t b q : ℕ) → P (nameRecord d t b q)) → (x : NameRecord) → P x
+by-record P each (nameRecord d t b q) = each d t b q
 
 module _ (w : List ℕ) (k : ℕ) (room : 65536 ≤ length w) (below : k < 1024) where
-  pub string-way : (v : ℕ) (w′ : List ℕ) → v < 65536 → w′ ≡ over w (recordAt k) (highBytes 2 v) → Becomes w w′ (λ st. st) (withString k v)
-  unfolding withString namesOf stringPlaceOf definitionOf builtInOf stringTo classIn stringIn definitionIn builtInIn
-  string-way v w′ fits e =
-      let g : NameRecord → NameRecord = stringTo v in
-      let step : Filed k w w′ g = string-filed w k below room v fits e in
-      names-become k w w′ g below step (withString k v) (by-record (λ x. classIn (g x) ≡ classIn x) (λ s d t b q. refl))
-      (names-are k w w′ g below step (putAt k v (stringPlaceOf w)) (definitionOf w) (builtInOf w)
-      (read-put k w w′ g below step stringIn v (by-record (λ x. stringIn (g x) ≡ v) (λ s d t b q. refl) (recordsOf w k)))
-      (read-kept k w w′ g below step definitionIn (by-record (λ x. definitionIn (g x) ≡ definitionIn x) (λ s d t b q. refl) (recordsOf w k)))
-      (read-kept k w w′ g below step builtInIn (by-record (λ x. builtInIn (g x) ≡ builtInIn x) (λ s d t b q. refl) (recordsOf w k))))
-
   pub definition-way : (v : ℕ) (w′ : List ℕ) → v < 65536 → w′ ≡ over w (recordAt k + 2) (highBytes 2 v) → Becomes w w′ (λ st. st) (withDefinition k v)
-  unfolding withDefinition namesOf stringPlaceOf definitionOf builtInOf definitionTo classIn stringIn definitionIn builtInIn
+  unfolding withDefinition namesOf definitionOf builtInOf definitionTo classIn definitionIn builtInIn
   definition-way v w′ fits e =
       let g : NameRecord → NameRecord = definitionTo v in
       let step : Filed k w w′ g = definition-filed w k below room v fits e in
-      names-become k w w′ g below step (withDefinition k v) (by-record (λ x. classIn (g x) ≡ classIn x) (λ s d t b q. refl))
-      (names-are k w w′ g below step (stringPlaceOf w) (putAt k v (definitionOf w)) (builtInOf w)
-      (read-kept k w w′ g below step stringIn (by-record (λ x. stringIn (g x) ≡ stringIn x) (λ s d t b q. refl) (recordsOf w k)))
-      (read-put k w w′ g below step definitionIn v (by-record (λ x. definitionIn (g x) ≡ v) (λ s d t b q. refl) (recordsOf w k)))
-      (read-kept k w w′ g below step builtInIn (by-record (λ x. builtInIn (g x) ≡ builtInIn x) (λ s d t b q. refl) (recordsOf w k))))
+      names-become k w w′ g below step (withDefinition k v) (by-record (λ x. classIn (g x) ≡ classIn x) (λ d t b q. refl))
+      (names-are k w w′ g below step (putAt k v (definitionOf w)) (builtInOf w)
+      (read-put k w w′ g below step definitionIn v (by-record (λ x. definitionIn (g x) ≡ v) (λ d t b q. refl) (recordsOf w k)))
+      (read-kept k w w′ g below step builtInIn (by-record (λ x. builtInIn (g x) ≡ builtInIn x) (λ d t b q. refl) (recordsOf w k))))
 
   pub built-in-way : (v : Bool) (w′ : List ℕ) → w′ ≡ over w (recordAt k + 5) (highBytes 1 (oneIf v)) → Becomes w w′ (λ st. st) (withBuiltIn k v)
-  unfolding withBuiltIn namesOf stringPlaceOf definitionOf builtInOf builtInTo classIn stringIn definitionIn builtInIn
+  unfolding withBuiltIn namesOf definitionOf builtInOf builtInTo classIn definitionIn builtInIn
   built-in-way v w′ e =
       let g : NameRecord → NameRecord = builtInTo (oneIf v) in
       let step : Filed k w w′ g = built-in-filed w k below room (oneIf v) (one-small v) e in
-      names-become k w w′ g below step (withBuiltIn k v) (by-record (λ x. classIn (g x) ≡ classIn x) (λ s d t b q. refl))
-      (names-are k w w′ g below step (stringPlaceOf w) (definitionOf w) (putAt k v (builtInOf w))
-      (read-kept k w w′ g below step stringIn (by-record (λ x. stringIn (g x) ≡ stringIn x) (λ s d t b q. refl) (recordsOf w k)))
-      (read-kept k w w′ g below step definitionIn (by-record (λ x. definitionIn (g x) ≡ definitionIn x) (λ s d t b q. refl) (recordsOf w k)))
-      (read-put k w w′ g below step builtInIn v (by-record (λ x. builtInIn (g x) ≡ v) (λ s d t b q. one-back v) (recordsOf w k))))
+      names-become k w w′ g below step (withBuiltIn k v) (by-record (λ x. classIn (g x) ≡ classIn x) (λ d t b q. refl))
+      (names-are k w w′ g below step (definitionOf w) (putAt k v (builtInOf w))
+      (read-kept k w w′ g below step definitionIn (by-record (λ x. definitionIn (g x) ≡ definitionIn x) (λ d t b q. refl) (recordsOf w k)))
+      (read-put k w w′ g below step builtInIn v (by-record (λ x. builtInIn (g x) ≡ v) (λ d t b q. one-back v) (recordsOf w k))))
 
   -- reads
-  pub string-read : {r : ℕ} → r ≡ two w (recordAt k) → r ≡ stringPlaceOf w k
-  unfolding stringPlaceOf stringIn nameAt
-  string-read e = rw (record-in w k below) e
-
   pub definition-read : {r : ℕ} → r ≡ two w (recordAt k + 2) → r ≡ definitionOf w k
   unfolding definitionOf definitionIn nameAt
   definition-read e = rw (record-in w k below) e

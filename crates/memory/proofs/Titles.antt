@@ -1,4 +1,4 @@
--- The ways of the functions on the string "title": its bytes are the first of those that follow the names.
+-- The ways of the functions on the string "title": its bytes are the first of those that follow the links.
 use mathlib.Core.Path.{_≡_, refl, sym, ap, _∙_}
 use mathlib.Core.Bool.{Bool, true, false}
 use mathlib.Core.List.{List}
@@ -12,9 +12,10 @@ use Rattle.wire.specs.Bytes.{pick, byte, two}
 use Rattle.wire.specs.Numbers.{highBytes}
 use Rattle.wire.specs.Runs.{over}
 use Rattle.wire.proofs.Laws.{same-rest, two-same, byte-outside, high-length, stored-two}
-use Rattle.cells.specs.Layout.{restAt, slotsOf, trailOf, recordsOf, restOf}
+use Rattle.cells.specs.Layout.{recordAt, restAt, slotsOf, trailOf, recordsOf, restOf}
 use Rattle.cells.specs.Memory.{stateOf}
-use Rattle.cells.proofs.Regions.{slots-same, trail-same, records-same, names-by, classes-by, cells-by, used-by}
+use Rattle.cells.proofs.Regions.{same-two, trail-same, records-same, names-by, classes-by, cells-by, used-by}
+use Rattle.cells.proofs.Slots.{slots-same}
 use Rattle.memory.specs.declared.TitleName.the-variants.{At as TitleAt, Nothing as NoTitle}
 use Rattle.memory.specs.Names.{titleIn, titleOf, titleFound, TitleSet}
 
@@ -63,9 +64,9 @@ unfolding stateOf titleOf titleIn
 title-way w n w′ room below e =
     let size : length (highBytes 2 (n + 1)) ≡ 2 = high-length 2 (n + 1) in
     let away : (k : ℕ) → k < restAt → byte w′ k ≡ byte w k = λ k l. rw e (byte-outside w restAt (highBytes 2 (n + 1)) k (λ a b. omega arith)) in
-    let slots : slotsOf w′ ≡ slotsOf w = slots-same w w′ (λ k l. away k (omega arith)) in
+    let slots : slotsOf w′ ≡ slotsOf w = slots-same w w′ (λ k l. away k (omega arith)) (λ q l. same-two w w′ (recordAt q) (λ j h. away (recordAt q + j) (omega arith))) (λ k l u. away k (omega arith)) in
     let trail : trailOf w′ ≡ trailOf w = trail-same w w′ (λ k l u. away k (omega arith)) in
-    let records : recordsOf w′ ≡ recordsOf w = records-same w w′ (λ k l u. away k u) in
+    let records : recordsOf w′ ≡ recordsOf w = records-same w w′ (λ k j l a b. away (recordAt k + j) (omega arith)) in
     let back : two w′ restAt ≡ n + 1 = ap (λ (m : List ℕ). two m restAt) e ∙ stored-two w restAt (n + 1) (omega arith) (omega arith) in
     let one-less : n + 1 - 1 ≡ n = omega arith in
     record {

@@ -11,10 +11,11 @@ use Rattle.labels.proofs.Laws.{label-length}
 use Rattle.wire.specs.Bytes.{byte}
 use Rattle.wire.specs.Runs.{over}
 use Rattle.wire.proofs.Laws.{over-length, byte-outside}
-use Rattle.cells.specs.Layout.{trailAt, slotsOf, trailOf, recordsOf}
+use Rattle.cells.specs.Layout.{trailAt, recordAt, slotsOf, trailOf, recordsOf}
 use Rattle.cells.specs.Memory.{stateOf, trailed, Becomes}
 use Rattle.cells.proofs.Runs.{stored-set}
-use Rattle.cells.proofs.Regions.{slots-same, records-same, rest-same, names-by, classes-by, cells-by, used-by}
+use Rattle.cells.proofs.Regions.{same-two, records-same, rest-same, names-by, classes-by, cells-by, used-by}
+use Rattle.cells.proofs.Slots.{slots-same}
 
 pub trail-way : (w : List ℕ) (s : Labels) (w′ : List ℕ) {old new : Labels} → 65536 ≤ length w → Words64 new → old ≡ trailOf w → new ≡ s ∪ old
     → w′ ≡ over w trailAt (labelBytes new) → Becomes w w′ (trailed s) (λ ns. ns)
@@ -22,8 +23,8 @@ unfolding stateOf trailed trailOf
 trail-way w s w′ {old} {new} room words eo en e =
     let size : length (labelBytes new) ≡ 32 = label-length new in
     let away : (k : ℕ) → (trailAt ≤ k → k < trailAt + 32 → ⊥) → byte w′ k ≡ byte w k = λ k out. rw e (byte-outside w trailAt (labelBytes new) k (λ a b. out a (omega arith))) in
-    let slots : slotsOf w′ ≡ slotsOf w = slots-same w w′ (λ k l. away k (λ a b. omega arith)) in
-    let records : recordsOf w′ ≡ recordsOf w = records-same w w′ (λ k l u. away k (λ a b. omega arith)) in
+    let slots : slotsOf w′ ≡ slotsOf w = slots-same w w′ (λ k l. away k (λ a b. omega arith)) (λ q l. same-two w w′ (recordAt q) (λ j h. away (recordAt q + j) (λ a b. omega arith))) (λ k l u. away k (λ a b. omega arith)) in
+    let records : recordsOf w′ ≡ recordsOf w = records-same w w′ (λ k j l a b. away (recordAt k + j) (λ x y. omega arith)) in
     let trail : trailOf w′ ≡ s ∪ trailOf w = rw e (stored-set w trailAt new (omega arith) words) ∙ en ∙ ap (λ (t : Labels). s ∪ t) eo in
     record {
       state = λ es n r. rw (cells-by w w′ slots, used-by w w′ slots, classes-by w w′ records, trail) refl;

@@ -16,23 +16,20 @@ use Rattle.memory.specs.declared.Above.the-variants.{At, Nothing}
 use Rattle.memory.specs.declared.TitleName.{TitleName}
 use Rattle.memory.specs.declared.TitleName.the-variants.{At as TitleAt, Nothing as NoTitle}
 
-unfoldable pub withString : (name place : ℕ) → Names → Names
-withString k v ns = record { strings = putAt k v (ns .strings); definitions = ns .definitions; builtIns = ns .builtIns }
-
 unfoldable pub withDefinition : (name place : ℕ) → Names → Names
-withDefinition k v ns = record { strings = ns .strings; definitions = putAt k v (ns .definitions); builtIns = ns .builtIns }
+withDefinition k v ns = record { definitions = putAt k v (ns .definitions); builtIns = ns .builtIns }
 
 unfoldable pub withBuiltIn : (name : ℕ) → Bool → Names → Names
-withBuiltIn k v ns = record { strings = ns .strings; definitions = ns .definitions; builtIns = putAt k v (ns .builtIns) }
+withBuiltIn k v ns = record { definitions = ns .definitions; builtIns = putAt k v (ns .builtIns) }
 
 -- the state of a class that is declared: 1 with base top, 2 with base node
 unfoldable pub classState : (baseIsNode : Bool) → ℕ
 classState true = 2
 classState false = 1
 
--- no string, no definition, no built-in type
+-- no definition, no built-in type
 unfoldable pub noNames : Names
-noNames = record { strings = λ k. 0; definitions = λ k. 0; builtIns = λ k. false }
+noNames = record { definitions = λ k. 0; builtIns = λ k. false }
 
 abbrev pub placed : (parent : ℕ) → (baseIsNode : Bool) → DeclaredClass
 placed q b = record { parent = scopeOf q; base = baseFor b }
@@ -57,7 +54,7 @@ atNode (some d) = isNode (d .base)
 unfoldable pub titleIn : ℕ → Option ℕ
 titleIn t = pick (eqb t 0) none (pick (ltb 1024 t) none (some (t - 1)))
 
--- its number, kept where the names end
+-- its number, kept where the links end
 unfoldable pub titleOf : List ℕ → Option ℕ
 titleOf w = titleIn (two (restOf w) 0)
 

@@ -7,8 +7,8 @@ ghost use Rattle.wire.specs.Runs.{zeros};
 ghost use Rattle.rules.specs.State.{Entry, oneIf, parentOf, isDeclared, declared};
 ghost use Rattle.cells.specs.Layout.{trailOf};
 ghost use Rattle.cells.specs.Scopes.{scopeOf};
-ghost use Rattle.cells.specs.Memory.{baseFor, classesOf, stringPlaceOf, definitionOf, builtInOf, stateOf, trailed, Becomes};
-ghost use Rattle.memory.specs.Names.{withString, withDefinition, withBuiltIn, classState, placed, scopeAbove, atNode, titleOf, titleFound, TitleSet, Begun};
+ghost use Rattle.cells.specs.Memory.{baseFor, classesOf, definitionOf, builtInOf, stateOf, trailed, Becomes};
+ghost use Rattle.memory.specs.Names.{withDefinition, withBuiltIn, classState, placed, scopeAbove, atNode, titleOf, titleFound, TitleSet, Begun};
 use labels::Labels;
 
 // A slot's state is one byte; these come first.
@@ -18,7 +18,7 @@ const TRAIL: usize = 39424;
 
 const NAMES: usize = 39456;
 
-const REST: usize = 47648;
+const REST: usize = 48672;
 
 // The number of the scope above another one.
 pub enum Above {
@@ -66,21 +66,7 @@ pub fn join_trail(work: &mut [u8], set: Labels)
     cells::put_labels(work, TRAIL, set.union(old));
 }
 
-// ---- Names: where a string stands, where a definition stands, and which are built-in types
-
-pub fn string_at(work: &[u8], name: u16) -> u16
-    requires { ⌜ (65536 ≤ length (now work)) × (name < 1024) ⌝ }
-    ensures { λ r. ⌜ r ≡ stringPlaceOf (now (work .entry)) name ⌝ }
-{
-    wire::two_at(work, NAMES + 8 * name as usize)
-}
-
-pub fn set_string(work: &mut [u8], name: u16, place: u16)
-    requires { ⌜ (65536 ≤ length (now work)) × (name < 1024) ⌝ }
-    ensures { λ _. ⌜ Becomes (now (work .entry)) (now (work .exit)) (λ st. st) (withString name place) ⌝ }
-{
-    wire::put_two(work, NAMES + 8 * name as usize, place);
-}
+// ---- Names: where a definition stands, and which are built-in types
 
 // 0 where the name has no definition.
 pub fn definition_at(work: &[u8], name: u16) -> u16
@@ -111,7 +97,7 @@ pub fn set_built_in(work: &mut [u8], name: u16, yes: bool)
     wire::put_byte(work, NAMES + 8 * name as usize + 5, yes as u8);
 }
 
-// ---- The number of the string "title": at the start of what follows the names, one more than it, or 0 where there is none
+// ---- The number of the string "title": at the start of what follows the links, one more than it, or 0 where there is none
 
 pub fn title(work: &[u8]) -> TitleName
     requires { ⌜ 65536 ≤ length (now work) ⌝ }

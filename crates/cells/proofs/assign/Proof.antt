@@ -7,7 +7,7 @@ use Rattle.cells.proofs.assign.Statement.{statement}
 use Rattle.cells.proofs.assign.Tie as tie
 
 obtain-requires : tie.Need-obtain-requires
-obtain-requires c κs = omega arith
+obtain-requires c κs = c .before .before .pre
 
 enum-known-i : tie.Need-enum-known-i
 enum-known-i c = c .match .keys1
@@ -39,7 +39,7 @@ put-value-requires c κs =
     let start = c .before .before .before .before .before .before .before .before .before .before .before .before in
     let obtain = c .before .before .before .before .before .before .before .before .before .obtain in
     let slot = ready-at _ _ _ _ (obtain .ensures) (start .pre .1) _ (c .before .before .before .before .before .i .given .1) in
-    (slot .below, (omega (arith, start .pre .0, obtain .kept .0), slot .used))
+    (slot .below, omega (arith, start .pre .0, obtain .kept .0))
 
 same-length-3 : tie.Need-same-length-3
 same-length-3 c = search needs

@@ -1,40 +1,43 @@
--- `claim`: state, scope, name and mark, stored one after the other.
+-- `claim`: out of the old chain; state, scope and mark; into the new one.
 use native.Mathlib.Omega.{arith}
 use borrow.Author.Needs.{needs}
 use Rattle.labels.specs.Sets.{noLabels}
-use Rattle.cells.proofs.Slots.{claim-way}
+use Rattle.cells.proofs.Claims.{claim-out, claim-way}
 use Rattle.cells.proofs.claim.Statement.{statement}
 use Rattle.cells.proofs.claim.Tie as tie
 
-occupy-requires : tie.Need-occupy-requires
-occupy-requires c κs = c .before .before .pre
+take-out-requires : tie.Need-take-out-requires
+take-out-requires c κs = search needs
 
-mul-key : tie.Need-mul-key
-mul-key c = omega arith
+put-byte-requires : tie.Need-put-byte-requires
+put-byte-requires c κs = search needs
 
-add-key : tie.Need-add-key
-add-key c = omega arith
-
-put-two-requires : tie.Need-put-two-requires
-put-two-requires c κs = tt
+mul-put-two : tie.Need-mul-put-two
+mul-put-two c = search needs
 
 add-put-two : tie.Need-add-put-two
-add-put-two c = omega arith
+add-put-two c = search needs
 
-put-two-requires-2 : tie.Need-put-two-requires-2
-put-two-requires-2 c κs = tt
+put-two-requires : tie.Need-put-two-requires
+put-two-requires c κs = search needs
 
 mul-put-labels : tie.Need-mul-put-labels
-mul-put-labels c = omega arith
+mul-put-labels c = search needs
 
 add-put-labels : tie.Need-add-put-labels
-add-put-labels c = omega arith
+add-put-labels c = search needs
 
 add-put-labels-2 : tie.Need-add-put-labels-2
-add-put-labels-2 c = omega arith
+add-put-labels-2 c = search needs
 
 put-labels-requires : tie.Need-put-labels-requires
-put-labels-requires c κs = omega arith
+put-labels-requires c κs = search needs
+
+put-in-requires : tie.Need-put-in-requires
+unfolding noLabels
+put-in-requires c κs =
+    let start = c .before .before .before .before .before .before .before .before .before .before .before .before .before .before .before .before .before .before in
+    (start .pre .0, (omega arith, (start .pre .1 .1, claim-out _ _ _ _ _ (start .pre .0) (omega (arith, start .pre .1 .0, c .before .before .before .before .before .before .before .before .before .before .before .before .before .before .before .take-out .kept .0)) (omega arith) (c .before .before .before .before .before .before .before .before .before .before .before .before .before .before .before .take-out .ensures) (c .before .before .before .before .before .before .before .before .before .before .before .put-byte .ensures) (c .before .before .before .before .before .before .before .put-two .ensures) (c .before .before .before .put-labels .ensures))))
 
 same-length : tie.Need-same-length
 same-length c = search needs
@@ -42,22 +45,22 @@ same-length c = search needs
 returns : tie.Need-returns
 unfolding noLabels
 returns c =
-    let start = c .before .before .before .before .before .before .before .before .before .before .before .before .before .before .before .before .before in
-    claim-way _ _ _ _ _ (start .pre .0) (omega (arith, start .pre .1 .0, c .before .before .before .before .before .before .before .before .before .before .before .before .before .before .occupy .kept .0)) (omega arith) (omega arith) (c .before .before .before .before .before .before .before .before .before .before .before .before .before .before .occupy .ensures) (c .before .before .before .before .before .before .before .before .before .before .put-two .ensures) (c .before .before .before .before .before .before .put-two2 .ensures) (c .before .before .put-labels .ensures)
+    let start = c .before .before .before .before .before .before .before .before .before .before .before .before .before .before .before .before .before .before .before .before .before in
+    claim-way _ _ _ _ _ (start .pre .0) (omega (arith, start .pre .1 .0, c .before .before .before .before .before .before .before .before .before .before .before .before .before .before .before .before .before .before .take-out .kept .0)) (omega arith) (c .before .before .before .before .before .before .before .before .before .before .before .before .before .before .before .before .before .before .take-out .ensures) (c .before .before .before .before .before .before .before .before .before .before .before .before .before .before .put-byte .ensures) (c .before .before .before .before .before .before .before .before .before .before .put-two .ensures) (c .before .before .before .before .before .before .put-labels .ensures) _ _ (c .before .before .put-in .ensures)
 
 pub claim-spec : {M : Type 1} → statement M
 claim-spec =
     tie.close
     (tie.spec
-    occupy-requires
-    mul-key
-    add-key
-    put-two-requires
+    take-out-requires
+    put-byte-requires
+    mul-put-two
     add-put-two
-    put-two-requires-2
+    put-two-requires
     mul-put-labels
     add-put-labels
     add-put-labels-2
     put-labels-requires
+    put-in-requires
     same-length
     returns)

@@ -1,6 +1,5 @@
 -- `free_at`: the slot is of the scope, or it is not.
 use borrow.Author.Needs.{needs}
-use Rattle.cells.proofs.Slots.{freed-reached}
 use Rattle.cells.proofs.Free.{free-yes, free-no}
 use Rattle.cells.proofs.free_at.Statement.{statement}
 use Rattle.cells.proofs.free_at.Tie as tie
@@ -17,14 +16,13 @@ same-length c = search needs
 returns : tie.Need-returns
 returns c =
     let start = c .before .before .before .before .before .before .before .before in
-    let stored = c .before .before .put-byte .ensures in
-    (free-yes _ _ _ _ (start .pre .0) (start .pre .1 .0) (start .pre .1 .1) (c .before .before .before .before .before .in-scope .ensures) (c .before .before .before .before .if1 .taken) stored, freed-reached _ _ _ (start .pre .0) (start .pre .1 .0) (start .pre .1 .1) stored)
+    free-yes _ _ _ _ (start .pre .0) (start .pre .1) (c .before .before .before .before .before .in-scope .ensures) (c .before .before .before .before .if1 .taken) (c .before .before .put-byte .ensures)
 
 same-length-2 : tie.Need-same-length-2
 same-length-2 c = search needs
 
 returns-2 : tie.Need-returns-2
-returns-2 c = (free-no _ _ _ (c .before .in-scope .ensures) (c .if1 .left), c .before .before .before .before .pre .1 .1)
+returns-2 c = free-no _ _ _ (c .before .in-scope .ensures) (c .if1 .left)
 
 pub free-at-spec : {M : Type 1} → statement M
 free-at-spec =

@@ -1,24 +1,21 @@
--- `free_scope`: at the loop's head the slots below i are freed, slot i is reached, and nothing after the slots has changed.
-use mathlib.Core.Bool.{true}
-use mathlib.Core.Path.{_≡_, refl, sym, _∙_}
+-- `free_scope`: at the loop's head the slots below i are freed, and nothing beside the slots has changed.
+use mathlib.Core.Path.{_≡_, refl, _∙_}
 use Prim.Native.Nat.{_-_, _≤_}
 use native.Mathlib.Omega.{arith}
 use lib.ListN.{length}
-use Rattle.cells.specs.Layout.{reached, slotsOf, afterSlots}
-use Rattle.cells.proofs.Reached.{reached-none, reached-more}
-use Rattle.cells.proofs.SlotReads.{none-in-use, none-past}
-use Rattle.cells.proofs.Free.{freedTo, freed-none, freed-more, free-way}
+use Rattle.cells.specs.Layout.{slotsOf, besideSlots}
+use Rattle.cells.proofs.Free.{freedTo, freed-none, freed-more, none-past, none-after, free-way}
 use Rattle.cells.proofs.free_scope.Statement.{statement}
 use Rattle.cells.proofs.free_scope.Tie as tie
 
 abbrev Inv-loop : tie.InvT-loop
-Inv-loop work₀ scope i₀ work i = (i ≤ 512) × ((length work ≡ length work₀) × ((slotsOf work ≡ freedTo i scope (slotsOf work₀)) × ((afterSlots work ≡ afterSlots work₀) × (reached work i ≡ true))))
+Inv-loop work₀ scope i₀ work i = (i ≤ 512) × ((length work ≡ length work₀) × ((slotsOf work ≡ freedTo i scope (slotsOf work₀)) × (besideSlots work ≡ besideSlots work₀)))
 
 abbrev μ-loop : tie.MeasureT-loop
 μ-loop work₀ scope i₀ work i = 512 - i
 
 loop-holds : tie.Need-loop-holds Inv-loop μ-loop
-loop-holds c = (omega arith, (refl, (freed-none _ _, (refl, reached-none _))))
+loop-holds c = (omega arith, (refl, (freed-none _ _, refl)))
 
 byte-at-requires : tie.Need-byte-at-requires Inv-loop μ-loop
 byte-at-requires c κs = tt
@@ -29,13 +26,13 @@ same-length c = c .before .before .before .before .loop .inv .1 .0
 returns : tie.Need-returns Inv-loop μ-loop
 returns c =
     let inv = c .before .before .before .before .loop .inv .1 .1 in
-    free-way _ _ _ _ (c .before .before .before .before .before .before .pre .1) (λ j l. none-in-use _ _ j (sym (c .before .byte-at .ensures) ∙ c .if1 .taken) l) (inv .0) (inv .1 .0)
+    let fine = c .before .before .before .before .before .before .pre .1 in
+    free-way _ _ _ _ fine (none-after _ _ _ _ fine (c .before .before .before .loop-test .taken) (inv .0) (c .before .byte-at .ensures) (c .if1 .taken)) (inv .0) (inv .1)
 
 free-at-requires : tie.Need-free-at-requires Inv-loop μ-loop
 free-at-requires c κs =
-    let inv = c .before .before .before .before .before .loop .inv .1 in
-    let used = c .before .if1 .left in
-    (c .before .before .before .before .loop-test .taken, (omega (arith, c .before .before .before .before .before .before .before .pre .0, inv .0), reached-more _ _ (inv .1 .1 .1) (λ e. used (c .before .before .byte-at .ensures ∙ e))))
+    let in-loop = c .before .before .before .before in
+    (in-loop .loop-test .taken, omega (arith, in-loop .before .before .before .pre .0, in-loop .before .loop .inv .1 .0))
 
 add-i : tie.Need-add-i Inv-loop μ-loop
 add-i c = omega arith
@@ -47,8 +44,8 @@ loop-again : tie.Need-loop-again Inv-loop μ-loop
 loop-again c =
     let inv = c .before .before .before .before .before .before .before .before .loop .inv .1 in
     let free-at = c .before .before .free-at in
-    let stores = free-at .ensures .0 in
-    (omega arith, (free-at .kept .0 ∙ inv .0, (freed-more _ _ _ (inv .1 .0) (stores .0), (stores .1 ∙ inv .1 .1 .0, free-at .ensures .1))))
+    let stores = free-at .ensures in
+    (omega arith, (free-at .kept .0 ∙ inv .0, (freed-more _ _ _ (inv .1 .0) (stores .0), stores .1 ∙ inv .1 .1)))
 
 same-length-2 : tie.Need-same-length-2 Inv-loop μ-loop
 same-length-2 c = c .before .loop .inv .1 .0
@@ -56,7 +53,7 @@ same-length-2 c = c .before .loop .inv .1 .0
 returns-2 : tie.Need-returns-2 Inv-loop μ-loop
 returns-2 c =
     let inv = c .before .loop .inv .1 .1 in
-    free-way _ _ _ _ (c .before .before .before .pre .1) (λ j l. none-past _ j (omega (arith, c .loop-test .left))) (inv .0) (inv .1 .0)
+    free-way _ _ _ _ (c .before .before .before .pre .1) (λ j l. none-past _ j (omega (arith, c .loop-test .left))) (inv .0) (inv .1)
 
 pub free-scope-spec : {M : Type 1} → statement M
 free-scope-spec =

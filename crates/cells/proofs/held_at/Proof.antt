@@ -8,7 +8,7 @@ byte-at-requires : tie.Need-byte-at-requires
 byte-at-requires c κs = tt
 
 returns : tie.Need-returns
-returns c = held-none _ _ (c .before .before .before .pre .0) (c .before .before .before .pre .1 .1) (c .before .byte-at .ensures) (c .if1 .taken)
+returns c = held-none _ _ (c .before .before .before .pre .0) (c .before .byte-at .ensures) (c .if1 .taken)
 
 mul-body : tie.Need-mul-body
 mul-body c = omega arith
@@ -28,7 +28,7 @@ labels-at-requires c κs = omega arith
 returns-2 : tie.Need-returns-2
 returns-2 c =
     let start = c .before .before .before .before .before in
-    held-some _ _ (start .pre .0) (start .pre .1 .1) (c .before .before .before .byte-at .ensures) (c .before .before .if1 .left) (c .before .value-at .ensures) (c .labels-at .ensures)
+    held-some _ _ (start .pre .0) (c .before .before .before .byte-at .ensures) (c .before .before .if1 .left) (c .before .value-at .ensures) (c .labels-at .ensures)
 
 pub held-at-spec : {M : Type 1} → statement M
 held-at-spec =

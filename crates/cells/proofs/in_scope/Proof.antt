@@ -41,8 +41,13 @@ returns-2 c = not-of-scope _ _ (c .before .before .before .before .before .pre .
 byte-at-requires : tie.Need-byte-at-requires
 byte-at-requires c κs = tt
 
+is-used-requires : tie.Need-is-used-requires
+is-used-requires c κs = tt
+
 returns-3 : tie.Need-returns-3
-returns-3 c = of-scope _ _ (c .before .before .before .before .before .before .pre .0) _ (c .before .before .before .before .before .before .pre .1 .1) (c .before .before .two-at .ensures) (c .before .if2 .left) (c .byte-at .ensures)
+returns-3 c =
+    let start = c .before .before .before .before .before .before .before in
+    of-scope _ _ (start .pre .0) _ (c .before .before .before .two-at .ensures) (c .before .before .if2 .left) (c .before .byte-at .ensures) (c .is-used .ensures)
 
 pub in-scope-spec : {M : Type 1} → statement M
 in-scope-spec =
@@ -59,4 +64,5 @@ in-scope-spec =
     two-at-requires
     returns-2
     byte-at-requires
+    is-used-requires
     returns-3)

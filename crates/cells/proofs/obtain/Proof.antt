@@ -2,7 +2,6 @@
 use native.Mathlib.Omega.{arith}
 use borrow.Author.Needs.{needs}
 use Rattle.cells.proofs.Cells.{obtain-old, obtain-new, obtain-none}
-use Rattle.cells.proofs.SlotReads.{free-reached}
 use Rattle.cells.proofs.Ways.{free-in-slots}
 use Rattle.cells.proofs.obtain.Statement.{statement}
 use Rattle.cells.proofs.obtain.Tie as tie
@@ -25,9 +24,7 @@ enum-known-j c = c .match2 .keys1
 claim-requires : tie.Need-claim-requires
 claim-requires c κs =
     let start = c .before .before .before .before .before .before .before .before .before .before .before in
-    let found = c .before .before .before .before .find-free .ensures in
-    let at = c .before .before .j .given .1 in
-    (free-in-slots _ _ found at, (start .pre, free-reached _ _ found at))
+    (free-in-slots _ _ (c .before .before .before .before .find-free .ensures) (c .before .before .j .given .1), start .pre)
 
 enum-told-2 : tie.Need-enum-told-2
 enum-told-2 c = c .match2 .keys2

@@ -38,7 +38,7 @@ words c = record { small0 = omega arith; small1 = omega arith; small2 = omega ar
 returns : tie.Need-returns
 returns c =
     let start = c .before .before .before .before .before .before .before .before .before .before .before .before .before .before .before in
-    value-way _ _ _ (start .pre .0) (start .pre .1 .0) (start .pre .1 .1) (value-ranged _ _ (start .good .1 .1 .0 .1 .1 .0)) (words start) (c .before .before .before .before .before .before .before .before .before .before .before .kind-of .ensures) (c .before .before .before .before .before .before .before .before .before .before .put-byte .ensures) (c .before .before .before .before .before .before .put-payload .ensures) (c .before .before .put-labels .ensures)
+    value-way _ _ _ (start .pre .0) (start .pre .1) (value-ranged _ _ (start .good .1 .1 .0 .1 .1 .0)) (words start) (c .before .before .before .before .before .before .before .before .before .before .before .kind-of .ensures) (c .before .before .before .before .before .before .before .before .before .before .put-byte .ensures) (c .before .before .before .before .before .before .put-payload .ensures) (c .before .before .put-labels .ensures)
 
 pub put-value-spec : {M : Type 1} → statement M
 put-value-spec =

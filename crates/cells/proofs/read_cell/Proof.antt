@@ -1,6 +1,6 @@
 -- `read_cell`: no slot has the key, or the one that was found is read.
 use Rattle.labels.specs.Sets.{noLabels}
-use Rattle.cells.proofs.Ways.{in-slots, found-used, read-some, read-none}
+use Rattle.cells.proofs.Ways.{in-slots, read-some, read-none}
 use Rattle.cells.proofs.read_cell.Statement.{statement}
 use Rattle.cells.proofs.read_cell.Tie as tie
 
@@ -22,7 +22,7 @@ held-at-requires c κs =
     let start = c .before .before .before .before .before in
     let found = c .before .before .before .find .ensures in
     let at = c .before .i .given .1 in
-    (in-slots _ _ _ _ found at, (start .pre, found-used _ _ _ _ found at))
+    (in-slots _ _ _ _ found at, start .pre)
 
 mark-at-requires : tie.Need-mark-at-requires
 mark-at-requires c κs =
