@@ -18,7 +18,7 @@ use Rattle.rules.specs.Evaluate.{any}
 use Rattle.rules.specs.Run.{Given, isGiven, namedOnce}
 use Rattle.catalog.specs.declared.Place.{Place}
 use Rattle.catalog.specs.declared.Place.the-variants.{At, Nothing}
-use Rattle.attributes.specs.Names.{hasName, nameFrom, repeatedIn, isMarked, Marked, Marks, Alike, alikeNone, alike}
+use Rattle.attributes.specs.Names.{hasName, nameFrom, repeatedIn, isMarked, Marked, Marks, Unmarked, Alike, alikeNone, alike}
 
 -- ---- The ways of `is_named` and `has_name_from`: what is left from q on says what all of them say
 
@@ -44,27 +44,52 @@ module _ (m : List ℕ) (limit q : ℕ) {n : ℕ} (read : n ≡ two m (q + 3)) w
   pub name-below : n < limit → nameFrom m limit q ≡ false
   name-below l = lt-leb limit (two m (q + 3)) (omega (arith, read, l))
 
--- ---- The ways of `is_again`: a name that has no mark of its own, a marked one, and one that becomes marked
+-- ---- The ways of `is_marked`, and one more mark
 
-pub marks-none : (seen : List ℕ) (name : ℕ) → 1024 ≤ name → Marks seen seen name
-marks-none seen name high n l = ap (λ (b : Bool). b || isMarked seen n) (sym (ne-eqb name n (λ e. omega arith)))
+module _ (m seen : List ℕ) (first q name : ℕ) {b : ℕ} (read : b ≡ byte seen name) (small : name < 1024) where
+  pub marked-so : {r : Bool} → r ≡ eqb b 1 → Marked m seen first q → r ≡ any (hasName m name) (fieldsIn m first q)
+  marked-so told marked = told ∙ ap (λ (x : ℕ). eqb x 1) read ∙ marked name small
 
-module _ (m seen : List ℕ) (first q name : ℕ) {b : ℕ} (read : b ≡ byte seen name) where
-  pub again-marked : b ≡ 1 → name < 1024 → (Marked m seen first q → true ≡ any (hasName m name) (fieldsIn m first q)) × Marks seen seen name
-  again-marked is small = (λ marked. sym (eq-eqb (byte seen name) 1 (sym read ∙ is)) ∙ marked name small, λ n l. go n (eqb name n) refl)
+pub marks-one : (seen seen′ : List ℕ) (name : ℕ) → 1024 ≤ length seen → seen′ ≡ over seen name (highBytes 1 1) → Marks seen seen′ name
+marks-one seen seen′ name long stored n l = go (eqb name n) refl
+  where
+    go : (t : Bool) → eqb name n ≡ t → isMarked seen′ n ≡ (t || isMarked seen n)
+    go true e =
+        let same : name ≡ n = eqb-true name n e in
+        eq-eqb (byte seen′ n) 1 (ap (λ (l : List ℕ). byte l n) stored ∙ ap (byte (over seen name (highBytes 1 1))) (sym same) ∙ stored-byte seen name 1 (omega arith) (omega arith))
+    go false e =
+        ap (λ (x : ℕ). eqb x 1) (ap (λ (l : List ℕ). byte l n) stored ∙ byte-outside seen name (highBytes 1 1) n (λ l u. eqb-false name n e (omega (arith, high-length 1 1))))
+
+-- ---- The ways of `mark_names`: what is marked and what is left from q on make the whole
+
+abbrev pub MarkedTo : (m seen₀ seen : List ℕ) (first end q : ℕ) → Type 0
+MarkedTo m seen₀ seen first end q = Unmarked seen₀ → (n : ℕ) → n < 1024 → (isMarked seen n || any (hasName m n) (fieldsIn m q end)) ≡ any (hasName m n) (fieldsIn m first end)
+
+pub marking-begins : (m seen : List ℕ) (first end : ℕ) → MarkedTo m seen seen first end first
+marking-begins m seen first end blank n l = ap (λ (b : Bool). b || any (hasName m n) (fieldsIn m first end)) (blank n l)
+
+or-moved : (a b c : Bool) → ((a || b) || c) ≡ (b || (a || c))
+or-moved true true c = refl
+or-moved true false c = refl
+or-moved false b c = refl
+
+module _ (m seen₀ seen : List ℕ) (first end q : ℕ) (so : MarkedTo m seen₀ seen first end q) where
+  pub marking-further : (seen′ : List ℕ) {n r : ℕ} → q < end → n ≡ two m (q + 3) → Marks seen seen′ n → r ≡ endOf m q → MarkedTo m seen₀ seen′ first end r
+  unfolding any
+  marking-further seen′ {n} {r} more read marks next blank k l =
+      ap (λ (b : Bool). b || any (hasName m k) (fieldsIn m r end)) (marks k l ∙ ap (λ (x : ℕ). eqb x k || isMarked seen k) read)
+      ∙ or-moved (eqb (two m (q + 3)) k) (isMarked seen k) (any (hasName m k) (fieldsIn m r end))
+      ∙ ap (λ (p : ℕ). isMarked seen k || (eqb (two m (q + 3)) k || any (hasName m k) (fieldsIn m p end))) next
+      ∙ ap (λ (qs : List ℕ). isMarked seen k || any (hasName m k) qs) (sym (field-first m q end more))
+      ∙ so blank k l
+
+  pub marking-ends : end ≤ q → Unmarked seen₀ → Marked m seen first end
+  unfolding any
+  marking-ends over blank n l = or-none (isMarked seen n) ∙ ap (λ (qs : List ℕ). isMarked seen n || any (hasName m n) qs) (sym (no-fields m q end over)) ∙ so blank n l
     where
-      go : (n : ℕ) (t : Bool) → eqb name n ≡ t → isMarked seen n ≡ (t || isMarked seen n)
-      go n true e = eq-eqb (byte seen n) 1 (ap (byte seen) (sym (eqb-true name n e)) ∙ sym read ∙ is)
-      go n false e = refl
-
-  pub again-new : {seen′ : List ℕ} → 1024 ≤ length seen → (b ≡ 1 → ⊥) → name < 1024 → seen′ ≡ over seen name (highBytes 1 1) → (Marked m seen first q → false ≡ any (hasName m name) (fieldsIn m first q)) × Marks seen seen′ name
-  again-new {seen′} long is small stored = (λ marked. sym (ne-eqb (byte seen name) 1 (λ e. is (read ∙ e))) ∙ marked name small, λ n l. go n (eqb name n) refl)
-    where
-      go : (n : ℕ) (t : Bool) → eqb name n ≡ t → isMarked seen′ n ≡ (t || isMarked seen n)
-      go n true e =
-          eq-eqb (byte seen′ n) 1 (ap (λ (l : List ℕ). byte l n) stored ∙ ap (byte (over seen name (highBytes 1 1))) (sym (eqb-true name n e)) ∙ stored-byte seen name 1 (omega arith) (omega arith))
-      go n false e =
-          ap (λ (x : ℕ). eqb x 1) (ap (λ (l : List ℕ). byte l n) stored ∙ byte-outside seen name (highBytes 1 1) n (λ l u. eqb-false name n e (omega (arith, high-length 1 1))))
+      or-none : (b : Bool) → b ≡ (b || false)
+      or-none true = refl
+      or-none false = refl
 
 -- ---- Fields reached from a place on
 
@@ -134,9 +159,13 @@ module _ {m : List ℕ} {first end q : ℕ} (s : Single m first end q) where
   repeated-nowhere over = ap (repeatedIn m (s .earlier)) (sym (no-fields m q end over)) ∙ s .left
 
 -- before the first 26 no name is marked
+pub unmarked : (k : ℕ) → Unmarked (replicate k 0)
+unfolding zeros
+unmarked k n l = ap (λ (x : ℕ). eqb x 1) (zeros-byte k n)
+
 pub marked-begins : (m : List ℕ) (k first : ℕ) → Marked m (replicate k 0) first first
-unfolding any zeros
-marked-begins m k first n l = ap (λ (x : ℕ). eqb x 1) (zeros-byte k n) ∙ ap (any (hasName m n)) (sym (no-fields m first first (omega arith)))
+unfolding any
+marked-begins m k first n l = unmarked k n l ∙ ap (any (hasName m n)) (sym (no-fields m first first (omega arith)))
 
 pub marked-further : {m : List ℕ} (seen seen′ : List ℕ) {first end q r n : ℕ} → Single m first end q → Marked m seen first q → n ≡ two m (q + 3) → Marks seen seen′ n → r ≡ endOf m q → Marked m seen′ first r
 marked-further {m} seen seen′ {first} {end} {q} {r} {n} s marked read marks next k l =

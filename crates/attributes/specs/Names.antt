@@ -1,7 +1,7 @@
 -- Attributes named twice, by their places in the manifest.
 use Prim.Native.Nat.{ℕ, _+_, _<_}
 use mathlib.Core.Path.{_≡_}
-use mathlib.Core.Bool.{Bool, _||_}
+use mathlib.Core.Bool.{Bool, false, _||_}
 use mathlib.Core.List.{List, [], _∷_}
 use lib.Dec.{leb, eqb}
 use Rattle.wire.specs.Bytes.{pick, byte, two, fieldsIn}
@@ -31,6 +31,10 @@ isMarked seen n = eqb (byte seen n) 1
 -- of the names below 1,024, those of the 26s from first up to q are marked
 abbrev pub Marked : (m seen : List ℕ) (first q : ℕ) → Type 0
 Marked m seen first q = (n : ℕ) → n < 1024 → isMarked seen n ≡ any (hasName m n) (fieldsIn m first q)
+
+-- no name below 1,024 is marked
+abbrev pub Unmarked : (seen : List ℕ) → Type 0
+Unmarked seen = (n : ℕ) → n < 1024 → isMarked seen n ≡ false
 
 -- one more name is marked, if it is below 1,024
 abbrev pub Marks : (seen seen′ : List ℕ) (name : ℕ) → Type 0

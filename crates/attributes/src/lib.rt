@@ -12,7 +12,7 @@ ghost use Rattle.places.specs.At.{StandsAs, Siblings};
 ghost use Rattle.cells.specs.Memory.{heldOf};
 ghost use Rattle.catalog.specs.Finding.{Below};
 ghost use Rattle.evaluator.specs.Known.{Sized};
-ghost use Rattle.attributes.specs.Names.{hasName, nameFrom, repeatedIn, Marked, Marks};
+ghost use Rattle.attributes.specs.Names.{hasName, nameFrom, repeatedIn, Marked, Marks, Unmarked};
 ghost use Rattle.attributes.specs.Table.{HasRow, givenAt, Adds, Fresh};
 ghost use Rattle.attributes.specs.Evaluated.{GivenIn, TitledIn};
 use cells::Held;
@@ -58,20 +58,38 @@ pub fn has_name_from(m: &[u8], first: usize, end: usize, limit: u16) -> bool
     false
 }
 
-// Whether one of the attributes from `first` up to q has this name, by the marks of the names below 1,024 that they have; marks the name.
+// Whether one of the fields from `first` up to q has this name, by the marks of the names below 1,024 that they have.
 // A checked manifest has no other names.
-fn is_again(m: &[u8], first: usize, q: usize, name: u16, seen: &mut [u8]) -> bool
-    requires { ⌜ (q ≤ 65535) × (1024 ≤ length (now seen)) ⌝ }
-    ensures { λ r. ⌜ (Marked (now (m .entry)) (now (seen .entry)) first q → r ≡ any (hasName (now (m .entry)) name) (fieldsIn (now (m .entry)) first q)) × Marks (now (seen .entry)) (now (seen .exit)) name ⌝ }
+pub fn is_marked(m: &[u8], first: usize, q: usize, name: u16, seen: &[u8]) -> bool
+    requires { ⌜ q ≤ 65535 ⌝ }
+    ensures { λ r. ⌜ (Marked (now (m .entry)) (now (seen .entry)) first q → r ≡ any (hasName (now (m .entry)) name) (fieldsIn (now (m .entry)) first q)) ⌝ }
 {
     if 1024 <= name {
         return is_named(m, first, q, name);
     }
-    if wire::byte_at(seen, name as usize) == 1 {
-        return true;
-    }
+    wire::byte_at(seen, name as usize) == 1
+}
+
+// The same, and marks the name.
+fn is_again(m: &[u8], first: usize, q: usize, name: u16, seen: &mut [u8]) -> bool
+    requires { ⌜ (q ≤ 65535) × (1024 ≤ length (now seen)) ⌝ }
+    ensures { λ r. ⌜ (Marked (now (m .entry)) (now (seen .entry)) first q → r ≡ any (hasName (now (m .entry)) name) (fieldsIn (now (m .entry)) first q)) × Marks (now (seen .entry)) (now (seen .exit)) name ⌝ }
+{
+    let again = is_marked(m, first, q, name, seen);
     wire::put_byte(seen, name as usize, 1);
-    false
+    again
+}
+
+// Marks the names below 1,024 of the fields between two places, where none is marked yet.
+pub fn mark_names(m: &[u8], first: usize, end: usize, seen: &mut [u8])
+    requires { ⌜ (end ≤ 65535) × (1024 ≤ length (now seen)) ⌝ }
+    ensures { λ _. ⌜ (Unmarked (now (seen .entry)) → Marked (now (m .entry)) (now (seen .exit)) first end) ⌝ }
+{
+    let mut q = first;
+    while q < end {
+        wire::put_byte(seen, wire::two_at(m, q + 3) as usize, 1);
+        q = wire::end_of(m, q);
+    }
 }
 
 // The first of the attributes between two places whose name one before it has.
@@ -79,6 +97,9 @@ pub fn find_repeated(m: &[u8], first: usize, end: usize) -> catalog::Place
     requires { ⌜ end ≤ 65535 ⌝ }
     ensures { λ r. ⌜ (r ≡ repeatedIn (now (m .entry)) [] (fieldsIn (now (m .entry)) first end)) × Below end r ⌝ }
 {
+    if end <= first {
+        return catalog::Place::Nothing;
+    }
     let mut seen = [0u8; 1024];
     let mut q = first;
     while q < end {

@@ -49,9 +49,14 @@ fn find_unknown(m: &[u8], first: usize, end: usize, from: usize, to: usize) -> c
     requires { ⌜ (end ≤ 65535) × (to ≤ 65535) ⌝ }
     ensures { λ r. ⌜ (r ≡ unknownIn (now (m .entry)) (fieldsIn (now (m .entry)) from to) (fieldsIn (now (m .entry)) first end)) × Below end r ⌝ }
 {
+    if end <= first {
+        return catalog::Place::Nothing;
+    }
+    let mut seen = [0u8; 1024];
+    attributes::mark_names(m, from, to, &mut seen);
     let mut q = first;
     while q < end {
-        if !attributes::is_named(m, from, to, wire::two_at(m, q + 3)) {
+        if !attributes::is_marked(m, from, to, wire::two_at(m, q + 3), &seen) {
             return catalog::Place::At(q);
         }
         q = wire::end_of(m, q);

@@ -16,6 +16,10 @@ Inv-loop m first end seen₀ q₀ seen q = (length seen ≡ 1024) × (Single m f
 abbrev μ-loop : tie.MeasureT-loop
 μ-loop m first end seen₀ q₀ seen q = end - q
 
+returns : tie.Need-returns Inv-loop μ-loop
+unfolding Below
+returns c = (repeated-nowhere (single-begins _ _ _) (c .if1 .taken), tt)
+
 loop-holds : tie.Need-loop-holds Inv-loop μ-loop
 loop-holds c = (refl, (single-begins _ _ _, marked-begins _ 1024 _))
 
@@ -31,9 +35,9 @@ slice-aggregate-is-again c = search needs
 is-again-requires : tie.Need-is-again-requires Inv-loop μ-loop
 is-again-requires c κs = (omega arith, omega (arith, c .before .before .before .loop .inv .0))
 
-returns : tie.Need-returns Inv-loop μ-loop
+returns-2 : tie.Need-returns-2 Inv-loop μ-loop
 unfolding Below
-returns c = (repeated-here (c .before .before .before .before .before .before .loop .inv .1 .0) (c .before .before .before .before .before .loop-test .taken) (c .before .before .before .before .two-at .ensures) (c .before .before .is-again .ensures .0 (c .before .before .before .before .before .before .loop .inv .1 .1)) (c .if1 .taken), c .before .before .before .before .before .loop-test .taken)
+returns-2 c = (repeated-here (c .before .before .before .before .before .before .loop .inv .1 .0) (c .before .before .before .before .before .loop-test .taken) (c .before .before .before .before .two-at .ensures) (c .before .before .is-again .ensures .0 (c .before .before .before .before .before .before .loop .inv .1 .1)) (c .if2 .taken), c .before .before .before .before .before .loop-test .taken)
 
 end-of-requires : tie.Need-end-of-requires Inv-loop μ-loop
 end-of-requires c κs = omega arith
@@ -46,11 +50,11 @@ loop-again c =
     let inv = c .before .before .before .before .before .before .before .loop .inv .1 in
     let read = c .before .before .before .before .before .two-at .ensures in
     let again = c .before .before .before .is-again .ensures in
-    (search needs, (repeated-further (inv .0) (c .before .before .before .before .before .before .loop-test .taken) read (again .0 (inv .1)) (c .before .if1 .left) (c .end-of .ensures), marked-further (c .before .before .before .before .before .before .before .loop .seen) (c .before .before .before .is-again .last .1 .1 .1 .1 .0) (inv .0) (inv .1) read (again .1) (c .end-of .ensures)))
+    (search needs, (repeated-further (inv .0) (c .before .before .before .before .before .before .loop-test .taken) read (again .0 (inv .1)) (c .before .if2 .left) (c .end-of .ensures), marked-further (c .before .before .before .before .before .before .before .loop .seen) (c .before .before .before .is-again .last .1 .1 .1 .1 .0) (inv .0) (inv .1) read (again .1) (c .end-of .ensures)))
 
-returns-2 : tie.Need-returns-2 Inv-loop μ-loop
+returns-3 : tie.Need-returns-3 Inv-loop μ-loop
 unfolding Below
-returns-2 c = (repeated-nowhere (c .before .loop .inv .1 .0) (c .loop-test .left), tt)
+returns-3 c = (repeated-nowhere (c .before .loop .inv .1 .0) (c .loop-test .left), tt)
 
 pub find-repeated-spec : {M : Type 1} → statement M
 find-repeated-spec =
@@ -58,13 +62,14 @@ find-repeated-spec =
     (tie.spec
     Inv-loop
     μ-loop
+    returns
     loop-holds
     add-two-at
     two-at-requires
     slice-aggregate-is-again
     is-again-requires
-    returns
+    returns-2
     end-of-requires
     loop-less
     loop-again
-    returns-2)
+    returns-3)

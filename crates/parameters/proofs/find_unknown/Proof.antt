@@ -4,16 +4,28 @@ use mathlib.Core.Path.{_≡_, refl}
 use native.Mathlib.Omega.{arith}
 use Rattle.wire.specs.Bytes.{fieldsIn}
 use Rattle.catalog.specs.Finding.{Below}
+use Rattle.attributes.proofs.Repeats.{unmarked}
+use borrow.Author.Needs.{needs}
 use Rattle.parameters.specs.Places.{unknownIn}
 use Rattle.parameters.proofs.Searches.{unknown-here, unknown-further, unknown-nowhere}
 use Rattle.parameters.proofs.find_unknown.Statement.{statement}
 use Rattle.parameters.proofs.find_unknown.Tie as tie
 
 abbrev Inv-loop : tie.InvT-loop
-Inv-loop m first end from to q₀ q = unknownIn m (fieldsIn m from to) (fieldsIn m q end) ≡ unknownIn m (fieldsIn m from to) (fieldsIn m first end)
+Inv-loop m first end from to seen q₀ q = unknownIn m (fieldsIn m from to) (fieldsIn m q end) ≡ unknownIn m (fieldsIn m from to) (fieldsIn m first end)
 
 abbrev μ-loop : tie.MeasureT-loop
-μ-loop m first end from to q₀ q = end - q
+μ-loop m first end from to seen q₀ q = end - q
+
+returns : tie.Need-returns Inv-loop μ-loop
+unfolding Below
+returns c = (unknown-nowhere _ _ _ _ _ refl (c .if1 .taken), tt)
+
+slice-aggregate-mark-names : tie.Need-slice-aggregate-mark-names Inv-loop μ-loop
+slice-aggregate-mark-names c = search needs
+
+mark-names-requires : tie.Need-mark-names-requires Inv-loop μ-loop
+mark-names-requires c κs = search needs
 
 loop-holds : tie.Need-loop-holds Inv-loop μ-loop
 loop-holds c = refl
@@ -24,12 +36,15 @@ add-two-at c = omega arith
 two-at-requires : tie.Need-two-at-requires Inv-loop μ-loop
 two-at-requires c κs = tt
 
-is-named-requires : tie.Need-is-named-requires Inv-loop μ-loop
-is-named-requires c κs = c .before .before .before .before .pre .1
+slice-aggregate-is-marked : tie.Need-slice-aggregate-is-marked Inv-loop μ-loop
+slice-aggregate-is-marked c = search needs
 
-returns : tie.Need-returns Inv-loop μ-loop
+is-marked-requires : tie.Need-is-marked-requires Inv-loop μ-loop
+is-marked-requires c κs = c .before .before .before .before .before .before .before .before .before .pre .1
+
+returns-2 : tie.Need-returns-2 Inv-loop μ-loop
 unfolding Below
-returns c = (unknown-here _ _ _ _ _ (c .before .before .before .before .loop .inv) (c .before .before .before .loop-test .taken) (c .before .before .two-at .ensures) (c .before .is-named .ensures) (c .if1 .taken), c .before .before .before .loop-test .taken)
+returns-2 c = (unknown-here _ _ _ _ _ (c .before .before .before .before .before .loop .inv) (c .before .before .before .before .loop-test .taken) (c .before .before .before .two-at .ensures) (c .before .is-marked .ensures (c .before .before .before .before .before .before .before .mark-names .ensures (unmarked 1024))) (c .if2 .taken), c .before .before .before .before .loop-test .taken)
 
 end-of-requires : tie.Need-end-of-requires Inv-loop μ-loop
 end-of-requires c κs = omega arith
@@ -38,11 +53,11 @@ loop-less : tie.Need-loop-less Inv-loop μ-loop
 loop-less c = omega (arith, c .end-of .ensures)
 
 loop-again : tie.Need-loop-again Inv-loop μ-loop
-loop-again c = unknown-further _ _ _ _ _ (c .before .before .before .before .before .loop .inv) (c .before .before .before .before .loop-test .taken) (c .before .before .before .two-at .ensures) (c .before .before .is-named .ensures) (c .before .if1 .left) (c .end-of .ensures)
+loop-again c = unknown-further _ _ _ _ _ (c .before .before .before .before .before .before .loop .inv) (c .before .before .before .before .before .loop-test .taken) (c .before .before .before .before .two-at .ensures) (c .before .before .is-marked .ensures (c .before .before .before .before .before .before .before .before .mark-names .ensures (unmarked 1024))) (c .before .if2 .left) (c .end-of .ensures)
 
-returns-2 : tie.Need-returns-2 Inv-loop μ-loop
+returns-3 : tie.Need-returns-3 Inv-loop μ-loop
 unfolding Below
-returns-2 c = (unknown-nowhere _ _ _ _ _ (c .before .loop .inv) (c .loop-test .left), tt)
+returns-3 c = (unknown-nowhere _ _ _ _ _ (c .before .loop .inv) (c .loop-test .left), tt)
 
 pub find-unknown-spec : {M : Type 1} → statement M
 find-unknown-spec =
@@ -50,12 +65,16 @@ find-unknown-spec =
     (tie.spec
     Inv-loop
     μ-loop
+    returns
+    slice-aggregate-mark-names
+    mark-names-requires
     loop-holds
     add-two-at
     two-at-requires
-    is-named-requires
-    returns
+    slice-aggregate-is-marked
+    is-marked-requires
+    returns-2
     end-of-requires
     loop-less
     loop-again
-    returns-2)
+    returns-3)
