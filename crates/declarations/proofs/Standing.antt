@@ -32,7 +32,7 @@ use Rattle.declarations.specs.Classes.{ClassStands, ParentSmall}
 
 module _ {m : List ℕ} (few : length (stringPlaces m) ≤ 1024) where
   -- the name that the field at p begins with
-  name-small : (p t : ℕ) → byte m p ≡ t → formOf t .one ≡ Name → p < length m → NamesKnown m p → two m (p + 3) < 1024
+  pub name-small : (p t : ℕ) → byte m p ≡ t → formOf t .one ≡ Name → p < length m → NamesKnown m p → two m (p + 3) < 1024
   name-small p t tag begins within known =
       let n : ℕ = length (stringPlaces m) in
       let below : two m (p + 3) < n = first-name m n p (formOf (byte m p)) (its-names m n (length m) p within known) (ap (λ (t : ℕ). formOf t .one) tag ∙ begins) in
@@ -51,11 +51,16 @@ pub parameters-known : {m : List ℕ} {q to : ℕ} → Siblings m 31 Parameter q
 parameters-known ended known = known
 parameters-known {m} {q} (sibling l s more) known = parameters-known more (known-after m (length (stringPlaces m)) (length m) 31 q (s .stands .sound) (s .stands .ends) known)
 
+-- from the first of the fields in a field on
+pub inside-known : {m : List ℕ} {p : ℕ} (t h : ℕ) (ps : Parts) → byte m p ≡ t → formOf t .rest ≡ Fields ps → headSize (formOf t) ≡ h → p < length m → NamesKnown m p → NamesKnown m (p + 3 + h)
+inside-known {m} {p} t h ps tag rest head within known =
+    subst (λ (n : ℕ). NamesKnown m (p + 3 + n)) (ap (λ (u : ℕ). headSize (formOf u)) tag ∙ head) (known-inside m (length (stringPlaces m)) (length m) p ps within (ap (λ (u : ℕ). formOf u .rest) tag ∙ rest) known)
+
 -- what follows the name of a definition
-inside-known : {m : List ℕ} {p : ℕ} (t : ℕ) (ps : Parts) → byte m p ≡ t → formOf t .rest ≡ Fields ps → headSize (formOf t) ≡ 2 → p < length m → NamesKnown m p → NamesKnown m (p + 5)
-inside-known {m} {p} t ps tag rest head within known =
-    let size : p + 3 + headSize (formOf (byte m p)) ≡ p + 5 = ap (λ (t : ℕ). p + 3 + headSize (formOf t)) tag ∙ ap (λ (h : ℕ). p + 3 + h) head ∙ omega arith in
-    subst (NamesKnown m) size (known-inside m (length (stringPlaces m)) (length m) p ps within (ap (λ (t : ℕ). formOf t .rest) tag ∙ rest) known)
+after-name : {m : List ℕ} {p : ℕ} (t : ℕ) (ps : Parts) → byte m p ≡ t → formOf t .rest ≡ Fields ps → headSize (formOf t) ≡ 2 → p < length m → NamesKnown m p → NamesKnown m (p + 5)
+after-name {m} {p} t ps tag rest head within known =
+    let place : p + 3 + 2 ≡ p + 5 = omega arith in
+    subst (NamesKnown m) place (inside-known t 2 ps tag rest head within known)
 
 -- ---- Definitions
 
@@ -77,7 +82,7 @@ module _ {m : List ℕ} {p : ℕ} (few : length (stringPlaces m) ≤ 1024) where
 
   pub type-laid : Stands m 32 p → byte m p ≡ 0x32 → NamesKnown m p → (o : TypeDefinitionAt m p) → Laid m p (p + 5) (o .block)
   unfolding formOf formIn forms headSize size
-  type-laid stands tag known o = let ends = stands .ends in laid stands (o .parameters) (o .body) (inside-known 0x32 _ tag refl refl (omega arith) known)
+  type-laid stands tag known o = let ends = stands .ends in laid stands (o .parameters) (o .body) (after-name 0x32 _ tag refl refl (omega arith) known)
 
 module _ {m : List ℕ} {p : ℕ} (few : length (stringPlaces m) ≤ 1024) (s : ClassStands m p) where
   pub class-opened : ClassDefinitionAt m p
@@ -85,7 +90,7 @@ module _ {m : List ℕ} {p : ℕ} (few : length (stringPlaces m) ≤ 1024) (s : 
 
   inside-class : NamesKnown m (p + 5)
   unfolding formOf formIn forms headSize size
-  inside-class = let ends = s .stands .stands .ends in inside-known 0x34 _ (s .tag) refl refl (omega arith) (s .names)
+  inside-class = let ends = s .stands .stands .ends in after-name 0x34 _ (s .tag) refl refl (omega arith) (s .names)
 
   after-parent : NamesKnown m (afterParentAt m (p + 5))
   after-parent = go (eqb (byte m (p + 5)) 0x35) refl

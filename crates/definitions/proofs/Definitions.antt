@@ -11,7 +11,6 @@ use lib.ListN.{length}
 use borrow.Author.Tests.{eqb-true, eqb-false, eq-eqb, ne-eqb}
 use Rattle.wire.specs.Bytes.{pick, byte, two}
 use Rattle.rules.specs.Format.{forms, formIn, formOf}
-use Rattle.rules.specs.Check.{stringPlaces}
 use Rattle.rules.specs.Tree.{Definition, TypeDefinition, ClassDefinition, typeDefinition, classDefinition, Item, definition}
 use Rattle.rules.specs.State.{Known, isSome}
 use Rattle.rules.specs.Evaluate.{any, findType, findClass}
@@ -21,13 +20,13 @@ use Rattle.rules.proofs.Within.{false-not-true}
 use Rattle.rules.proofs.Lists.{when-true, when-false}
 use Rattle.places.specs.At.{itemAt}
 use Rattle.places.proofs.Items.{type-definition-opens, class-definition-opens}
-use Rattle.syntax.proofs.NamesKnown.{its-names, first-name}
 use Rattle.cells.specs.Layout.{putAt}
 use Rattle.cells.specs.Memory.{definitionOf, builtInOf, Names, namesOf, Becomes}
 use Rattle.memory.specs.Names.{withDefinition as definedAs}
 use Rattle.memory.proofs.Titles.{title-kept}
 use Rattle.evaluator.specs.Known.{DefinedAt, undefined, typeAt, classAt, KnownIn}
 use Rattle.declarations.specs.Standing.{Set, Defined, defined}
+use Rattle.declarations.proofs.Standing.{name-small as begins-small}
 use Rattle.definitions.specs.Defined.{ItemStands, IsDefinition, Defines}
 
 -- ---- A definition at its place
@@ -45,9 +44,7 @@ module _ (m : List ℕ) (p : ℕ) (s : ItemStands m p) (i : IsDefinition m p) wh
   pub name-small : (w : List ℕ) → Set m w → two m (p + 3) < 1024
   name-small w set =
       let ends = s .stands .stands .ends in
-      let few = set .strings in
-      let below = first-name m (length (stringPlaces m)) p (formOf (byte m p)) (its-names m (length (stringPlaces m)) (length m) p (omega arith) (s .names)) name-first in
-      omega arith
+      begins-small (set .strings) p (byte m p) refl name-first (omega arith) (s .names)
 
 -- the definition read at p
 pub record DefinitionAt (m : List ℕ) (p : ℕ) : Type 0 where

@@ -17,7 +17,7 @@ use Rattle.places.specs.At.{statementAt, blockAt, branchesAt, statementsAt, Sta
 use Rattle.places.proofs.Tags.{IsStatementTag, assignmentTag, conditionalTag, choiceTag, resourceTag, definedTag, classTag, includeTag, statement-tag}
 use Rattle.places.proofs.Open.{Line, header-within}
 use Rattle.places.proofs.Statements.{conditional-opens, choice-opens, branch-opens}
-use Rattle.syntax.proofs.NamesKnown.{known-inside, known-after, its-names, first-name}
+use Rattle.syntax.proofs.NamesKnown.{known-after}
 use Rattle.cells.specs.Memory.{listed}
 use Rattle.branches.specs.Names.{names, namesIn, namesAny, Small}
 use Rattle.branches.proofs.Standing.{has-level, block-statements}
@@ -25,15 +25,14 @@ use Rattle.branches.proofs.Folds.{listed-append, small-same}
 use Rattle.branches.proofs.Marking.{assignment-names, conditional-names, choice-names, other-names, block-names, statements-names, no-statement-names, branches-names, no-branch-names}
 use Rattle.statements.specs.Cases.{BranchBlock, blockHere, blockLater}
 use Rattle.declarations.specs.Standing.{NamesKnown}
+use Rattle.declarations.proofs.Standing.{inside-known, name-small as begins-small}
 
 -- ---- Where names are known
 
 module _ {m : List ℕ} where
   -- from the first of the fields in a field
   pub known-in : {d p t h : ℕ} {ps : Parts} → Stands m d p → byte m p ≡ t → Line t h ps → NamesKnown m p → NamesKnown m (p + 3 + h)
-  known-in {p = p} {t = t} {h = h} {ps = ps} s e line k =
-      let within = header-within s in
-      subst (λ (n : ℕ). NamesKnown m (p + 3 + n)) (ap (λ (u : ℕ). headSize (formOf u)) e ∙ line .head) (known-inside m (length (stringPlaces m)) (length m) p ps (omega arith) (ap (λ (u : ℕ). formOf u .rest) e ∙ line .rest) k)
+  known-in {p = p} {t = t} {h = h} {ps = ps} s e line k = let within = header-within s in inside-known t h ps e (line .rest) (line .head) (omega arith) k
 
   -- after a field
   pub known-past : {d p n : ℕ} → Stands m d p → n ≡ endOf m p → NamesKnown m p → NamesKnown m n
@@ -41,10 +40,7 @@ module _ {m : List ℕ} where
 
   -- the name that a field begins with
   pub name-small : {d p t : ℕ} → Stands m d p → byte m p ≡ t → formOf t .one ≡ Name → length (stringPlaces m) ≤ 1024 → NamesKnown m p → two m (p + 3) < 1024
-  name-small {p = p} s e name few k =
-      let within = header-within s in
-      let below = first-name m (length (stringPlaces m)) p (formOf (byte m p)) (its-names m (length (stringPlaces m)) (length m) p (omega arith) k) (ap (λ (u : ℕ). formOf u .one) e ∙ name) in
-      omega arith
+  name-small {p = p} {t = t} s e name few k = let within = header-within s in begins-small few p t e name (omega arith) k
 
   -- the blocks of a condition
 

@@ -21,18 +21,12 @@ use Rattle.rules.specs.Compile.{sameBytes, stringAt, names, isDefaultNode, with
 use Rattle.rules.specs.Schedule.{textOf, beforeFeed, afterFeed, schedule}
 use Rattle.rules.proofs.Lists.{Each, noneLeft, also}
 use Rattle.syntax.proofs.Texts.{other-length}
-use Rattle.syntax.proofs.StringsRead.{Short, short-strings, strings-read}
+use Rattle.syntax.proofs.StringsRead.{Short, numbered-short, short-strings, strings-read}
 use Rattle.syntax.proofs.Whole.{too-long, before-the-run}
 use Rattle.input.specs.Reading.{Reading, keptDevice, keptManifest, readingOf}
 use Rattle.input.proofs.Feeding.{kept-device, kept-manifest}
 
 -- ---- The device name: no string of a sound manifest has more than 255 bytes
-
-string-short : {ss : List (List ℕ)} → Each Short ss → (n : ℕ) → length (stringAt ss n) ≤ 255
-unfolding stringAt
-string-short noneLeft n = omega arith
-string-short (also h hs) zero = h
-string-short (also h hs) (suc n) = string-short hs n
 
 same-name : (x device : List ℕ) → length x ≤ 255 → sameBytes x (take 256 device) ≡ sameBytes x device
 same-name x device short = go (leb (length device) 256) refl
@@ -46,7 +40,7 @@ same-name x device short = go (leb (length device) 256) refl
 module _ (ss : List (List ℕ)) (short : Each Short ss) (device : List ℕ) where
   same-names : (ds : Devices) → names ss (take 256 device) ds ≡ names ss device ds
   unfolding names
-  same-names (named ns) = λ i. any (λ n. same-name (stringAt ss n) device (string-short short n) i) ns
+  same-names (named ns) = λ i. any (λ n. same-name (stringAt ss n) device (numbered-short short n) i) ns
   same-names byDefault = refl
 
   same-items : (is : List Item) → itemsFor ss (take 256 device) is ≡ itemsFor ss device is

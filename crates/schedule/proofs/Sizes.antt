@@ -16,7 +16,7 @@ use Rattle.rules.specs.Compile.{stringAt}
 use Rattle.rules.specs.Schedule.{booleanText, valueText, labelsUp, withCommas, labelsText, lineStart, attributeLine, entryLinesBy, stepsLine, refusalLine}
 use Rattle.rules.proofs.Lists.{Each, noneLeft, also}
 use Rattle.rules.proofs.ReadBack.{FitsValue, fitsInteger, fitsString, fitsBoolean}
-use Rattle.syntax.proofs.StringsRead.{Short}
+use Rattle.syntax.proofs.StringsRead.{Short, numbered-short}
 use Rattle.schedule.proofs.LabelList.{eachWithComma, with-commas}
 
 -- ---- The labels
@@ -66,16 +66,10 @@ labels-short s =
 
 -- ---- Strings and values
 
-pub string-short : {ss : List (List ℕ)} → Each Short ss → (n : ℕ) → length (stringAt ss n) ≤ 255
-unfolding stringAt
-string-short noneLeft n = omega arith
-string-short (also h hs) zero = h
-string-short (also h hs) (suc n) = string-short hs n
-
 pub value-short : {ss : List (List ℕ)} → Each Short ss → {v : Value} → FitsValue v → length (valueText ss v) ≤ 255
 unfolding valueText booleanText
 value-short short (fitsInteger {z = z} h) = omega (arith, signed-short z h)
-value-short short (fitsString {n = n} h) = string-short short n
+value-short short (fitsString {n = n} h) = numbered-short short n
 value-short short (fitsBoolean {b = true}) = omega arith
 value-short short (fitsBoolean {b = false}) = omega arith
 
@@ -86,7 +80,7 @@ module _ {ss : List (List ℕ)} (short : Each Short ss) (e : Entry) where
   unfolding lineStart
   start-short =
       omega
-      (arith, length-append (stringAt ss (e .type)) (32 ∷ stringAt ss (e .title) ++ (32 ∷ [])), length-append (stringAt ss (e .title)) (32 ∷ []), string-short short (e .type), string-short short (e .title))
+      (arith, length-append (stringAt ss (e .type)) (32 ∷ stringAt ss (e .title) ++ (32 ∷ [])), length-append (stringAt ss (e .title)) (32 ∷ []), numbered-short short (e .type), numbered-short short (e .title))
 
   -- a line for an attribute
   pub attribute-line-short : (a : Attribute) → FitsValue (a .content .value) → length (attributeLine ss e a) ≤ 2048
@@ -95,7 +89,7 @@ module _ {ss : List (List ℕ)} (short : Each Short ss) (e : Entry) where
       let value : List ℕ = valueText ss (a .content .value) in
       let labels : List ℕ = labelsText (a .content .labels) in
       omega
-      (arith, start-short, length-append (lineStart ss e) (stringAt ss (a .name) ++ (32 ∷ value ++ labels)), length-append (stringAt ss (a .name)) (32 ∷ value ++ labels), length-append value labels, string-short short (a .name), value-short short fits, labels-short (a .content .labels))
+      (arith, start-short, length-append (lineStart ss e) (stringAt ss (a .name) ++ (32 ∷ value ++ labels)), length-append (stringAt ss (a .name)) (32 ∷ value ++ labels), length-append value labels, numbered-short short (a .name), value-short short fits, labels-short (a .content .labels))
 
   -- the line of a resource without attributes
   pub resource-line-short : length (entryLinesBy ss e []) ≤ 2048

@@ -80,6 +80,13 @@ string-head m (suc d) q is u = rw (string-line is) (cut (q + 3) (two m (q + 1)) 
 abbrev pub Short : List ℕ → Type 0
 Short s = length s ≤ 255
 
+-- also the one with a number, which is empty past the last
+pub numbered-short : {ss : List (List ℕ)} → Each Short ss → (n : ℕ) → length (stringAt ss n) ≤ 255
+unfolding stringAt
+numbered-short noneLeft n = omega arith
+numbered-short (also h hs) zero = h
+numbered-short (also h hs) (suc n) = numbered-short hs n
+
 string-short : (m : List ℕ) (q : ℕ) → byte m q ≡ 2 → lengthRight (formOf (byte m q)) (two m (q + 1)) ≡ true → Short (text m q)
 unfolding lengthRight restRight text
 string-short m q is right =
