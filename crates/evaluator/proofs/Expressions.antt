@@ -52,7 +52,7 @@ module _ (m w out : List ℕ) (fill scope : ℕ) (node : Bool) where
 
   -- first an operand, then the rest with its value
   module _ {f whole : Run} (rest : Known → Context → State → Value → Outcome Labelled) (means : (k : Known) (c : Context) (st : State) → (f k c st ▷ rest k c st) ≡ whole k c st) where
-    pub then-stops : {e : Evaluated} {r : Reason} {p : ℕ} → Tells m w out fill scope node (evaluated e) f → e ≡ Refused r p → Tells m w out fill scope node (evaluated e) whole
+    pub then-stops : {e : Evaluated} {r : Reason} {p : ℕ} → Tells m w out fill scope node (evaluated e) f → e ≡ Refused r p → Tells m w out fill scope node (evaluated (Refused r p)) whole
     then-stops t is = tells-as whole means (record { says = λ k c es n r h s b. stops (rest k c (stateOf w es n r)) (t .says k c es n r h s b) is })
 
     pub then-goes-on : {e : Evaluated} {g i : Outcome Labelled} (x : Labelled) → Tells m w out fill scope node (evaluated e) f → e ≡ Yields x → Tells m w out fill scope node g (λ k c st. rest k c st (x .value)) → i ≡ joining (x .labels) g → Tells m w out fill scope node i whole
@@ -71,7 +71,7 @@ module _ (m w out : List ℕ) (fill scope : ℕ) (node : Bool) where
         ∙ sym (ap (evaluate k c st) (o .tree))
 
     module _ {q : ℕ} {a : Evaluated} (small : Small q (p + 4)) (left : StandsAs m b ExpressionKind q → Tells m w out fill scope node (evaluated a) (λ k c st. evaluate k c st (expressionAt m b q))) where
-      pub left-stops : {r : Reason} {l : ℕ} → a ≡ Refused r l → Tells m w out fill scope node (evaluated a) (λ k c st. evaluate k c st (expressionAt m d p))
+      pub left-stops : {r : Reason} {l : ℕ} → a ≡ Refused r l → Tells m w out fill scope node (evaluated (Refused r l)) (λ k c st. evaluate k c st (expressionAt m d p))
       left-stops is = then-stops (λ k c st x. operatorHere x k c st) operation-means (operand-told b (p + 4) short (o .left) small left) is
 
       pub left-goes-on : (x : Labelled) {g i : Outcome Labelled} → a ≡ Yields x → ((e : ℕ) → OperationAt m e b p → Tells m w out fill scope node g (operatorHere (x .value))) → i ≡ joining (x .labels) g → Tells m w out fill scope node i (λ k c st. evaluate k c st (expressionAt m d p))
@@ -108,7 +108,7 @@ module _ (m w out : List ℕ) (fill scope : ℕ) (node : Bool) where
         right-told : Tells m w out fill scope node (evaluated y) (λ k c st. evaluate k c st (expressionAt m b (endOf m (p + 4))))
         right-told = operand-told b (endOf m (p + 4)) short (o .right) right-small right
 
-        pub right-stops : {r : Reason} {l : ℕ} → y ≡ Refused r l → Tells m w out fill scope node (evaluated y) (operatorHere x)
+        pub right-stops : {r : Reason} {l : ℕ} → y ≡ Refused r l → Tells m w out fill scope node (evaluated (Refused r l)) (operatorHere x)
         right-stops is = then-stops (λ k c st y. combine (operatorFrom (byte m (p + 3))) p (endOf m (p + 4)) x y) right-means right-told is
 
         pub right-goes-on : (v : Labelled) {g i : Outcome Labelled} → y ≡ Yields v → g ≡ combine (operatorFrom op) p q x (v .value) → i ≡ joining (v .labels) g → Tells m w out fill scope node i (operatorHere x)
@@ -127,7 +127,7 @@ module _ (m w out : List ℕ) (fill scope : ℕ) (node : Bool) where
         ∙ sym (ap (evaluate k c st) (o .tree))
 
     module _ {q : ℕ} {a : Evaluated} (small : Small q (p + 3)) (told : StandsAs m b ExpressionKind q → Tells m w out fill scope node (evaluated a) (λ k c st. evaluate k c st (expressionAt m b q))) where
-      pub negation-stops : {r : Reason} {l : ℕ} → a ≡ Refused r l → Tells m w out fill scope node (evaluated a) (λ k c st. evaluate k c st (expressionAt m d p))
+      pub negation-stops : {r : Reason} {l : ℕ} → a ≡ Refused r l → Tells m w out fill scope node (evaluated (Refused r l)) (λ k c st. evaluate k c st (expressionAt m d p))
       negation-stops is = then-stops (λ k c st x. negation (p + 3) x) negation-means (operand-told b (p + 3) short (o .operand) small told) is
 
       pub negation-goes-on : (x : Labelled) {g i : Outcome Labelled} → a ≡ Yields x → g ≡ negation q (x .value) → i ≡ joining (x .labels) g → Tells m w out fill scope node i (λ k c st. evaluate k c st (expressionAt m d p))
@@ -149,7 +149,7 @@ module _ (m w out : List ℕ) (fill scope : ℕ) (node : Bool) where
         ∙ sym (ap (evaluate k c st) (o .tree))
 
     module _ {q : ℕ} {a : Evaluated} (small : Small q (p + 7)) (told : StandsAs m b ExpressionKind q → Tells m w out fill scope node (evaluated a) (λ k c st. evaluate k c st (expressionAt m b q))) where
-      pub title-stops : {r : Reason} {l : ℕ} → a ≡ Refused r l → Tells m w out fill scope node (evaluated a) (λ k c st. evaluate k c st (expressionAt m d p))
+      pub title-stops : {r : Reason} {l : ℕ} → a ≡ Refused r l → Tells m w out fill scope node (evaluated (Refused r l)) (λ k c st. evaluate k c st (expressionAt m d p))
       title-stops is = then-stops (λ k c st x. attributeHere (p + 7) k (st .entries) x) attribute-means (operand-told b (p + 7) short (o .title) small told) is
 
       pub title-goes-on : (x : Labelled) {g i : Outcome Labelled} → a ≡ Yields x → ((k : Known) (es : List Entry) → Ready m w out fill k es → g ≡ attributeHere q k es (x .value)) → i ≡ joining (x .labels) g → Tells m w out fill scope node i (λ k c st. evaluate k c st (expressionAt m d p))

@@ -91,12 +91,12 @@ pub answer-joined : (k : Labels) {e : Evaluated} (x : Labelled) {u : Labels} →
 unfolding evaluated joining _>>=_
 answer-joined k x p q = rw (p, q)
 
-pub answer-kept : (k : Labels) {e : Evaluated} {r : Reason} {p : ℕ} → e ≡ Refused r p → evaluated e ≡ joining k (evaluated e)
+pub answer-kept : (k : Labels) {e : Evaluated} {r : Reason} {p : ℕ} → e ≡ Refused r p → evaluated (Refused r p) ≡ joining k (evaluated e)
 unfolding evaluated joining _>>=_
 answer-kept k p = rw p
 
 -- a refused operand ends it; the value of one goes on
-pub stops : {e : Evaluated} {o : Outcome Labelled} (f : Value → Outcome Labelled) {r : Reason} {p : ℕ} → evaluated e ≡ o → e ≡ Refused r p → evaluated e ≡ o ▷ f
+pub stops : {e : Evaluated} {o : Outcome Labelled} (f : Value → Outcome Labelled) {r : Reason} {p : ℕ} → evaluated e ≡ o → e ≡ Refused r p → evaluated (Refused r p) ≡ o ▷ f
 unfolding evaluated _▷_ _>>=_
 stops f a b = rw (sym a, b)
 

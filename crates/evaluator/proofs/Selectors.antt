@@ -143,7 +143,7 @@ module _ (m w out : List ℕ) (fill scope : ℕ) (node : Bool) {d b p : ℕ} (o 
   selector-means k c st = sym (ap (evaluate k c st) (o .tree))
 
   module _ {q : ℕ} {a : Evaluated} (small : Small q (p + 3)) (told : StandsAs m b ExpressionKind q → Tells m w out fill scope node (evaluated a) (λ k c st. evaluate k c st (expressionAt m b q))) where
-    pub selector-stops : {r : Reason} {l : ℕ} → a ≡ Refused r l → Tells m w out fill scope node (evaluated a) (λ k c st. evaluate k c st (expressionAt m d p))
+    pub selector-stops : {r : Reason} {l : ℕ} → a ≡ Refused r l → Tells m w out fill scope node (evaluated (Refused r l)) (λ k c st. evaluate k c st (expressionAt m d p))
     selector-stops is = then-stops m w out fill scope node (λ k c st x. chosenHere x k c st) selector-means (operand-told m w out fill scope node b (p + 3) short (o .scrutinee) small told) is
 
     pub selector-goes-on : (x : Labelled) {f e r : ℕ} {g i : Outcome Labelled} → (b ≡ 0 → ⊥) → a ≡ Yields x → f ≡ endOf m (p + 3) → e ≡ endOf m p → Small r e

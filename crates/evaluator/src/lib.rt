@@ -75,15 +75,17 @@ fn plain_value(value: Value) -> Evaluated
 fn joined(set: Labels, e: Evaluated) -> Evaluated
     ensures { λ r. ⌜ evaluated r ≡ joining set (evaluated e) ⌝ }
 {
-    let Evaluated::Value(x) = e else {
-        return e;
-    };
-    let value = x.value;
-    let labels = x.labels;
-    Evaluated::Value(Labelled {
-        value,
-        labels: set.union(labels),
-    })
+    match e {
+        Evaluated::Refused { reason, place } => Evaluated::Refused { reason, place },
+        Evaluated::Value(x) => {
+            let value = x.value;
+            let labels = x.labels;
+            Evaluated::Value(Labelled {
+                value,
+                labels: set.union(labels),
+            })
+        }
+    }
 }
 
 // ---- Constants
@@ -368,12 +370,14 @@ fn right_operand(
         Begun::Open => {
             let right = place(wire::end_of(m, p + 4));
             let b = evaluate(m, below, right, work, out, fill, scope, base_is_node);
-            let Evaluated::Value(y) = b else {
-                return b;
-            };
-            let value = y.value;
-            let labels = y.labels;
-            joined(labels, combine(op, p, right, x, value))
+            match b {
+                Evaluated::Refused { reason, place } => Evaluated::Refused { reason, place },
+                Evaluated::Value(y) => {
+                    let value = y.value;
+                    let labels = y.labels;
+                    joined(labels, combine(op, p, right, x, value))
+                }
+            }
         }
     }
 }
@@ -392,15 +396,17 @@ fn operation(
     ensures { λ r. ⌜ ((d : ℕ) → OperationAt (now (m .entry)) d below p → Tells (now (m .entry)) (now (work .entry)) (now (out .entry)) fill scope «base_is_node» (evaluated r) (λ k c st. rules.evaluate k c st (expressionAt (now (m .entry)) d p))) ⌝ }
 {
     let a = evaluate(m, below, place(p + 4), work, out, fill, scope, base_is_node);
-    let Evaluated::Value(x) = a else {
-        return a;
-    };
-    let value = x.value;
-    let labels = x.labels;
-    joined(
-        labels,
-        right_operand(m, below, p, value, work, out, fill, scope, base_is_node),
-    )
+    match a {
+        Evaluated::Refused { reason, place } => Evaluated::Refused { reason, place },
+        Evaluated::Value(x) => {
+            let value = x.value;
+            let labels = x.labels;
+            joined(
+                labels,
+                right_operand(m, below, p, value, work, out, fill, scope, base_is_node),
+            )
+        }
+    }
 }
 
 fn negation(
@@ -418,12 +424,14 @@ fn negation(
 {
     let operand = place(p + 3);
     let a = evaluate(m, below, operand, work, out, fill, scope, base_is_node);
-    let Evaluated::Value(x) = a else {
-        return a;
-    };
-    let value = x.value;
-    let labels = x.labels;
-    joined(labels, negated(operand, value))
+    match a {
+        Evaluated::Refused { reason, place } => Evaluated::Refused { reason, place },
+        Evaluated::Value(x) => {
+            let value = x.value;
+            let labels = x.labels;
+            joined(labels, negated(operand, value))
+        }
+    }
 }
 
 fn attribute_read(
@@ -441,12 +449,14 @@ fn attribute_read(
 {
     let title = place(p + 7);
     let a = evaluate(m, below, title, work, out, fill, scope, base_is_node);
-    let Evaluated::Value(x) = a else {
-        return a;
-    };
-    let value = x.value;
-    let labels = x.labels;
-    joined(labels, attribute_of(m, work, out, fill, p, title, value))
+    match a {
+        Evaluated::Refused { reason, place } => Evaluated::Refused { reason, place },
+        Evaluated::Value(x) => {
+            let value = x.value;
+            let labels = x.labels;
+            joined(labels, attribute_of(m, work, out, fill, p, title, value))
+        }
+    }
 }
 
 // The first of the arms between two places whose pattern matches x, for the selector at p; an arm has one level more than what is in it.
@@ -499,29 +509,31 @@ fn selector(
         return refusal(Reason::Malformed, p);
     }
     let a = evaluate(m, below, place(p + 3), work, out, fill, scope, base_is_node);
-    let Evaluated::Value(x) = a else {
-        return a;
-    };
-    let value = x.value;
-    let labels = x.labels;
-    let first = wire::end_of(m, p + 3);
-    let end = place(wire::end_of(m, p));
-    joined(
-        labels,
-        choose(
-            m,
-            below - 1,
-            first,
-            end,
-            p,
-            value,
-            work,
-            out,
-            fill,
-            scope,
-            base_is_node,
-        ),
-    )
+    match a {
+        Evaluated::Refused { reason, place } => Evaluated::Refused { reason, place },
+        Evaluated::Value(x) => {
+            let value = x.value;
+            let labels = x.labels;
+            let first = wire::end_of(m, p + 3);
+            let end = place(wire::end_of(m, p));
+            joined(
+                labels,
+                choose(
+                    m,
+                    below - 1,
+                    first,
+                    end,
+                    p,
+                    value,
+                    work,
+                    out,
+                    fill,
+                    scope,
+                    base_is_node,
+                ),
+            )
+        }
+    }
 }
 
 // The expression at p, with `depth` levels left for it.

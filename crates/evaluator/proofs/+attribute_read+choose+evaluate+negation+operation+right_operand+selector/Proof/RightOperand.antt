@@ -24,17 +24,17 @@ end-of-requires t c κs = omega (arith, c .before .before .before .before .befor
 pub evaluate-requires : (t : ℕ) → right-operand-lts.Need-evaluate-requires (right-operand-calls t) (right-operand-at t) right-operand.Post
 evaluate-requires t c κs = (omega (arith, c .before .before .before .before .before .before .before .before .before .pre .0), resized (c .before .before .before .before .before .before .before .before .before .pre .1) (c .place2 .ensures .0))
 
-pub returns : (t : ℕ) → right-operand-lts.Need-returns (right-operand-calls t) (right-operand-at t) right-operand.Post
-returns t c = λ d o. right-stops _ _ _ _ _ _ o (c .before .before .before .before .before .before .before .before .before .before .before .before .pre .1 .manifest) _ (c .before .before .before .before .before .before .before .before .byte-at .ensures) (c .before .before .before .before .before .before .before .begin .ensures) _ (c .before .before .before .before .before .enum-told3 .given .1) (c .before .before .before .before .end-of .ensures) (c .before .before .before .place2 .ensures) (c .before .before .evaluate .ensures) (c .enum-told4 .given .1)
-
 pub combine-requires : (t : ℕ) → right-operand-lts.Need-combine-requires (right-operand-calls t) (right-operand-at t) right-operand.Post
 combine-requires t c κs = (c .before .before .before .before .before .before .before .before .before .before .before .before .before .before .pre .1 .place, c .before .before .before .before .before .place2 .ensures .0)
 
+pub returns : (t : ℕ) → right-operand-lts.Need-returns (right-operand-calls t) (right-operand-at t) right-operand.Post
+returns t c = λ d o. left-unlike _ _ _ _ _ _ o (c .before .before .before .before .before .before .before .before .before .pre .1 .manifest) _ (c .before .before .before .before .before .byte-at .ensures) (c .before .before .before .before .begin .ensures) (c .before .before .enum-told .given .1) (c .before .place .ensures) (c .refusal .ensures)
+
 pub returns-2 : (t : ℕ) → right-operand-lts.Need-returns-2 (right-operand-calls t) (right-operand-at t) right-operand.Post
-returns-2 t c = λ d o. left-unlike _ _ _ _ _ _ o (c .before .before .before .before .before .before .before .before .before .pre .1 .manifest) _ (c .before .before .before .before .before .byte-at .ensures) (c .before .before .before .before .begin .ensures) (c .before .before .enum-told .given .1) (c .before .place .ensures) (c .refusal .ensures)
+returns-2 t c = λ d o. left-decides _ _ _ _ _ _ o (c .before .before .before .before .before .before .before .before .pre .1 .manifest) _ (c .before .before .before .before .byte-at .ensures) (c .before .before .before .begin .ensures) (c .before .enum-told2 .given .1) (c .plain-value .ensures)
 
 pub returns-3 : (t : ℕ) → right-operand-lts.Need-returns-3 (right-operand-calls t) (right-operand-at t) right-operand.Post
-returns-3 t c = λ d o. left-decides _ _ _ _ _ _ o (c .before .before .before .before .before .before .before .before .pre .1 .manifest) _ (c .before .before .before .before .byte-at .ensures) (c .before .before .before .begin .ensures) (c .before .enum-told2 .given .1) (c .plain-value .ensures)
+returns-3 t c = λ d o. right-stops _ _ _ _ _ _ o (c .before .before .before .before .before .before .before .before .before .before .before .before .before .pre .1 .manifest) _ (c .before .before .before .before .before .before .before .before .before .byte-at .ensures) (c .before .before .before .before .before .before .before .before .begin .ensures) _ (c .before .before .before .before .before .before .enum-told3 .given .1) (c .before .before .before .before .before .end-of .ensures) (c .before .before .before .before .place2 .ensures) (c .before .before .before .evaluate .ensures) (c .before .b .given .1)
 
 pub returns-4 : (t : ℕ) → right-operand-lts.Need-returns-4 (right-operand-calls t) (right-operand-at t) right-operand.Post
-returns-4 t c = λ d o. right-goes-on _ _ _ _ _ _ o (c .before .before .before .before .before .before .before .before .before .before .before .before .before .before .before .before .pre .1 .manifest) _ (c .before .before .before .before .before .before .before .before .before .before .before .before .byte-at .ensures) (c .before .before .before .before .before .before .before .before .before .before .before .begin .ensures) _ (c .before .before .before .before .before .before .before .before .before .enum-told3 .given .1) (c .before .before .before .before .before .before .before .before .end-of .ensures) (c .before .before .before .before .before .before .before .place2 .ensures) (c .before .before .before .before .before .before .evaluate .ensures) _ (c .before .before .before .before .b .given .1) (c .before .combine .ensures) (c .joined .ensures)
+returns-4 t c = λ d o. right-goes-on _ _ _ _ _ _ o (c .before .before .before .before .before .before .before .before .before .before .before .before .before .before .before .before .pre .1 .manifest) _ (c .before .before .before .before .before .before .before .before .before .before .before .before .byte-at .ensures) (c .before .before .before .before .before .before .before .before .before .before .before .begin .ensures) _ (c .before .before .before .before .before .before .before .before .before .enum-told3 .given .1) (c .before .before .before .before .before .before .before .before .end-of .ensures) (c .before .before .before .before .before .before .before .place2 .ensures) (c .before .before .before .before .before .before .evaluate .ensures) _ (c .before .before .before .before .b2 .given .1) (c .before .combine .ensures) (c .joined .ensures)
