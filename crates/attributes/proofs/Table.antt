@@ -5,60 +5,45 @@ use mathlib.Core.Bool.{Bool, true, false, _||_}
 use mathlib.Core.List.{List, [], _∷_, _++_}
 use mathlib.Core.Option.{Option, none, some}
 use native.Mathlib.Omega.{arith}
-use borrow.Author.Tests.{eqb-true, eqb-false, eq-eqb, ne-eqb, leb-false, lt-ltb, le-ltb}
-use lib.Dec.{eqb, leb, ltb}
-use lib.ListN.{length, replicate, length-replicate}
-use Rattle.labels.specs.declared.Labels.{Labels}
+use borrow.Author.Tests.{eqb-true, eqb-false, eq-eqb, ne-eqb, leb-false}
+use lib.Dec.{eqb, leb}
+use lib.ListN.{length, replicate, length-replicate, List·getD-eq-default}
 use Rattle.labels.specs.Sets.{Words64}
-use Rattle.labels.specs.Bytes.{labelBytes, labelsFrom}
-use Rattle.labels.proofs.Laws.{label-length}
-use Rattle.values.specs.declared.Value.{Value}
 use Rattle.values.specs.declared.Labelled.{Labelled}
 use Rattle.wire.specs.Bytes.{pick, byte, two, endOf, fieldsIn}
-use Rattle.wire.specs.Numbers.{number, highBytes}
-use Rattle.wire.specs.Runs.{bytesAt, over, zeros}
+use Rattle.wire.specs.Runs.{over, zeros}
 use Rattle.wire.proofs.Fields.{field-first}
-use Rattle.wire.proofs.Laws.{over-length, run-outside, high-length, stored-back, stored-byte, zeros-byte}
+use Rattle.wire.proofs.Laws.{zeros-byte}
+use Rattle.records.specs.declared.Held.{Held}
+use Rattle.records.specs.declared.Held.the-variants.{Empty, Holds}
+use Rattle.records.specs.Record.{kindAt, recordBytes, recordIn, heldOf}
+use Rattle.records.proofs.Values.{Ranged}
+use Rattle.records.proofs.Laws.{record-length, record-back, record-outside, record-none, held-value, held-nothing}
 use Rattle.rules.specs.Evaluate.{any, firstWith}
 use Rattle.rules.specs.Run.{Given, isGiven}
 use Rattle.rules.proofs.Lists.{Each, noneLeft, also}
-use Rattle.cells.specs.declared.Held.{Held}
-use Rattle.cells.specs.declared.Held.the-variants.{Empty, Holds}
-use Rattle.cells.specs.Layout.{setAt, wordAt}
-use Rattle.cells.specs.Slots.{kindOf, payloadOf, valueFrom, labelled}
-use Rattle.cells.specs.Memory.{heldOf}
-use Rattle.cells.proofs.Runs.{byte-in, word-in, set-in, stored-set}
-use Rattle.cells.proofs.Values.{Ranged, payload-lt, value-back, kind-lt, kind-value}
 use Rattle.attributes.specs.Names.{nameFrom}
 use Rattle.attributes.specs.Table.{givenPlace, HasRow, givenAt, contentOf, Gives, Adds, Rows, Fresh}
 
 -- ---- Tables that give nothing
 
-given-short : (t : List ℕ) (n : ℕ) → length t < givenPlace n + 41 → givenAt t n ≡ none
-unfolding givenAt
-given-short t n h = rw (lt-ltb (length t) (givenPlace n + 41) h)
-
 -- a row whose kind is 0
-given-blank : (t : List ℕ) (n : ℕ) → byte t (givenPlace n) ≤ 1 → givenAt t n ≡ none
+given-blank : (t : List ℕ) (n : ℕ) → byte t (kindAt (givenPlace n)) ≡ 0 → givenAt t n ≡ none
 unfolding givenAt
-given-blank t n h = rw (le-ltb 1 (byte t (givenPlace n)) h) (go (ltb (length t) (givenPlace n + 41)))
-  where
-    go : (b : Bool) → _≡_ {A = Option Labelled} (pick b none none) none
-    go true = refl
-    go false = refl
+given-blank t n e = record-none t (givenPlace n) e
 
 -- a local array of zeros
 no-given-zeros : (k n : ℕ) → givenAt (replicate k 0) n ≡ none
 unfolding zeros
-no-given-zeros k n = given-blank (replicate k 0) n (omega (arith, zeros-byte k (givenPlace n)))
+no-given-zeros k n = given-blank (replicate k 0) n (zeros-byte k (kindAt (givenPlace n)))
 
 pub gives-nothing : {t : List ℕ} → ((n : ℕ) → givenAt t n ≡ none) → Gives t []
 unfolding contentOf firstWith
 gives-nothing blank = record { first = λ n l. blank n }
 
--- a table of no row
-pub gives-none : (t : List ℕ) → length t < 41 → Gives t []
-gives-none t h = gives-nothing (λ n. given-short t n (omega arith))
+-- a table of no byte
+pub gives-none : (t : List ℕ) → length t < 1 → Gives t []
+gives-none t h = gives-nothing (λ n. given-blank t n (List·getD-eq-default t 0 (omega arith)))
 
 -- ---- Tables that have the rows
 
@@ -102,99 +87,18 @@ fresh-below m k limit {qs} long low = record { blank = no-given-zeros k; rows = 
 pub fresh-all : (m : List ℕ) (k : ℕ) {qs : List ℕ} → givenPlace 1024 ≤ k → Fresh m (replicate k 0) qs
 fresh-all m k {qs} long = record { blank = no-given-zeros k; rows = rows-all m (length (replicate k 0)) (omega (arith, length-replicate {A = ℕ} k 0)) qs }
 
--- ---- The ways of `given`
-
-module _ (t : List ℕ) (name : ℕ) where
-  pub given-no-row : length t < givenPlace name + 41 → Empty ≡ heldOf (givenAt t name)
-  unfolding heldOf
-  given-no-row h = ap heldOf (sym (given-short t name h))
-
-  pub given-empty : {k : ℕ} → k ≡ byte t (givenPlace name) → k ≤ 1 → Empty ≡ heldOf (givenAt t name)
-  unfolding heldOf
-  given-empty e h = ap heldOf (sym (given-blank t name (omega (arith, e))))
-
-  pub given-holds : {k : ℕ} {v : Value} {a : Labels} → HasRow (length t) name → k ≡ byte t (givenPlace name) → 1 < k → v ≡ valueFrom k (wordAt t (givenPlace name + 1)) → a ≡ setAt t (givenPlace name + 9)
-      → Holds (labelled v a) ≡ heldOf (givenAt t name)
-  unfolding givenAt heldOf
-  given-holds row e h ev ea = rw (ev, ea, e) (simp (le-ltb (length t) (givenPlace name + 41) row, lt-ltb 1 (byte t (givenPlace name)) (omega arith)))
-
 -- ---- The way of `put_given`
 
-givenFrom : (short : Bool) (bytes : List ℕ) → Option Labelled
-givenFrom b r = pick b none (pick (ltb 1 (byte r 0)) (some (labelled (valueFrom (byte r 0) (wordAt r 1)) (setAt r 9))) none)
-
--- a name's row by its bytes
-given-run : (t : List ℕ) (n : ℕ) → givenAt t n ≡ givenFrom (ltb (length t) (givenPlace n + 41)) (bytesAt t (givenPlace n) 41)
-unfolding givenAt givenFrom
-given-run t n =
-    let start : givenPlace n + 0 ≡ givenPlace n = omega arith in
-    rw (byte-in t (givenPlace n) 41 0 (omega arith), word-in t (givenPlace n) 41 1 (omega arith), set-in t (givenPlace n) 41 9 (omega arith), start)
-
-same-given : (t t′ : List ℕ) (n : ℕ) → length t′ ≡ length t → bytesAt t′ (givenPlace n) 41 ≡ bytesAt t (givenPlace n) 41 → givenAt t′ n ≡ givenAt t n
-same-given t t′ n long run = given-run t′ n ∙ rw (long, run) (sym (given-run t n))
-
-module _ (t : List ℕ) (name : ℕ) (x : Labelled) {t1 t2 t3 : List ℕ} {k : ℕ} (row : HasRow (length t) name) (value : Ranged (x .value)) (set : Words64 (x .labels))
-    (e1 : t1 ≡ over t (givenPlace name + 1) (highBytes 8 (payloadOf (x .value)))) (e2 : t2 ≡ over t1 (givenPlace name + 9) (labelBytes (x .labels))) (is : k ≡ kindOf (x .value)) (e3 : t3 ≡ over t2 (givenPlace name) (highBytes 1 k)) where
-  -- the stores leave the length
-  put-length : (length t1 ≡ length t) × ((length t2 ≡ length t) × (length t3 ≡ length t))
-  put-length =
-      let a : length t1 ≡ length t = ap length e1 ∙ over-length t _ _ in
-      let b : length t2 ≡ length t = ap length e2 ∙ over-length t1 _ _ ∙ a in
-      (a, (b, ap length e3 ∙ over-length t2 _ _ ∙ b))
-
-  put-other : (n : ℕ) → (n ≡ name → ⊥) → givenAt t3 n ≡ givenAt t n
-  put-other n ne =
-      let l1 : length (highBytes 8 (payloadOf (x .value))) ≡ 8 = high-length 8 _ in
-      let l2 : length (labelBytes (x .labels)) ≡ 32 = label-length (x .labels) in
-      let l3 : length (highBytes 1 k) ≡ 1 = high-length 1 k in
-      same-given t t3 n (put-length .1 .1)
-      (ap (λ (l : List ℕ). bytesAt l (givenPlace n) 41) e3 ∙ run-outside t2 (givenPlace name) (highBytes 1 k) (givenPlace n) 41 (λ i a b c d. ne (omega arith))
-      ∙ ap (λ (l : List ℕ). bytesAt l (givenPlace n) 41) e2 ∙ run-outside t1 (givenPlace name + 9) (labelBytes (x .labels)) (givenPlace n) 41 (λ i a b c d. ne (omega arith))
-      ∙ ap (λ (l : List ℕ). bytesAt l (givenPlace n) 41) e1 ∙ run-outside t (givenPlace name + 1) (highBytes 8 (payloadOf (x .value))) (givenPlace n) 41 (λ i a b c d. ne (omega arith)))
-
-  put-kind : byte t3 (givenPlace name) ≡ kindOf (x .value)
-  put-kind = ap (λ (l : List ℕ). byte l (givenPlace name)) e3 ∙ stored-byte t2 (givenPlace name) k (omega (arith, put-length .1 .0)) (omega (arith, kind-lt (x .value))) ∙ is
-
-  put-word : wordAt t3 (givenPlace name + 1) ≡ payloadOf (x .value)
-  unfolding wordAt
-  put-word =
-      let l2 : length (labelBytes (x .labels)) ≡ 32 = label-length (x .labels) in
-      let l3 : length (highBytes 1 k) ≡ 1 = high-length 1 k in
-      ap (λ (l : List ℕ). number (bytesAt l (givenPlace name + 1) 8) 0) e3 ∙ ap (λ (l : List ℕ). number l 0) (run-outside t2 (givenPlace name) (highBytes 1 k) (givenPlace name + 1) 8 (λ i a b c d. omega arith))
-      ∙ ap (λ (l : List ℕ). number (bytesAt l (givenPlace name + 1) 8) 0) e2 ∙ ap (λ (l : List ℕ). number l 0) (run-outside t1 (givenPlace name + 9) (labelBytes (x .labels)) (givenPlace name + 1) 8 (λ i a b c d. omega arith))
-      ∙ ap (λ (l : List ℕ). number (bytesAt l (givenPlace name + 1) 8) 0) e1 ∙ stored-back t (givenPlace name + 1) 8 (payloadOf (x .value)) (omega arith) (payload-lt (x .value) value)
-
-  put-set : setAt t3 (givenPlace name + 9) ≡ x .labels
-  unfolding setAt
-  put-set =
-      let l3 : length (highBytes 1 k) ≡ 1 = high-length 1 k in
-      ap (λ (l : List ℕ). labelsFrom (bytesAt l (givenPlace name + 9) 32)) e3 ∙ ap labelsFrom (run-outside t2 (givenPlace name) (highBytes 1 k) (givenPlace name + 9) 32 (λ i a b c d. omega arith))
-      ∙ ap (λ (l : List ℕ). labelsFrom (bytesAt l (givenPlace name + 9) 32)) e2 ∙ stored-set t1 (givenPlace name + 9) (x .labels) (omega (arith, put-length .0)) set
-
-  put-own : givenAt t3 name ≡ some x
+module _ (t : List ℕ) (name : ℕ) (x : Labelled) {t′ : List ℕ} (row : HasRow (length t) name) (value : Ranged (x .value)) (set : Words64 (x .labels)) (stored : t′ ≡ over t (givenPlace name) (recordBytes x)) where
+  pub put-way : (n : ℕ) → givenAt t′ n ≡ pick (eqb n name) (some x) (givenAt t n)
   unfolding givenAt
-  put-own =
-      let there : HasRow (length t3) name = omega (arith, put-length .1 .1) in
-      rw (le-ltb (length t3) (givenPlace name + 41) there, put-kind, put-word, put-set, lt-ltb 1 (kindOf (x .value)) (kind-value (x .value)), value-back (x .value) value)
-
-  pub put-way : (n : ℕ) → givenAt t3 n ≡ pick (eqb n name) (some x) (givenAt t n)
-  put-way n = go (eqb n name) refl
+  put-way n = rw stored (go (eqb n name) refl)
     where
-      go : (b : Bool) → eqb n name ≡ b → givenAt t3 n ≡ pick b (some x) (givenAt t n)
-      go true e = ap (givenAt t3) (eqb-true n name e) ∙ put-own
-      go false e = put-other n (eqb-false n name e)
+      go : (b : Bool) → eqb n name ≡ b → recordIn (over t (givenPlace name) (recordBytes x)) (givenPlace n) ≡ pick b (some x) (recordIn t (givenPlace n))
+      go true e = ap (λ (k : ℕ). recordIn (over t (givenPlace name) (recordBytes x)) (givenPlace k)) (eqb-true n name e) ∙ record-back t (givenPlace name) x row value set
+      go false e = let other : n ≡ name → ⊥ = eqb-false n name e in record-outside t (givenPlace name) (recordBytes x) (givenPlace n) (λ i a b c d. other (omega (arith, record-length x)))
 
 -- ---- The ways of `add_given`
-
-pub held-value : {h : Held} (o : Option Labelled) {x : Labelled} → h ≡ heldOf o → h ≡ Holds x → o ≡ some x
-unfolding heldOf
-held-value none read is = absurd (let z : _≡_ {A = ℕ} 0 1 = cc in omega arith)
-held-value (some y) read is = ap some cc
-
-pub held-nothing : {h : Held} (o : Option Labelled) → h ≡ heldOf o → h ≡ Empty → o ≡ none
-unfolding heldOf
-held-nothing none read is = refl
-held-nothing (some y) read is = absurd (let z : _≡_ {A = ℕ} 0 1 = cc in omega arith)
 
 -- the first of two
 unfoldable or : Option Labelled → Option Labelled → Option Labelled

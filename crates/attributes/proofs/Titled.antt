@@ -1,7 +1,6 @@
 -- The ways of `evaluate_titled`: the title of a 27, then its attributes. Assumes nothing.
 use Prim.Native.Nat.{ℕ, suc, _+_, _-_, _≤_}
 use mathlib.Core.Path.{_≡_, refl, sym, ap, _∙_, subst}
-use mathlib.Core.Bool.{Bool}
 use mathlib.Core.List.{List}
 use native.Mathlib.Omega.{arith}
 use denote.Enum.Declared.{tagOf}
@@ -9,13 +8,15 @@ use lib.ListN.{length}
 use Rattle.values.proofs.Value.{the-type}
 use Rattle.values.specs.declared.Value.{Value}
 use Rattle.values.specs.declared.Value.the-variants.{Integer, String, Boolean}
+use Rattle.labels.specs.declared.Labels.{Labels}
 use Rattle.values.specs.declared.Labelled.{Labelled}
-use Rattle.values.specs.declared.Reason.{Reason}
+use Rattle.values.specs.declared.Refusal.{Refusal}
+use Rattle.values.specs.Refusals.{refusalAt}
 use Rattle.values.specs.declared.Reason.the-variants.{WrongKind}
 use Rattle.wire.specs.Bytes.{byte, endOf, fieldsIn}
 use Rattle.rules.specs.Outcome.{Outcome, refused, done, _>>=_, at}
 use Rattle.rules.specs.Arithmetic.{stringIn}
-use Rattle.rules.specs.Tree.{defined}
+use Rattle.rules.specs.Tree.{definedResource}
 use Rattle.rules.specs.State.{Entry, State, Context, Known}
 use Rattle.rules.specs.Evaluate.{evaluate}
 use Rattle.rules.specs.Run.{Given, evaluateAll}
@@ -23,11 +24,12 @@ use Rattle.rules.specs.declared.Kind.the-variants.{Expression as ExpressionKind
 use Rattle.places.specs.At.{expressionAt, attributesAt, StandsAs, Siblings}
 use Rattle.places.proofs.Open.{level}
 use Rattle.places.proofs.Statements.{TitledAt, defined-opens}
-use Rattle.cells.specs.Scopes.{scopeOf}
-use Rattle.cells.specs.Memory.{baseFor, stateOf}
+use Rattle.cells.specs.Memory.{stateOf}
+use Rattle.memory.specs.declared.Scope.{Scope}
+use Rattle.memory.specs.Contexts.{contextIn}
 use Rattle.evaluator.specs.declared.Evaluated.{Evaluated}
 use Rattle.evaluator.specs.declared.Evaluated.the-variants.{Value as Yields, Refused as NotEvaluated}
-use Rattle.evaluator.specs.Answers.{evaluated}
+use Rattle.evaluator.specs.Answers.{refusedBy, evaluated}
 use Rattle.evaluator.specs.Known.{Ready, Tells}
 use Rattle.attributes.specs.declared.Gathered.{Gathered}
 use Rattle.attributes.specs.declared.Gathered.the-variants.{Done, Refused}
@@ -41,7 +43,7 @@ module _ {m : List ℕ} {d p : ℕ} (s : StandsAs m d StatementKind p) (by : byt
   pub deep : d ≡ suc (d - 1)
   deep = level (s .stands)
 
-  opened : TitledAt defined m d (d - 1) p
+  opened : TitledAt definedResource m d (d - 1) p
   opened = defined-opens (s .stands) deep by
 
   pub titled-attributes : {first end : ℕ} → first ≡ endOf m (p + 5) → end ≡ endOf m p → Siblings m (d - 1) AttributeKind first end
@@ -55,25 +57,25 @@ module _ {m : List ℕ} {d p : ℕ} (s : StandsAs m d StatementKind p) (by : byt
   pub end-near : length m ≤ 65535 → endOf m p ≤ 65535
   end-near short = omega (arith, s .stands .ends)
 
-  module _ (w out : List ℕ) (fill scope : ℕ) (node : Bool) (e : Evaluated) (told : StandsAs m (d - 1) ExpressionKind (p + 5) → Tells m w out fill scope node (evaluated e) (λ k c st. evaluate k c st (expressionAt m (d - 1) (p + 5)))) where
+  module _ (w out : List ℕ) (fill : ℕ) (scope : Scope) (e : Evaluated) (told : StandsAs m (d - 1) ExpressionKind (p + 5) → Tells m w out fill scope (evaluated e) (λ k c st. evaluate k c st (expressionAt m (d - 1) (p + 5)))) where
     -- the run after the title's answer
-    titled-run : (k : Known) (c : Context) (es : List Entry) (n r : ℕ) → Ready m w out fill k es → c .scope ≡ scopeOf scope → c .base ≡ baseFor node
-        → (evaluated e >>= λ x. titledRest m (d - 1) p k c (stateOf w es n r) x (x .value))
-        ≡ titledAt m (d - 1) p k c (stateOf w es n r)
+    titled-run : (k : Known) (path : Labels) (es : List Entry) (n r : ℕ) → Ready m w out fill k es
+        → (evaluated e >>= λ x. titledRest m (d - 1) p k (contextIn scope path) (stateOf w es n r) x (x .value))
+        ≡ titledAt m (d - 1) p k (contextIn scope path) (stateOf w es n r)
     unfolding titledAt titledAll
-    titled-run k c es n r h e1 e2 =
-        ap (λ (u : Outcome Labelled). u >>= λ x. titledRest m (d - 1) p k c (stateOf w es n r) x (x .value))
-        (told (opened .title) .says k c es n r h e1 e2)
+    titled-run k path es n r h =
+        ap (λ (u : Outcome Labelled). u >>= λ x. titledRest m (d - 1) p k (contextIn scope path) (stateOf w es n r) x (x .value))
+        (told (opened .title) .says k path es n r h)
 
-    pub title-stops : {t : List ℕ} {r : Reason} {q : ℕ} → e ≡ NotEvaluated r q → TitledIn m w out fill scope node (d - 1) p t e
+    pub title-stops : {t : List ℕ} {why : Refusal} → e ≡ NotEvaluated why → TitledIn m w out fill scope (d - 1) p t e
     unfolding evaluated _>>=_
-    title-stops {t} {r} {q} is =
-        subst (λ (v : Evaluated). TitledIn m w out fill scope node (d - 1) p t v) (sym is) (notTitled {r = r} {q = q} (record { says = λ k c es n z h e1 e2. rw is at (titled-run k c es n z h e1 e2) }))
+    title-stops {t} {why} is =
+        subst (λ (v : Evaluated). TitledIn m w out fill scope (d - 1) p t v) (sym is) (notTitled {why = why} (record { says = λ k path es n z h. rw is at (titled-run k path es n z h) }))
 
     module _ (x : Labelled) (is : e ≡ Yields x) where
-      pub title-wrong : {t : List ℕ} → (tagOf the-type (x .value) ≡ 1 → ⊥) → TitledIn m w out fill scope node (d - 1) p t (NotEvaluated WrongKind (p + 5))
+      pub title-wrong : {t : List ℕ} {why : Refusal} → (tagOf the-type (x .value) ≡ 1 → ⊥) → why ≡ refusalAt WrongKind (p + 5) → TitledIn m w out fill scope (d - 1) p t (NotEvaluated why)
       unfolding evaluated stringIn at _>>=_
-      title-wrong unlike = notTitled (record { says = λ k c es n r h e1 e2. sym (go (x .value) refl k c es n r) ∙ (rw is at (titled-run k c es n r h e1 e2)) })
+      title-wrong unlike at-title = notTitled (record { says = λ k path es n r h. ap refusedBy at-title ∙ sym (go (x .value) refl k (contextIn scope path) es n r) ∙ (rw is at (titled-run k path es n r h)) })
         where
           go : (v : Value) → x .value ≡ v → (k : Known) (c : Context) (es : List Entry) (n r : ℕ)
               → titledRest m (d - 1) p k c (stateOf w es n r) x v ≡ refused WrongKind (p + 5)
@@ -81,31 +83,31 @@ module _ {m : List ℕ} {d p : ℕ} (s : StandsAs m d StatementKind p) (by : byt
           go (String z) f k c es n r = absurd (unlike (ap (tagOf the-type) f))
           go (Boolean z) f k c es n r = refl
 
-      module _ {title first end : ℕ} (string : x .value ≡ String title) (first-is : first ≡ endOf m (p + 5)) (end-is : end ≡ endOf m p) {t : List ℕ} {g : Gathered} (got : GivenIn m w out fill scope node (d - 1) first end t g) where
-        here : {g′ : Gathered} → g ≡ g′ → GivenIn m w out fill scope node (d - 1) (endOf m (p + 5)) (endOf m p) t g′
+      module _ {title first end : ℕ} (string : x .value ≡ String title) (first-is : first ≡ endOf m (p + 5)) (end-is : end ≡ endOf m p) {t : List ℕ} {g : Gathered} (got : GivenIn m w out fill scope (d - 1) first end t g) where
+        here : {g′ : Gathered} → g ≡ g′ → GivenIn m w out fill scope (d - 1) (endOf m (p + 5)) (endOf m p) t g′
         here {g′} f =
-            subst (λ (v : Gathered). GivenIn m w out fill scope node (d - 1) (endOf m (p + 5)) (endOf m p) t v) f
-            (subst (λ (j : ℕ). GivenIn m w out fill scope node (d - 1) j (endOf m p) t g) first-is (subst (λ (j : ℕ). GivenIn m w out fill scope node (d - 1) first j t g) end-is got))
+            subst (λ (v : Gathered). GivenIn m w out fill scope (d - 1) (endOf m (p + 5)) (endOf m p) t v) f
+            (subst (λ (j : ℕ). GivenIn m w out fill scope (d - 1) j (endOf m p) t g) first-is (subst (λ (j : ℕ). GivenIn m w out fill scope (d - 1) first j t g) end-is got))
 
-        string-run : (k : Known) (c : Context) (es : List Entry) (n r : ℕ) → Ready m w out fill k es → c .scope ≡ scopeOf scope → c .base ≡ baseFor node
-            → {o : Outcome (List Given)} → o ≡ evaluateAll k c (stateOf w es n r) (attributesAt m (d - 1) (fieldsIn m (endOf m (p + 5)) (endOf m p)))
-            → (o >>= λ gs. done (record { title = x; given = gs })) ≡ titledAt m (d - 1) p k c (stateOf w es n r)
+        string-run : (k : Known) (path : Labels) (es : List Entry) (n r : ℕ) → Ready m w out fill k es
+            → {o : Outcome (List Given)} → o ≡ evaluateAll k (contextIn scope path) (stateOf w es n r) (attributesAt m (d - 1) (fieldsIn m (endOf m (p + 5)) (endOf m p)))
+            → (o >>= λ gs. done (record { title = x; given = gs })) ≡ titledAt m (d - 1) p k (contextIn scope path) (stateOf w es n r)
         unfolding evaluated stringIn at _>>=_
-        string-run k c es n r h e1 e2 gave =
+        string-run k path es n r h gave =
             ap (λ (u : Outcome (List Given)). u >>= λ gs. done (record { title = x; given = gs })) gave
-            ∙ ap (λ (v : Value). titledRest m (d - 1) p k c (stateOf w es n r) x v) (sym string)
-            ∙ (rw is at (titled-run k c es n r h e1 e2))
+            ∙ ap (λ (v : Value). titledRest m (d - 1) p k (contextIn scope path) (stateOf w es n r) x v) (sym string)
+            ∙ (rw is at (titled-run k path es n r h))
 
-        pub attributes-stop : {r : Reason} {q : ℕ} → g ≡ Refused r q → TitledIn m w out fill scope node (d - 1) p t (NotEvaluated r q)
+        pub attributes-stop : {why : Refusal} → g ≡ Refused why → TitledIn m w out fill scope (d - 1) p t (NotEvaluated why)
         unfolding _>>=_
-        attributes-stop {r} {q} f = go (here f)
+        attributes-stop {why} f = go (here f)
           where
-            go : GivenIn m w out fill scope node (d - 1) (endOf m (p + 5)) (endOf m p) t (Refused r q) → TitledIn m w out fill scope node (d - 1) p t (NotEvaluated r q)
-            go (notGiven tells) = notTitled (record { says = λ k c es n z h e1 e2. string-run k c es n z h e1 e2 (tells .says k c es n z h e1 e2) })
+            go : GivenIn m w out fill scope (d - 1) (endOf m (p + 5)) (endOf m p) t (Refused why) → TitledIn m w out fill scope (d - 1) p t (NotEvaluated why)
+            go (notGiven tells) = notTitled (record { says = λ k path es n z h. string-run k path es n z h (tells .says k path es n z h) })
 
-        pub all-given : g ≡ Done → TitledIn m w out fill scope node (d - 1) p t (Yields x)
+        pub all-given : g ≡ Done → TitledIn m w out fill scope (d - 1) p t (Yields x)
         unfolding _>>=_
         all-given f = go (here f)
           where
-            go : GivenIn m w out fill scope node (d - 1) (endOf m (p + 5)) (endOf m p) t Done → TitledIn m w out fill scope node (d - 1) p t (Yields x)
-            go (given gs gives alikes tells) = titled gs gives alikes (record { says = λ k c es n z h e1 e2. string-run k c es n z h e1 e2 (tells .says k c es n z h e1 e2) })
+            go : GivenIn m w out fill scope (d - 1) (endOf m (p + 5)) (endOf m p) t Done → TitledIn m w out fill scope (d - 1) p t (Yields x)
+            go (given gs gives alikes tells) = titled gs gives alikes (record { says = λ k path es n z h. string-run k path es n z h (tells .says k path es n z h) })

@@ -1,21 +1,19 @@
 -- The 26s of a declaration evaluated into a table, and before them the title of a 27.
 use Prim.Native.Nat.{ℕ, _+_}
-use mathlib.Core.Path.{_≡_}
-use mathlib.Core.Bool.{Bool}
 use mathlib.Core.List.{List}
-use Rattle.values.specs.declared.Reason.{Reason}
+use Rattle.values.specs.declared.Refusal.{Refusal}
 use Rattle.values.specs.declared.Labelled.{Labelled}
 use Rattle.wire.specs.Bytes.{endOf, fieldsIn}
-use Rattle.rules.specs.Outcome.{Outcome, refused, done, _>>=_, at}
+use Rattle.rules.specs.Outcome.{Outcome, done, _>>=_, at}
 use Rattle.rules.specs.Arithmetic.{stringIn}
 use Rattle.rules.specs.Tree.{Expression, AttributeField}
-use Rattle.rules.specs.State.{Entry, State, Context, Known}
+use Rattle.rules.specs.State.{State, Context, Known}
 use Rattle.rules.specs.Evaluate.{evaluate}
 use Rattle.rules.specs.Run.{Given, evaluateAll}
 use Rattle.places.specs.At.{expressionAt, attributesAt}
-use Rattle.cells.specs.Scopes.{scopeOf}
-use Rattle.cells.specs.Memory.{baseFor, stateOf}
-use Rattle.evaluator.specs.Known.{Ready}
+use Rattle.memory.specs.declared.Scope.{Scope}
+use Rattle.evaluator.specs.Answers.{refusedBy}
+use Rattle.evaluator.specs.Known.{Tells}
 use Rattle.evaluator.specs.declared.Evaluated.{Evaluated}
 use Rattle.evaluator.specs.declared.Evaluated.the-variants.{Value, Refused as NotEvaluated}
 use Rattle.attributes.specs.declared.Gathered.{Gathered}
@@ -23,15 +21,11 @@ use Rattle.attributes.specs.declared.Gathered.the-variants.{Done, Refuse
 use Rattle.attributes.specs.Names.{Alike}
 use Rattle.attributes.specs.Table.{Gives}
 
--- an answer is what f gives, in every state that the bytes stand for
-pub record TellsIn {A : Type 0} (m w out : List ℕ) (fill scope : ℕ) (node : Bool) (answer : Outcome A) (f : Known → Context → State → Outcome A) : Type 0 where
-  pub says : (k : Known) (c : Context) (es : List Entry) (n r : ℕ) → Ready m w out fill k es → c .scope ≡ scopeOf scope → c .base ≡ baseFor node → answer ≡ f k c (stateOf w es n r)
-
 -- the 26s from `first` to `end`, with d levels, were evaluated into the table t: the first refusal, or all of them
-pub data GivenIn (m w out : List ℕ) (fill scope : ℕ) (node : Bool) (d first end : ℕ) (t : List ℕ) : Gathered → Type 0 where
-  notGiven : {r : Reason} {p : ℕ} → TellsIn m w out fill scope node (refused r p) (λ k c st. evaluateAll k c st (attributesAt m d (fieldsIn m first end))) → GivenIn m w out fill scope node d first end t (Refused r p)
-  given : (gs : List Given) → Gives t gs → Alike m gs (fieldsIn m first end) → TellsIn m w out fill scope node (done gs) (λ k c st. evaluateAll k c st (attributesAt m d (fieldsIn m first end)))
-      → GivenIn m w out fill scope node d first end t Done
+pub data GivenIn (m w out : List ℕ) (fill : ℕ) (scope : Scope) (d first end : ℕ) (t : List ℕ) : Gathered → Type 0 where
+  notGiven : {why : Refusal} → Tells m w out fill scope (refusedBy why) (λ k c st. evaluateAll k c st (attributesAt m d (fieldsIn m first end))) → GivenIn m w out fill scope d first end t (Refused why)
+  given : (gs : List Given) → Gives t gs → Alike m gs (fieldsIn m first end) → Tells m w out fill scope (done gs) (λ k c st. evaluateAll k c st (attributesAt m d (fieldsIn m first end)))
+      → GivenIn m w out fill scope d first end t Done
 
 -- a title and what else is given
 pub record Titled : Type 0 where
@@ -46,7 +40,7 @@ titledAll e l ats k c st = evaluate k c st e >>= λ x. at l (stringIn (x .value)
 unfoldable pub titledAt : List ℕ → (b p : ℕ) → Known → Context → State → Outcome Titled
 titledAt m b p = titledAll (expressionAt m b (p + 5)) (p + 5) (attributesAt m b (fieldsIn m (endOf m (p + 5)) (endOf m p)))
 
-pub data TitledIn (m w out : List ℕ) (fill scope : ℕ) (node : Bool) (b p : ℕ) (t : List ℕ) : Evaluated → Type 0 where
-  notTitled : {r : Reason} {q : ℕ} → TellsIn m w out fill scope node (refused r q) (titledAt m b p) → TitledIn m w out fill scope node b p t (NotEvaluated r q)
-  titled : {x : Labelled} (gs : List Given) → Gives t gs → Alike m gs (fieldsIn m (endOf m (p + 5)) (endOf m p)) → TellsIn m w out fill scope node (done (record { title = x; given = gs })) (titledAt m b p)
-      → TitledIn m w out fill scope node b p t (Value x)
+pub data TitledIn (m w out : List ℕ) (fill : ℕ) (scope : Scope) (b p : ℕ) (t : List ℕ) : Evaluated → Type 0 where
+  notTitled : {why : Refusal} → Tells m w out fill scope (refusedBy why) (titledAt m b p) → TitledIn m w out fill scope b p t (NotEvaluated why)
+  titled : {x : Labelled} (gs : List Given) → Gives t gs → Alike m gs (fieldsIn m (endOf m (p + 5)) (endOf m p)) → Tells m w out fill scope (done (record { title = x; given = gs })) (titledAt m b p)
+      → TitledIn m w out fill scope b p t (Value x)

@@ -1,31 +1,26 @@
--- The values given to a declaration by its 26s, kept by name: a row of 41 bytes for each of the first names, as many as the table has room for.
+-- The values given to a declaration by its 26s, kept by name: a record for each of the first names, as many as the table has room for.
 use Prim.Native.Nat.{ℕ, _+_, _*_, _≤_, _<_}
 use mathlib.Core.Path.{_≡_}
 use mathlib.Core.List.{List, [], _∷_, _++_}
 use mathlib.Core.Option.{Option, none, some}
-use lib.Dec.{ltb}
 use lib.ListN.{length}
 use Rattle.values.specs.declared.Labelled.{Labelled}
-use Rattle.wire.specs.Bytes.{pick, byte, two}
+use Rattle.wire.specs.Bytes.{two}
 use Rattle.rules.specs.Evaluate.{firstWith}
 use Rattle.rules.specs.Run.{Given, isGiven}
-use Rattle.rules.proofs.Lists.{Each}
-use Rattle.cells.specs.Layout.{setAt, wordAt}
-use Rattle.cells.specs.Slots.{valueFrom, labelled}
+use Rattle.rules.specs.Ranges.{Each}
+use Rattle.records.specs.Record.{recordSize, recordIn}
 
--- a name's row: the value's kind 1 byte (0 where none is given), its payload 8, its set 32
+-- a name's row
 abbrev pub givenPlace : ℕ → ℕ
-givenPlace n = 41 * n
+givenPlace n = recordSize * n
 
 -- a table of so many bytes has one
 abbrev pub HasRow : (size name : ℕ) → Type 0
-HasRow k n = givenPlace n + 41 ≤ k
+HasRow k n = givenPlace n + recordSize ≤ k
 
--- a name without a row has no value
 unfoldable pub givenAt : List ℕ → (name : ℕ) → Option Labelled
-givenAt t n =
-    pick (ltb (length t) (givenPlace n + 41)) none
-    (pick (ltb 1 (byte t (givenPlace n))) (some (labelled (valueFrom (byte t (givenPlace n)) (wordAt t (givenPlace n + 1))) (setAt t (givenPlace n + 9)))) none)
+givenAt t n = recordIn t (givenPlace n)
 
 unfoldable pub contentOf : Option Given → Option Labelled
 contentOf none = none

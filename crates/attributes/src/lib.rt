@@ -9,21 +9,29 @@ ghost use Rattle.wire.specs.Bytes.{pick, byte, endOf, fieldsIn};
 ghost use Rattle.rules.specs.Evaluate.{any};
 ghost use Rattle.rules.specs.declared.Kind.the-variants.{Attribute, Statement};
 ghost use Rattle.places.specs.At.{StandsAs, Siblings};
-ghost use Rattle.cells.specs.Memory.{heldOf};
+ghost use Rattle.records.specs.Record.{heldOf};
 ghost use Rattle.catalog.specs.Finding.{Below};
 ghost use Rattle.evaluator.specs.Known.{Sized};
 ghost use Rattle.attributes.specs.Names.{hasName, nameFrom, repeatedIn, Marked, Marks, Unmarked};
 ghost use Rattle.attributes.specs.Table.{HasRow, givenAt, Adds, Fresh};
 ghost use Rattle.attributes.specs.Evaluated.{GivenIn, TitledIn};
-use cells::Held;
 use evaluator::Evaluated;
+use memory::Scope;
+use records::Held;
 use values::Labelled;
 use values::Reason;
+use values::Refusal;
 use values::Value;
+
+// The fields from `first` up to `end`: the attributes of a declaration, or the parameters of a definition.
+pub struct Span {
+    pub first: usize,
+    pub end: usize,
+}
 
 pub enum Gathered {
     Done,
-    Refused { reason: Reason, place: u16 },
+    Refused(Refusal),
 }
 
 // ---- Names
@@ -113,30 +121,20 @@ pub fn find_repeated(m: &[u8], first: usize, end: usize) -> catalog::Place
 
 // ---- The table
 
-// How many bytes a table with a row for every name has.
-pub const TABLE: usize = 41984;
+// How many bytes a table with a row for every name has. A row is a record.
+pub const TABLE: usize = 1024 * records::SIZE;
 
 // How many names a small table has rows for: to clear the large one takes longer than most declarations take.
 pub const SMALL_NAMES: u16 = 128;
 
 // How many bytes a small table has.
-pub const SMALL_TABLE: usize = 5248;
+pub const SMALL_TABLE: usize = 128 * records::SIZE;
 
 // The value given to a name.
 pub fn given(table: &[u8], name: u16) -> Held
     ensures { λ r. ⌜ r ≡ heldOf (givenAt (now (table .entry)) name) ⌝ }
 {
-    let place = 41 * name as usize;
-    if table.len() < place + 41 {
-        return Held::Empty;
-    }
-    let kind = wire::byte_at(table, place);
-    if kind <= 1 {
-        return Held::Empty;
-    }
-    let value = cells::value_at(table, kind, place + 1);
-    let labels = cells::labels_at(table, place + 9);
-    Held::Holds(Labelled { value, labels })
+    records::record_at(table, records::SIZE * name as usize)
 }
 
 // Gives a value to a name.
@@ -144,12 +142,7 @@ fn put_given(table: &mut [u8], name: u16, x: Labelled)
     requires { ⌜ HasRow (length (now table)) name ⌝ }
     ensures { λ _. ⌜ ((n : ℕ) → givenAt (now (table .exit)) n ≡ pick (eqb n name) (some x) (givenAt (now (table .entry)) n)) ⌝ }
 {
-    let place = 41 * name as usize;
-    let value = x.value;
-    let labels = x.labels;
-    cells::put_payload(table, place + 1, value);
-    cells::put_labels(table, place + 9, labels);
-    wire::put_byte(table, place, cells::kind_of(value));
+    records::put_record(table, records::SIZE * name as usize, x);
 }
 
 // Gives a value to a name that has none yet.
@@ -169,29 +162,26 @@ fn add_given(table: &mut [u8], name: u16, x: Labelled)
 
 // ---- Evaluation
 
-// The attributes from `first` to `end`, with `depth` levels left for them, into a table that gives nothing yet.
+// The attributes of a span, with `depth` levels left for them, into a table that gives nothing yet.
 pub fn evaluate_attributes(
     m: &[u8],
     depth: u8,
-    first: usize,
-    end: usize,
+    span: Span,
     work: &[u8],
     out: &[u8],
     fill: usize,
-    scope: u16,
-    base_is_node: bool,
+    scope: Scope,
     table: &mut [u8],
 ) -> Gathered
-    requires { ⌜ (Sized (now m) (now work) (now out) fill end × Siblings (now m) depth Attribute first end) × Fresh (now m) (now table) (fieldsIn (now m) first end) ⌝ }
-    ensures { λ r. ⌜ GivenIn (now (m .entry)) (now (work .entry)) (now (out .entry)) fill scope «base_is_node» depth first end (now (table .exit)) r ⌝ }
+    requires { ⌜ (Sized (now m) (now work) (now out) fill (span .end) × Siblings (now m) depth Attribute (span .first) (span .end)) × Fresh (now m) (now table) (fieldsIn (now m) (span .first) (span .end)) ⌝ }
+    ensures { λ r. ⌜ GivenIn (now (m .entry)) (now (work .entry)) (now (out .entry)) fill scope depth (span .first) (span .end) (now (table .exit)) r ⌝ }
 {
-    let mut q = first;
+    let end = span.end;
+    let mut q = span.first;
     while q < end {
-        let e = evaluator::evaluate(m, depth - 1, q + 5, work, out, fill, scope, base_is_node);
+        let e = evaluator::evaluate(m, depth - 1, q + 5, work, out, fill, scope);
         match e {
-            Evaluated::Refused { reason, place } => {
-                return Gathered::Refused { reason, place };
-            }
+            Evaluated::Refused(refusal) => return Gathered::Refused(refusal),
             Evaluated::Value(x) => add_given(table, wire::two_at(m, q + 3), x),
         }
         q = wire::end_of(m, q);
@@ -207,40 +197,34 @@ pub fn evaluate_titled(
     work: &[u8],
     out: &[u8],
     fill: usize,
-    scope: u16,
-    base_is_node: bool,
+    scope: Scope,
     table: &mut [u8],
 ) -> Evaluated
     requires { ⌜ ((Sized (now m) (now work) (now out) fill p × StandsAs (now m) depth Statement p) × (byte (now m) p ≡ 0x27)) × Fresh (now m) (now table) (fieldsIn (now m) (endOf (now m) (p + 5)) (endOf (now m) p)) ⌝ }
-    ensures { λ r. ⌜ TitledIn (now (m .entry)) (now (work .entry)) (now (out .entry)) fill scope «base_is_node» (depth - 1) p (now (table .exit)) r ⌝ }
+    ensures { λ r. ⌜ TitledIn (now (m .entry)) (now (work .entry)) (now (out .entry)) fill scope (depth - 1) p (now (table .exit)) r ⌝ }
 {
-    let t = evaluator::evaluate(m, depth - 1, p + 5, work, out, fill, scope, base_is_node);
+    let t = evaluator::evaluate(m, depth - 1, p + 5, work, out, fill, scope);
     let Evaluated::Value(x) = t else {
         return t;
     };
     let value = x.value;
     let Value::String(_) = value else {
-        return Evaluated::Refused {
-            reason: Reason::WrongKind,
-            place: (p + 5) as u16,
-        };
+        return Evaluated::Refused(Refusal::at(Reason::WrongKind, p + 5));
     };
     let first = wire::end_of(m, p + 5);
     let end = wire::end_of(m, p);
     let g = evaluate_attributes(
         m,
         depth - 1,
-        first,
-        end,
+        Span { first, end },
         work,
         out,
         fill,
         scope,
-        base_is_node,
         table,
     );
     match g {
-        Gathered::Refused { reason, place } => Evaluated::Refused { reason, place },
+        Gathered::Refused(refusal) => Evaluated::Refused(refusal),
         Gathered::Done => Evaluated::Value(x),
     }
 }

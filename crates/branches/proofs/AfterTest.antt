@@ -5,7 +5,7 @@ use mathlib.Core.Bool.{Bool, true, false, _||_}
 use mathlib.Core.List.{List, _++_}
 use lib.Dec.{eqb}
 use Rattle.labels.specs.declared.Labels.{Labels}
-use Rattle.rules.specs.Tree.{Statement, assignment, conditional, choice, resource, defined, class, include, Block, end, next, Branches, noBranch, branch, defaultBranch}
+use Rattle.rules.specs.Tree.{Statement, assignment, conditional, choice, builtInResource, definedResource, classWithAttributes, include, Block, end, next, Branches, noBranch, branch, defaultBranch}
 use Rattle.rules.specs.Tree
 use Rattle.rules.specs.State.{Scope, Entry, State, Context}
 use Rattle.rules.specs.Run.{assigns, assignsIn, assignsAny, afterTest}
@@ -34,9 +34,9 @@ mutual
   assigned (assignment p x e) n = or-false (eqb n x)
   assigned (conditional p e a b) n = listed-both (namesIn a) (namesIn b) n (assigned-in a n) (assigned-in b n)
   assigned (choice p e bs) n = assigned-any bs n
-  assigned (resource p t e ats) n = refl
-  assigned (defined p t e ats) n = refl
-  assigned (class p q ats) n = refl
+  assigned (builtInResource p t e ats) n = refl
+  assigned (definedResource p t e ats) n = refl
+  assigned (classWithAttributes p q ats) n = refl
   assigned (include p q) n = refl
   assigned (Statement.unreadable p) n = refl
 

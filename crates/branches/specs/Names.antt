@@ -3,7 +3,7 @@ use Prim.Native.Nat.{ℕ, _<_}
 use mathlib.Core.Path.{_≡_}
 use mathlib.Core.Bool.{true}
 use mathlib.Core.List.{List, [], _∷_, _++_}
-use Rattle.rules.specs.Tree.{Statement, assignment, conditional, choice, resource, defined, class, include, Block, end, next, Branches, noBranch, branch, defaultBranch}
+use Rattle.rules.specs.Tree.{Statement, assignment, conditional, choice, builtInResource, definedResource, classWithAttributes, include, Block, end, next, Branches, noBranch, branch, defaultBranch}
 use Rattle.rules.specs.Tree
 use Rattle.cells.specs.Memory.{listed}
 
@@ -13,9 +13,9 @@ unfoldable mutual
   names (assignment p x e) = x ∷ []
   names (conditional p e a b) = namesIn a ++ namesIn b
   names (choice p e bs) = namesAny bs
-  names (resource p t e ats) = []
-  names (defined p t e ats) = []
-  names (class p q ats) = []
+  names (builtInResource p t e ats) = []
+  names (definedResource p t e ats) = []
+  names (classWithAttributes p q ats) = []
   names (include p q) = []
   names (Statement.unreadable p) = []
 

@@ -4,15 +4,15 @@ use mathlib.Core.Bool.{Bool, true, false, _&&_}
 use mathlib.Core.List.{List, [], _∷_, _++_, append-assoc, append-nil}
 use Prim.Native.Nat.{ℕ, _+_, _≤_, _<_}
 use native.Mathlib.Omega.{arith}
-use borrow.Author.Tests.{ltb-true, lt-ltb, le-ltb, eq-eqb, ne-eqb}
+use borrow.Author.Tests.{ltb-true, eq-eqb, ne-eqb}
 use lib.Dec.{eqb}
 use lib.IntN.{ℤ, pos, negsuc}
-use lib.ListN.{length, drop, length-append, take-append-drop}
+use lib.ListN.{length, drop, take-append-drop}
 use lib.Seq.{length-take-le}
 use lib.Signed.{mag}
 use Rattle.labels.specs.declared.Labels.{Labels}
-use Rattle.labels.specs.Sets.{noLabels, Words64}
-use Rattle.labels.specs.Bytes.{labelBytes, labelsFrom}
+use Rattle.labels.specs.Sets.{Words64}
+use Rattle.labels.specs.Bytes.{labelBytes, labelsFrom, setAt}
 use Rattle.labels.proofs.Laws.{label-length, label-back}
 use Rattle.values.specs.declared.Value.{Value}
 use Rattle.values.specs.declared.Value.the-variants.{Integer, String, Boolean}
@@ -23,12 +23,14 @@ use Rattle.wire.proofs.Laws.{high-length, number-back, word-lt}
 use Rattle.rules.specs.Arithmetic.{fits64}
 use Rattle.rules.specs.State.{Attribute, Entry}
 use Rattle.rules.specs.Evaluate.{firstWith, isEntry, isAttribute}
+use Rattle.catalog.specs.Layout.{entryType, entryTitle, entryLabels, entryAttributes, attributeName, attributeLabels, attributeValue}
 use Rattle.rules.specs.Catalog.{fieldBytes, booleanByte, valueBytes, attributeBytes, attributesBytes, entryBytes, catalogBytes}
 use Rattle.rules.proofs.ReadBack.{FitsValue, fitsInteger, fitsString, fitsBoolean, FitsAttribute, FitsEntry, field-length, integer-back}
 use Rattle.catalog.specs.declared.Place.{Place}
 use Rattle.catalog.specs.declared.Place.the-variants.{At, Nothing}
-use Rattle.catalog.specs.Finding.{Written, Stands, EntryAt, Listed, placeWith, entryPlace, attributePlace, Below, labelsAt, valueAt, contentAt}
-use Rattle.catalog.proofs.Standing.{stands-first, stands-next, stands-same, stands-within, stands-byte, stands-two, stands-run, field-end, field-body}
+use Rattle.catalog.specs.Finding.{Written, Stands, EntryAt, Listed, placeWith, entryPlace, attributePlace, Below, valueAt, contentAt}
+use Rattle.catalog.proofs.Making.{entry-size}
+use Rattle.catalog.proofs.Standing.{stands-next, stands-same, stands-byte, stands-two, stands-run, field-end, field-body}
 use Rattle.catalog.proofs.Search.{Left, here, further, gone, Hit, hits, FirstListed, first-listed}
 
 -- ---- An entry that stands at p
@@ -40,34 +42,31 @@ entry-is : (e : Entry) → entryBytes e ≡ fieldBytes 0x40 (entryBody e)
 unfolding entryBytes entryBody
 entry-is e = refl
 
-entry-length : (e : Entry) → length (entryBytes e) ≡ 39 + length (attributesBytes (e .attributes))
-unfolding entryBody
-entry-length e =
-    let body : length (entryBody e) ≡ 36 + length (attributesBytes (e .attributes)) = simp (length-append, high-length, label-length) (omega arith) in
-    ap length (entry-is e) ∙ field-length 0x40 (entryBody e) ∙ omega arith
+entry-length : (e : Entry) → length (entryBytes e) ≡ entryAttributes + length (attributesBytes (e .attributes))
+entry-length e = entry-size (entryAttributes + length (attributesBytes (e .attributes))) (e .type) (e .title) (e .labels) (e .attributes) refl
 
 module _ (m : List ℕ) {p : ℕ} (e : Entry) (stands : Stands m p (entryBytes e)) where
   pub entry-body : Stands m (p + 3) (highBytes 2 (e .type) ++ (highBytes 2 (e .title) ++ (labelBytes (e .labels) ++ attributesBytes (e .attributes))))
   unfolding entryBody
   entry-body = field-body m 0x40 (entryBody e) (stands-same m (entry-is e) stands)
 
-  pub after-type : Stands m (p + 5) (highBytes 2 (e .title) ++ (labelBytes (e .labels) ++ attributesBytes (e .attributes)))
+  pub after-type : Stands m (p + entryTitle) (highBytes 2 (e .title) ++ (labelBytes (e .labels) ++ attributesBytes (e .attributes)))
   after-type = stands-next m (highBytes 2 (e .type)) (highBytes 2 (e .title) ++ (labelBytes (e .labels) ++ attributesBytes (e .attributes))) (omega (arith, high-length 2 (e .type))) entry-body
 
-  pub after-title : Stands m (p + 7) (labelBytes (e .labels) ++ attributesBytes (e .attributes))
-  after-title = stands-next m {p = p + 5} (highBytes 2 (e .title)) (labelBytes (e .labels) ++ attributesBytes (e .attributes)) {q = p + 7} (omega (arith, high-length 2 (e .title))) after-type
+  pub after-title : Stands m (p + entryLabels) (labelBytes (e .labels) ++ attributesBytes (e .attributes))
+  after-title = stands-next m {p = p + entryTitle} (highBytes 2 (e .title)) (labelBytes (e .labels) ++ attributesBytes (e .attributes)) {q = p + entryLabels} (omega (arith, high-length 2 (e .title))) after-type
 
-  attributes-stand : Stands m (p + 39) (attributesBytes (e .attributes))
+  attributes-stand : Stands m (p + entryAttributes) (attributesBytes (e .attributes))
   attributes-stand = stands-next m (labelBytes (e .labels)) (attributesBytes (e .attributes)) (omega (arith, label-length (e .labels))) after-title
 
-  entry-test : (t n : ℕ) → FitsEntry e → (eqb (two m (p + 3)) t && eqb (two m (p + 5)) n) ≡ isEntry t n e
+  entry-test : (t n : ℕ) → FitsEntry e → (eqb (two m (p + entryType)) t && eqb (two m (p + entryTitle)) n) ≡ isEntry t n e
   unfolding isEntry
   entry-test t n f = rw (stands-two m (e .type) _ (f .type) entry-body, stands-two m (e .title) _ (f .title) after-type)
 
 -- its attributes lie between its header and its end
-pub attributes-listed : (m : List ℕ) (p : ℕ) (e : Entry) {size : ℕ} → size ≡ two m (p + 1) → EntryAt m p e → Listed FitsAttribute attributesBytes m (p + 39) (p + 3 + size) (e .attributes)
+pub attributes-listed : (m : List ℕ) (p : ℕ) (e : Entry) {size : ℕ} → size ≡ two m (p + 1) → EntryAt m p e → Listed FitsAttribute attributesBytes m (p + entryAttributes) (p + 3 + size) (e .attributes)
 attributes-listed m p e {size} is s =
-    let wide : length (entryBytes e) ≡ 39 + length (attributesBytes (e .attributes)) = entry-length e in
+    let wide : length (entryBytes e) ≡ entryAttributes + length (attributesBytes (e .attributes)) = entry-length e in
     let field : length (entryBytes e) ≡ 3 + length (entryBody e) = ap length (entry-is e) ∙ field-length 0x40 (entryBody e) in
     let end : endOf m p ≡ p + length (fieldBytes 0x40 (entryBody e)) = field-end m 0x40 (entryBody e) (omega (arith, s .short)) (stands-same m (entry-is e) (s .stands)) in
     record {
@@ -91,23 +90,20 @@ module _ (m : List ℕ) {p : ℕ} (a : Attribute) (stands : Stands m p (attribut
   unfolding attributeBody
   attribute-body = field-body m 0x41 (attributeBody a) (stands-same m (attribute-is a) stands)
 
-  after-name : Stands m (p + 5) (labelBytes (a .content .labels) ++ valueBytes (a .content .value))
+  after-name : Stands m (p + attributeLabels) (labelBytes (a .content .labels) ++ valueBytes (a .content .value))
   after-name = stands-next m (highBytes 2 (a .name)) (labelBytes (a .content .labels) ++ valueBytes (a .content .value)) (omega (arith, high-length 2 (a .name))) attribute-body
 
-  pub after-labels : Stands m (p + 37) (valueBytes (a .content .value))
+  pub after-labels : Stands m (p + attributeValue) (valueBytes (a .content .value))
   after-labels = stands-next m (labelBytes (a .content .labels)) (valueBytes (a .content .value)) (omega (arith, label-length (a .content .labels))) after-name
 
-  attribute-test : (n : ℕ) → FitsAttribute a → eqb (two m (p + 3)) n ≡ isAttribute n a
+  attribute-test : (n : ℕ) → FitsAttribute a → eqb (two m (p + attributeName)) n ≡ isAttribute n a
   unfolding isAttribute
   attribute-test n f = rw (stands-two m (a .name) _ (f .name) attribute-body)
 
 -- the set and the value are read back
-pub labels-back : (m : List ℕ) (p : ℕ) (k : Labels) (b : List ℕ) → Words64 k → Stands m p (labelBytes k ++ b) → labelsAt m p ≡ k
-unfolding labelsAt
-labels-back m p k b words s =
-    let wide : length (labelBytes k) ≡ 32 = label-length k in
-    let room : p + length (labelBytes k) ≤ length m = stands-within m (labelBytes k) (omega arith) (stands-first m (labelBytes k) b s) in
-    rw (le-ltb (length m) (p + 32) (omega arith)) (ap labelsFrom (s .bytes ∙ append-assoc (labelBytes k) b (s .after)) ∙ label-back k (b ++ s .after) words)
+pub labels-back : (m : List ℕ) (p : ℕ) (k : Labels) (b : List ℕ) → Words64 k → Stands m p (labelBytes k ++ b) → setAt m p ≡ k
+unfolding setAt
+labels-back m p k b words s = ap labelsFrom (s .bytes ∙ append-assoc (labelBytes k) b (s .after)) ∙ label-back k (b ++ s .after) words
 
 integer-small : (z : ℤ) → fits64 z ≡ true → mag z < 9223372036854775808
 unfolding fits64
@@ -137,28 +133,20 @@ value-back m p (Boolean b) fitsBoolean s =
 pub content-back : (m : List ℕ) (p : ℕ) (a : Attribute) → FitsAttribute a → Stands m p (attributeBytes a) → contentAt m p ≡ a .content
 unfolding contentAt
 content-back m p a f s =
-    let value : valueAt m (p + 37) ≡ a .content .value = value-back m (p + 37) (a .content .value) (f .content .value) (after-labels m a s) in
-    let labels : labelsAt m (p + 5) ≡ a .content .labels = labels-back m (p + 5) (a .content .labels) (valueBytes (a .content .value)) (f .content .labels) (after-name m a s) in
+    let value : valueAt m (p + attributeValue) ≡ a .content .value = value-back m (p + attributeValue) (a .content .value) (f .content .value) (after-labels m a s) in
+    let labels : setAt m (p + attributeLabels) ≡ a .content .labels = labels-back m (p + attributeLabels) (a .content .labels) (valueBytes (a .content .value)) (f .content .labels) (after-name m a s) in
     rw (value, labels)
 
 -- ---- The ways of the small readers
 
-module _ (m : List ℕ) (p t n : ℕ) {r : ℕ} (is : r ≡ two m (p + 3)) where
-  pub other-type : (r ≡ t → ⊥) → false ≡ (eqb (two m (p + 3)) t && eqb (two m (p + 5)) n)
-  other-type differs = rw (ne-eqb (two m (p + 3)) t (λ e. differs (is ∙ e)))
+module _ (m : List ℕ) (p t n : ℕ) {r : ℕ} (is : r ≡ two m (p + entryType)) where
+  pub other-type : (r ≡ t → ⊥) → false ≡ (eqb (two m (p + entryType)) t && eqb (two m (p + entryTitle)) n)
+  other-type differs = rw (ne-eqb (two m (p + entryType)) t (λ e. differs (is ∙ e)))
 
-  pub same-type : {q : ℕ} → r ≡ t → q ≡ two m (p + 5) → eqb q n ≡ (eqb (two m (p + 3)) t && eqb (two m (p + 5)) n)
-  same-type e title = rw (eq-eqb (two m (p + 3)) t (sym is ∙ e), title)
+  pub same-type : {q : ℕ} → r ≡ t → q ≡ two m (p + entryTitle) → eqb q n ≡ (eqb (two m (p + entryType)) t && eqb (two m (p + entryTitle)) n)
+  same-type e title = rw (eq-eqb (two m (p + entryType)) t (sym is ∙ e), title)
 
 module _ (m : List ℕ) (p : ℕ) where
-  pub no-set : length m < p + 32 → noLabels ≡ labelsAt m p
-  unfolding labelsAt
-  no-set short = rw (lt-ltb (length m) (p + 32) short)
-
-  pub set-read : {k : Labels} {b : List ℕ} → p + 32 ≤ length m → b ≡ drop p m → k ≡ labelsFrom b → k ≡ labelsAt m p
-  unfolding labelsAt
-  set-read room part read = rw (le-ltb (length m) (p + 32) room) (read ∙ ap labelsFrom part)
-
   module _ {tag : ℕ} (is : tag ≡ byte m p) where
     pub integer-read : {y z : ℤ} → tag ≡ 0x42 → y ≡ z → z ≡ signed64 (number (bytesAt m (p + 3) 8) 0) → Integer y ≡ valueAt m p
     unfolding valueAt
@@ -194,12 +182,12 @@ module _ (m : List ℕ) (fill t n : ℕ) where
   entries-begin small within es w = record { xs = es; listed = entries-listed m fill es small within w; goes = refl }
 
   module _ (p : ℕ) (left : EntriesLeft m fill t n p) where
-    pub entry-here : {b : Bool} → p < fill → b ≡ (eqb (two m (p + 3)) t && eqb (two m (p + 5)) n) → b ≡ true → (es : List Entry) → Written m fill es → At p ≡ entryPlace t n es
+    pub entry-here : {b : Bool} → p < fill → b ≡ (eqb (two m (p + entryType)) t && eqb (two m (p + entryTitle)) n) → b ≡ true → (es : List Entry) → Written m fill es → At p ≡ entryPlace t n es
     unfolding catalogBytes
     entry-here before is true′ es w =
         here 0x40 entryBody entryBytes catalogBytes FitsEntry (isEntry t n) entry-is refl (λ x xs. refl) m before true′ (λ x f s. is ∙ entry-test m x s t n f) (left es w)
 
-    pub entry-further : {b : Bool} {q : ℕ} → p < fill → b ≡ (eqb (two m (p + 3)) t && eqb (two m (p + 5)) n) → b ≡ false → q ≡ endOf m p → EntriesLeft m fill t n q
+    pub entry-further : {b : Bool} {q : ℕ} → p < fill → b ≡ (eqb (two m (p + entryType)) t && eqb (two m (p + entryTitle)) n) → b ≡ false → q ≡ endOf m p → EntriesLeft m fill t n q
     unfolding catalogBytes
     entry-further before is false′ end es w =
         further 0x40 entryBody entryBytes catalogBytes FitsEntry (isEntry t n) entry-is refl (λ x xs. refl) m before false′ (λ x f s. is ∙ entry-test m x s t n f) end (left es w)

@@ -14,6 +14,7 @@ use Rattle.wire.specs.Bytes.{pick}
 use Rattle.wire.specs.Runs.{over, zeros}
 use Rattle.wire.proofs.Laws.{over-parts}
 use Rattle.rules.specs.State.{Attribute, Entry}
+use Rattle.catalog.specs.Layout.{entryAttributes, attributeValue}
 use Rattle.rules.specs.Catalog.{valueBytes, attributeBytes, attributesBytes, entryBytes, catalogBytes}
 use Rattle.rules.proofs.Lists.{Each, noneLeft, also}
 use Rattle.rules.proofs.ReadBack.{FitsEntry}
@@ -26,7 +27,7 @@ use Rattle.catalog.proofs.Stores.{drop-take, part-lent, part-back}
 -- ---- The rest alone
 
 -- an entry without attributes
-pub holding-none : (rest : List ℕ) → Holding rest 39 []
+pub holding-none : (rest : List ℕ) → Holding rest entryAttributes []
 unfolding attributesBytes
 holding-none rest = record { grown = refl; bytes = λ h. refl }
 
@@ -36,17 +37,17 @@ attributes-more [] a = append-nil (attributeBytes a)
 attributes-more (b ∷ ats) a = ap (λ (l : List ℕ). attributeBytes b ++ l) (attributes-more ats a) ∙ sym (append-assoc (attributeBytes b) (attributesBytes ats) (attributeBytes a))
 
 -- the attributes' bytes with one more stored after them
-bytes-more : (m : List ℕ) (size : ℕ) (bs : List ℕ) → 39 ≤ size → size + length bs ≤ length m → take (size + length bs - 39) (drop 39 (over m size bs)) ≡ take (size - 39) (drop 39 m) ++ bs
+bytes-more : (m : List ℕ) (size : ℕ) (bs : List ℕ) → entryAttributes ≤ size → size + length bs ≤ length m → take (size + length bs - entryAttributes) (drop entryAttributes (over m size bs)) ≡ take (size - entryAttributes) (drop entryAttributes m) ++ bs
 bytes-more m size bs low room =
     let wide : length (take size m) ≡ size = length-take-le size m (omega arith) in
-    let cut : drop 39 (take size m) ≡ take (size - 39) (drop 39 m) = drop-take 39 size m low (omega arith) in
+    let cut : drop entryAttributes (take size m) ≡ take (size - entryAttributes) (drop entryAttributes m) = drop-take entryAttributes size m low (omega arith) in
     let all : length (take size m ++ bs) ≡ size + length bs = length-append (take size m) bs ∙ omega arith in
-    let dropped : drop 39 (over m size bs) ≡ take (size - 39) (drop 39 m) ++ bs ++ drop (size + length bs) m =
-    ap (drop 39) (over-parts m size bs room) ∙ drop-append-le 39 (take size m ++ bs) (drop (size + length bs) m) (omega arith)
-    ∙ ap (λ (l : List ℕ). l ++ drop (size + length bs) m) (drop-append-le 39 (take size m) bs (omega arith) ∙ ap (λ (l : List ℕ). l ++ bs) cut) in
-    let size39 : length (take (size - 39) (drop 39 m)) ≡ size - 39 = length-take-le (size - 39) (drop 39 m) (omega (arith, length-drop 39 m)) in
-    ap (take (size + length bs - 39)) dropped
-    ∙ take-at (take (size - 39) (drop 39 m) ++ bs) (drop (size + length bs) m) (size + length bs - 39) (length-append (take (size - 39) (drop 39 m)) bs ∙ omega arith)
+    let dropped : drop entryAttributes (over m size bs) ≡ take (size - entryAttributes) (drop entryAttributes m) ++ bs ++ drop (size + length bs) m =
+    ap (drop entryAttributes) (over-parts m size bs room) ∙ drop-append-le entryAttributes (take size m ++ bs) (drop (size + length bs) m) (omega arith)
+    ∙ ap (λ (l : List ℕ). l ++ drop (size + length bs) m) (drop-append-le entryAttributes (take size m) bs (omega arith) ∙ ap (λ (l : List ℕ). l ++ bs) cut) in
+    let size-left : length (take (size - entryAttributes) (drop entryAttributes m)) ≡ size - entryAttributes = length-take-le (size - entryAttributes) (drop entryAttributes m) (omega (arith, length-drop entryAttributes m)) in
+    ap (take (size + length bs - entryAttributes)) dropped
+    ∙ take-at (take (size - entryAttributes) (drop entryAttributes m) ++ bs) (drop (size + length bs) m) (size + length bs - entryAttributes) (length-append (take (size - entryAttributes) (drop entryAttributes m)) bs ∙ omega arith)
 
 -- one more attribute
 pub holding-more : (rest : List ℕ) (size : ℕ) (ats : List Attribute) (a : Attribute) {n : ℕ} {rest′ : List ℕ} → Holding rest size ats → stored n rest′ ≡ addAttribute rest size a → Holding rest′ n (ats ++ (a ∷ []))
@@ -56,7 +57,7 @@ holding-more rest size ats a {n} {rest′} h e = go (ltb (length rest) (size + l
     more : length (attributesBytes (ats ++ (a ∷ []))) ≡ length (attributesBytes ats) + length (attributeBytes a)
     more = ap length (attributes-more ats a) ∙ length-append (attributesBytes ats) (attributeBytes a)
 
-    low : size ≡ 39 + length (attributesBytes ats)
+    low : size ≡ entryAttributes + length (attributesBytes ats)
     low = h .grown
 
     go : (b : Bool) → ltb (length rest) (size + length (attributeBytes a)) ≡ b → Holding rest′ n (ats ++ (a ∷ []))
@@ -85,7 +86,7 @@ pub attribute-grown : (rest : List ℕ) (size : ℕ) (a : Attribute) {n : ℕ} {
 unfolding addAttribute
 attribute-grown rest size a {n} e =
     let grown : n ≡ size + length (attributeBytes a) = cc in
-    let wide : length (attributeBytes a) ≡ 37 + length (valueBytes (a .content .value)) = attribute-size (a .name) (a .content) in
+    let wide : length (attributeBytes a) ≡ attributeValue + length (valueBytes (a .content .value)) = attribute-size (a .name) (a .content) in
     record { least = omega (arith, value-least (a .content .value)); most = omega (arith, value-most (a .content .value)) }
 
 -- ---- The whole output
@@ -195,7 +196,7 @@ written-more w f j = record { bytes = j .bytes; fits = each-last (w .fits) f }
 
 -- ---- The output at the end
 
--- "Bytes after the catalog are zero", in the words of `outputAfter`
+-- "Bytes after the catalog are zero", in the words of `outputOf`
 pub cleared-after : (out bs : List ℕ) (fill : ℕ) → fill ≤ length out → take fill out ≡ bs → clearedFrom fill out ≡ bs ++ replicate (length out - length bs) 0
 unfolding clearedFrom zeros
 cleared-after out bs fill within e =

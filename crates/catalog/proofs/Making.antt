@@ -16,13 +16,14 @@ use Rattle.values.specs.declared.Value.the-variants.{Integer, String, Boolean}
 use Rattle.values.specs.declared.Labelled.{Labelled}
 use Rattle.wire.specs.Numbers.{highBytes, word64}
 use Rattle.wire.specs.Runs.{over}
-use Rattle.wire.proofs.Laws.{high-length, one-byte}
+use Rattle.wire.proofs.Laws.{then-store, high-length, one-byte}
 use Rattle.rules.specs.State.{Attribute}
 use Rattle.rules.specs.Catalog.{fieldBytes, booleanByte, valueBytes, attributeBytes, attributesBytes, entryBytes}
 use Rattle.rules.proofs.ReadBack.{field-length}
+use Rattle.catalog.specs.Layout.{headerSize, entryType, entryTitle, entryLabels, entryAttributes, attributeName, attributeLabels, attributeValue, beforeValue}
 use Rattle.catalog.specs.declared.Finished.the-variants.{Fits, TooLong}
 use Rattle.catalog.specs.Making.{stored, attribute, entry, addAttribute, Holding, putEntry}
-use Rattle.catalog.proofs.Stores.{then-store, over-start}
+use Rattle.catalog.proofs.Stores.{over-start}
 
 -- ---- Fields
 
@@ -44,7 +45,7 @@ module _ (m : List ℕ) (p : ℕ) {m1 m2 : List ℕ} where
   integer-stored z is e h b =
       rw is (field-stored m p 0x42 8 (highBytes 8 (word64 z)) h (b ∙ ap (λ (x : ℤ). over m1 (p + 3) (highBytes 8 (word64 x))) e) (sym (high-length 8 (word64 z))))
 
-  pub string-stored : {v : Value} (n : ℕ) → v ≡ String n → m1 ≡ over m p (0x43 ∷ highBytes 2 2) → m2 ≡ over m1 (p + 3) (highBytes 2 n) → m2 ≡ over m p (valueBytes v)
+  pub string-stored : {v : Value} (n : ℕ) → v ≡ String n → m1 ≡ over m p (0x43 ∷ highBytes 2 2) → m2 ≡ over m1 (p + attributeName) (highBytes 2 n) → m2 ≡ over m p (valueBytes v)
   unfolding valueBytes
   string-stored n is h b = rw is (field-stored m p 0x43 2 (highBytes 2 n) h b (sym (high-length 2 n)))
 
@@ -77,63 +78,63 @@ value-least (Integer z) = omega (arith, integer-size z refl)
 value-least (String n) = omega (arith, string-size n refl)
 value-least (Boolean b) = omega (arith, boolean-size b refl)
 
-attribute-body : (n : ℕ) (k : Labels) (b : List ℕ) → length (highBytes 2 n ++ (labelBytes k ++ b)) ≡ 34 + length b
+attribute-body : (n : ℕ) (k : Labels) (b : List ℕ) → length (highBytes 2 n ++ (labelBytes k ++ b)) ≡ beforeValue + length b
 attribute-body n k b = simp (length-append, high-length, label-length) (omega arith)
 
-pub attribute-size : (n : ℕ) (x : Labelled) → length (attributeBytes (attribute n x)) ≡ 37 + length (valueBytes (x .value))
+pub attribute-size : (n : ℕ) (x : Labelled) → length (attributeBytes (attribute n x)) ≡ attributeValue + length (valueBytes (x .value))
 unfolding attributeBytes
 attribute-size n x = field-length 0x41 _ ∙ omega (arith, attribute-body n (x .labels) (valueBytes (x .value)))
 
 -- ---- One attribute: the ways of `add_attribute`
 
 module _ (m : List ℕ) (p n : ℕ) (x : Labelled) {size : ℕ} (is : size ≡ length (valueBytes (x .value))) where
-  end-is : p + 3 + (34 + size) ≡ p + length (attributeBytes (attribute n x))
+  end-is : p + headerSize + (beforeValue + size) ≡ p + length (attributeBytes (attribute n x))
   end-is = omega (arith, attribute-size n x)
 
-  attribute-stored : {m1 m2 m3 m4 : List ℕ} → m1 ≡ over m p (0x41 ∷ highBytes 2 (34 + size)) → m2 ≡ over m1 (p + 3) (highBytes 2 n) → m3 ≡ over m2 (p + 5) (labelBytes (x .labels)) → m4 ≡ over m3 (p + 37) (valueBytes (x .value))
+  attribute-stored : {m1 m2 m3 m4 : List ℕ} → m1 ≡ over m p (0x41 ∷ highBytes 2 (beforeValue + size)) → m2 ≡ over m1 (p + attributeName) (highBytes 2 n) → m3 ≡ over m2 (p + attributeLabels) (labelBytes (x .labels)) → m4 ≡ over m3 (p + attributeValue) (valueBytes (x .value))
       → m4 ≡ over m p (attributeBytes (attribute n x))
   unfolding attributeBytes
   attribute-stored {m1} {m2} {m3} {m4} header name labels value =
       let two : m3 ≡ over m1 (p + 3) (highBytes 2 n ++ labelBytes (x .labels)) =
-      then-store m1 (p + 3) (highBytes 2 n) (p + 5) (labelBytes (x .labels)) name labels (omega (arith, high-length 2 n)) in
-      let wide : length (highBytes 2 n ++ labelBytes (x .labels)) ≡ 34 = simp (length-append, high-length, label-length) in
+      then-store m1 (p + attributeName) (highBytes 2 n) (p + attributeLabels) (labelBytes (x .labels)) name labels (omega (arith, high-length 2 n)) in
+      let wide : length (highBytes 2 n ++ labelBytes (x .labels)) ≡ beforeValue = simp (length-append, high-length, label-length) in
       let three : m4 ≡ over m1 (p + 3) (highBytes 2 n ++ labelBytes (x .labels) ++ valueBytes (x .value)) =
-      then-store m1 (p + 3) (highBytes 2 n ++ labelBytes (x .labels)) (p + 37) (valueBytes (x .value)) two value (omega arith) in
-      field-stored m p 0x41 (34 + size) (highBytes 2 n ++ (labelBytes (x .labels) ++ valueBytes (x .value))) header
+      then-store m1 (p + attributeName) (highBytes 2 n ++ labelBytes (x .labels)) (p + attributeValue) (valueBytes (x .value)) two value (omega arith) in
+      field-stored m p 0x41 (beforeValue + size) (highBytes 2 n ++ (labelBytes (x .labels) ++ valueBytes (x .value))) header
       (three ∙ ap (over m1 (p + 3)) (append-assoc (highBytes 2 n) (labelBytes (x .labels)) (valueBytes (x .value))))
       (omega (arith, attribute-body n (x .labels) (valueBytes (x .value))))
 
-  pub attribute-left : length m < p + 3 + (34 + size) → stored (p + 3 + (34 + size)) m ≡ addAttribute m p (attribute n x)
+  pub attribute-left : length m < p + headerSize + (beforeValue + size) → stored (p + headerSize + (beforeValue + size)) m ≡ addAttribute m p (attribute n x)
   unfolding addAttribute
   attribute-left short =
-      let e : p + 3 + (34 + size) ≡ p + length (attributeBytes (attribute n x)) = end-is in
+      let e : p + headerSize + (beforeValue + size) ≡ p + length (attributeBytes (attribute n x)) = end-is in
       rw (lt-ltb (length m) (p + length (attributeBytes (attribute n x))) (omega arith), e)
 
-  pub attribute-added : {m1 m2 m3 m4 : List ℕ} → p + 3 + (34 + size) ≤ length m → m1 ≡ over m p (0x41 ∷ highBytes 2 (34 + size)) → m2 ≡ over m1 (p + 3) (highBytes 2 n) → m3 ≡ over m2 (p + 5) (labelBytes (x .labels)) → m4 ≡ over m3 (p + 37) (valueBytes (x .value))
-      → stored (p + 3 + (34 + size)) m4 ≡ addAttribute m p (attribute n x)
+  pub attribute-added : {m1 m2 m3 m4 : List ℕ} → p + headerSize + (beforeValue + size) ≤ length m → m1 ≡ over m p (0x41 ∷ highBytes 2 (beforeValue + size)) → m2 ≡ over m1 (p + attributeName) (highBytes 2 n) → m3 ≡ over m2 (p + attributeLabels) (labelBytes (x .labels)) → m4 ≡ over m3 (p + attributeValue) (valueBytes (x .value))
+      → stored (p + headerSize + (beforeValue + size)) m4 ≡ addAttribute m p (attribute n x)
   unfolding addAttribute
   attribute-added {m4 = m4} room header name labels value =
-      let e : p + 3 + (34 + size) ≡ p + length (attributeBytes (attribute n x)) = end-is in
+      let e : p + headerSize + (beforeValue + size) ≡ p + length (attributeBytes (attribute n x)) = end-is in
       let bytes : m4 ≡ over m p (attributeBytes (attribute n x)) = attribute-stored header name labels value in
       rw (le-ltb (length m) (p + length (attributeBytes (attribute n x))) (omega arith), e, bytes)
 
 -- ---- The entry's header: the ways of `finish_entry`
 
--- the 39 bytes of an entry of `size` bytes in front of its attributes
+-- the bytes of an entry of `size` bytes in front of its attributes
 headBytes : (size type title : ℕ) → Labels → List ℕ
-headBytes size t n k = (0x40 ∷ highBytes 2 (size - 3)) ++ highBytes 2 t ++ highBytes 2 n ++ labelBytes k
+headBytes size t n k = (0x40 ∷ highBytes 2 (size - headerSize)) ++ highBytes 2 t ++ highBytes 2 n ++ labelBytes k
 
-head-length : (size t n : ℕ) (k : Labels) → length (headBytes size t n k) ≡ 39
+head-length : (size t n : ℕ) (k : Labels) → length (headBytes size t n k) ≡ entryAttributes
 unfolding headBytes
 head-length size t n k = simp (length-append, high-length, label-length)
 
-entry-parts : (size t n : ℕ) (k : Labels) (ats : List Attribute) → size ≡ 39 + length (attributesBytes ats) → entryBytes (entry t n k ats) ≡ headBytes size t n k ++ attributesBytes ats
+entry-parts : (size t n : ℕ) (k : Labels) (ats : List Attribute) → size ≡ entryAttributes + length (attributesBytes ats) → entryBytes (entry t n k ats) ≡ headBytes size t n k ++ attributesBytes ats
 unfolding headBytes entryBytes fieldBytes
 entry-parts size t n k ats e =
     let body : length (highBytes 2 t ++ (highBytes 2 n ++ (labelBytes k ++ attributesBytes ats))) ≡ size - 3 = simp (length-append, high-length, label-length) (omega arith) in
     rw body (simp append-assoc)
 
-entry-size : (size t n : ℕ) (k : Labels) (ats : List Attribute) → size ≡ 39 + length (attributesBytes ats) → length (entryBytes (entry t n k ats)) ≡ size
+pub entry-size : (size t n : ℕ) (k : Labels) (ats : List Attribute) → size ≡ entryAttributes + length (attributesBytes ats) → length (entryBytes (entry t n k ats)) ≡ size
 entry-size size t n k ats e =
     ap length (entry-parts size t n k ats e) ∙ length-append (headBytes size t n k) (attributesBytes ats) ∙ omega (arith, head-length size t n k)
 
@@ -150,32 +151,32 @@ module _ (m : List ℕ) (size room t n : ℕ) (k : Labels) where
       let e : length (entryBytes (entry t n k ats)) ≡ size = entry-size size t n k ats (h .grown) in
       rw (e, le-ltb (length m) size fits, lt-ltb room size short)
 
-  head-stored : {m1 m2 m3 m4 : List ℕ} → m1 ≡ over m 0 (0x40 ∷ highBytes 2 (size - 3)) → m2 ≡ over m1 3 (highBytes 2 t) → m3 ≡ over m2 5 (highBytes 2 n) → m4 ≡ over m3 7 (labelBytes k)
+  head-stored : {m1 m2 m3 m4 : List ℕ} → m1 ≡ over m 0 (0x40 ∷ highBytes 2 (size - headerSize)) → m2 ≡ over m1 entryType (highBytes 2 t) → m3 ≡ over m2 entryTitle (highBytes 2 n) → m4 ≡ over m3 entryLabels (labelBytes k)
       → m4 ≡ over m 0 (headBytes size t n k)
   unfolding headBytes
   head-stored {m1} {m2} {m3} {m4} p1 p2 p3 p4 =
-      let h : length (0x40 ∷ highBytes 2 (size - 3)) ≡ 3 = omega (arith, high-length 2 (size - 3)) in
-      let one : m2 ≡ over m 0 ((0x40 ∷ highBytes 2 (size - 3)) ++ highBytes 2 t) = then-store m 0 (0x40 ∷ highBytes 2 (size - 3)) 3 (highBytes 2 t) p1 p2 (omega arith) in
-      let h1 : length ((0x40 ∷ highBytes 2 (size - 3)) ++ highBytes 2 t) ≡ 5 = simp (length-append, high-length) in
-      let two : m3 ≡ over m 0 ((0x40 ∷ highBytes 2 (size - 3)) ++ highBytes 2 t ++ highBytes 2 n) =
-      then-store m 0 ((0x40 ∷ highBytes 2 (size - 3)) ++ highBytes 2 t) 5 (highBytes 2 n) one p3 (omega arith) in
-      let h2 : length ((0x40 ∷ highBytes 2 (size - 3)) ++ highBytes 2 t ++ highBytes 2 n) ≡ 7 = simp (length-append, high-length) in
-      then-store m 0 ((0x40 ∷ highBytes 2 (size - 3)) ++ highBytes 2 t ++ highBytes 2 n) 7 (labelBytes k) two p4 (omega arith)
+      let h : length (0x40 ∷ highBytes 2 (size - headerSize)) ≡ 3 = omega (arith, high-length 2 (size - headerSize)) in
+      let one : m2 ≡ over m 0 ((0x40 ∷ highBytes 2 (size - headerSize)) ++ highBytes 2 t) = then-store m 0 (0x40 ∷ highBytes 2 (size - headerSize)) 3 (highBytes 2 t) p1 p2 (omega arith) in
+      let h1 : length ((0x40 ∷ highBytes 2 (size - headerSize)) ++ highBytes 2 t) ≡ 5 = simp (length-append, high-length) in
+      let two : m3 ≡ over m 0 ((0x40 ∷ highBytes 2 (size - headerSize)) ++ highBytes 2 t ++ highBytes 2 n) =
+      then-store m 0 ((0x40 ∷ highBytes 2 (size - headerSize)) ++ highBytes 2 t) 5 (highBytes 2 n) one p3 (omega arith) in
+      let h2 : length ((0x40 ∷ highBytes 2 (size - headerSize)) ++ highBytes 2 t ++ highBytes 2 n) ≡ 7 = simp (length-append, high-length) in
+      then-store m 0 ((0x40 ∷ highBytes 2 (size - headerSize)) ++ highBytes 2 t ++ highBytes 2 n) 7 (labelBytes k) two p4 (omega arith)
 
   -- the attributes stand after the header already
   head-joined : {m4 : List ℕ} → size ≤ length m → m4 ≡ over m 0 (headBytes size t n k) → (ats : List Attribute) → Holding m size ats → m4 ≡ entryBytes (entry t n k ats) ++ drop size m
   head-joined fits p ats h =
-      let wide : length (headBytes size t n k) ≡ 39 = head-length size t n k in
-      let grown : size ≡ 39 + length (attributesBytes ats) = h .grown in
-      let parts : 39 + (size - 39) ≡ size = omega arith in
-      let after : drop 39 m ≡ attributesBytes ats ++ drop size m =
-      sym (take-append-drop (size - 39) (drop 39 m)) ∙ ap (λ (l : List ℕ). l ++ drop (size - 39) (drop 39 m)) (h .bytes fits)
-      ∙ ap (λ (l : List ℕ). attributesBytes ats ++ l) (drop-drop (size - 39) 39 m ∙ ap (λ (j : ℕ). drop j m) parts) in
+      let wide : length (headBytes size t n k) ≡ entryAttributes = head-length size t n k in
+      let grown : size ≡ entryAttributes + length (attributesBytes ats) = h .grown in
+      let parts : entryAttributes + (size - entryAttributes) ≡ size = omega arith in
+      let after : drop entryAttributes m ≡ attributesBytes ats ++ drop size m =
+      sym (take-append-drop (size - entryAttributes) (drop entryAttributes m)) ∙ ap (λ (l : List ℕ). l ++ drop (size - entryAttributes) (drop entryAttributes m)) (h .bytes fits)
+      ∙ ap (λ (l : List ℕ). attributesBytes ats ++ l) (drop-drop (size - entryAttributes) entryAttributes m ∙ ap (λ (j : ℕ). drop j m) parts) in
       p ∙ over-start m (headBytes size t n k) (omega arith)
       ∙ ap (λ (j : ℕ). headBytes size t n k ++ drop j m) wide ∙ ap (λ (l : List ℕ). headBytes size t n k ++ l) after
       ∙ sym (append-assoc (headBytes size t n k) (attributesBytes ats) (drop size m)) ∙ ap (λ (l : List ℕ). l ++ drop size m) (sym (entry-parts size t n k ats grown))
 
-  pub entry-finished : {m1 m2 m3 m4 : List ℕ} → size ≤ length m → size ≤ room → m1 ≡ over m 0 (0x40 ∷ highBytes 2 (size - 3)) → m2 ≡ over m1 3 (highBytes 2 t) → m3 ≡ over m2 5 (highBytes 2 n) → m4 ≡ over m3 7 (labelBytes k)
+  pub entry-finished : {m1 m2 m3 m4 : List ℕ} → size ≤ length m → size ≤ room → m1 ≡ over m 0 (0x40 ∷ highBytes 2 (size - headerSize)) → m2 ≡ over m1 entryType (highBytes 2 t) → m3 ≡ over m2 entryTitle (highBytes 2 n) → m4 ≡ over m3 entryLabels (labelBytes k)
       → (ats : List Attribute) → Holding m size ats → stored (Fits size) m4 ≡ putEntry m room (entry t n k ats)
   unfolding putEntry
   entry-finished {m4 = m4} fits small p1 p2 p3 p4 ats h =

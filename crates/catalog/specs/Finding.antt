@@ -4,11 +4,9 @@ use mathlib.Core.Path.{_≡_}
 use mathlib.Core.Bool.{Bool}
 use mathlib.Core.List.{List, [], _∷_, _++_}
 use mathlib.Core.Option.{Option, none, some}
-use lib.Dec.{eqb, ltb}
+use lib.Dec.{eqb}
 use lib.ListN.{length, take, drop}
-use Rattle.labels.specs.declared.Labels.{Labels}
-use Rattle.labels.specs.Sets.{noLabels}
-use Rattle.labels.specs.Bytes.{labelsFrom}
+use Rattle.labels.specs.Bytes.{setAt}
 use Rattle.values.specs.declared.Value.{Value}
 use Rattle.values.specs.declared.Value.the-variants.{Integer, String, Boolean}
 use Rattle.values.specs.declared.Labelled.{Labelled}
@@ -17,9 +15,9 @@ use Rattle.wire.specs.Numbers.{number, signed64}
 use Rattle.wire.specs.Runs.{bytesAt}
 use Rattle.rules.specs.State.{Attribute, Entry}
 use Rattle.rules.specs.Evaluate.{firstWith, isEntry, isAttribute}
+use Rattle.catalog.specs.Layout.{headerSize, entryAttributes, attributeLabels, attributeValue}
 use Rattle.rules.specs.Catalog.{attributeBytes, entryBytes, catalogBytes}
-use Rattle.rules.proofs.Lists.{Each}
-use Rattle.rules.proofs.ReadBack.{FitsEntry}
+use Rattle.rules.specs.Ranges.{Each, FitsEntry}
 use Rattle.catalog.specs.declared.Place.{Place}
 use Rattle.catalog.specs.declared.Place.the-variants.{At, Nothing}
 use Rattle.catalog.specs.declared.Found.{Found}
@@ -62,7 +60,7 @@ entryPlace t m es = placeWith entryBytes (isEntry t m) es 0
 
 -- in the entry at p
 unfoldable pub attributePlace : (name : ℕ) → Entry → ℕ → Place
-attributePlace n e p = placeWith attributeBytes (isAttribute n) (e .attributes) (p + 39)
+attributePlace n e p = placeWith attributeBytes (isAttribute n) (e .attributes) (p + entryAttributes)
 
 -- a place found is below an end
 unfoldable pub Below : ℕ → Place → Type 0
@@ -71,17 +69,14 @@ Below e Nothing = Unit {0}
 
 -- ---- Contents
 
--- the set at p, or none if the bytes end before; the value at p; the content of the attribute at p
-unfoldable pub labelsAt : List ℕ → ℕ → Labels
-labelsAt m p = pick (ltb (length m) (p + 32)) noLabels (labelsFrom (drop p m))
-
+-- the value at p; the content of the attribute at p
 unfoldable pub valueAt : List ℕ → ℕ → Value
 valueAt m p =
-    pick (eqb (byte m p) 0x42) (Integer (signed64 (number (bytesAt m (p + 3) 8) 0)))
-    (pick (eqb (byte m p) 0x43) (String (two m (p + 3))) (Boolean (eqb (byte m (p + 3)) 1)))
+    pick (eqb (byte m p) 0x42) (Integer (signed64 (number (bytesAt m (p + headerSize) 8) 0)))
+    (pick (eqb (byte m p) 0x43) (String (two m (p + headerSize))) (Boolean (eqb (byte m (p + headerSize)) 1)))
 
 unfoldable pub contentAt : List ℕ → ℕ → Labelled
-contentAt m p = record { value = valueAt m (p + 37); labels = labelsAt m (p + 5) }
+contentAt m p = record { value = valueAt m (p + attributeValue); labels = setAt m (p + attributeLabels) }
 
 -- what the first attribute of this name holds, in the first entry of this type and title
 unfoldable pub contentOf : Option Attribute → Option Labelled

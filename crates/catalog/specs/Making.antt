@@ -10,6 +10,7 @@ use Rattle.wire.specs.Bytes.{pick}
 use Rattle.wire.specs.Runs.{over, zeros}
 use Rattle.rules.specs.State.{Attribute, Entry}
 use Rattle.rules.specs.Catalog.{attributeBytes, attributesBytes, entryBytes}
+use Rattle.catalog.specs.Layout.{entryAttributes}
 use Rattle.catalog.specs.declared.Finished.{Finished}
 use Rattle.catalog.specs.declared.Finished.the-variants.{Fits, TooLong}
 
@@ -28,10 +29,10 @@ unfoldable pub addAttribute : (rest : List ℕ) → (size : ℕ) → Attribute �
 addAttribute rest size a =
     stored (size + length (attributeBytes a)) (pick (ltb (length rest) (size + length (attributeBytes a))) rest (over rest size (attributeBytes a)))
 
--- an entry with the attributes ats so far takes `size` bytes, 39 of them kept for its header; if they fit the rest, the attributes stand there
+-- an entry with the attributes ats so far takes `size` bytes, of which the first are kept for what stands before them; if they fit the rest, the attributes stand there
 pub record Holding (rest : List ℕ) (size : ℕ) (ats : List Attribute) : Type 0 where
-  pub grown : size ≡ 39 + length (attributesBytes ats)
-  pub bytes : size ≤ length rest → take (size - 39) (drop 39 rest) ≡ attributesBytes ats
+  pub grown : size ≡ entryAttributes + length (attributesBytes ats)
+  pub bytes : size ≤ length rest → take (size - entryAttributes) (drop entryAttributes rest) ≡ attributesBytes ats
 
 -- an entry at the start of the rest, if the rest and the room are long enough for it; else the rest is as it was
 unfoldable pub putEntry : (rest : List ℕ) → (room : ℕ) → Entry → Stored Finished

@@ -6,18 +6,29 @@ ghost use mathlib.Core.List.{List};
 ghost use Prim.Native.Nat.{_+_, _≤_};
 ghost use lib.Dec.{eqb};
 ghost use lib.ListN.{length};
-ghost use Rattle.labels.specs.Bytes.{labelBytes};
 ghost use Rattle.wire.specs.Bytes.{two};
 ghost use Rattle.wire.specs.Runs.{over};
 ghost use Rattle.rules.specs.State.{Attribute, Entry};
 ghost use Rattle.rules.specs.Evaluate.{any, isEntry, isAttribute};
-ghost use Rattle.rules.proofs.ReadBack.{FitsAttribute};
+ghost use Rattle.rules.specs.Ranges.{FitsAttribute};
 ghost use Rattle.rules.specs.Catalog.{booleanByte, valueBytes, attributeBytes, attributesBytes};
+ghost use Rattle.catalog.specs.Layout.{entryType, entryTitle, entryAttributes, attributeName};
 ghost use Rattle.catalog.specs.Making.{stored, attribute, entry, addAttribute, Holding, putEntry, clearedFrom};
-ghost use Rattle.catalog.specs.Finding.{Written, EntryAt, Listed, placeWith, entryPlace, attributePlace, Below, labelsAt, valueAt, contentAt, lookUp, foundIn};
+ghost use Rattle.catalog.specs.Finding.{Written, EntryAt, Listed, placeWith, entryPlace, attributePlace, Below, valueAt, contentAt, lookUp, foundIn};
+use crate::layout::ATTRIBUTE_LABELS;
+use crate::layout::ATTRIBUTE_NAME;
+use crate::layout::ATTRIBUTE_VALUE;
+use crate::layout::BEFORE_VALUE;
+use crate::layout::ENTRY_ATTRIBUTES;
+use crate::layout::ENTRY_LABELS;
+use crate::layout::ENTRY_TITLE;
+use crate::layout::ENTRY_TYPE;
+use crate::layout::HEADER;
 use labels::Labels;
 use values::Labelled;
 use values::Value;
+
+pub mod layout; // layout.rt: where the parts of an entry and of an attribute stand
 
 // What finishing an entry answers: its length, or that it does not fit.
 pub enum Finished {
@@ -36,9 +47,6 @@ pub enum Found {
     Content(Labelled),
     Nothing,
 }
-
-// The bytes of an entry before its attributes: with so many it starts.
-pub const ENTRY_HEADER: usize = 39;
 
 // ---- Writing
 
@@ -65,24 +73,17 @@ fn put_value(rest: &mut [u8], at: usize, v: Value)
     match v {
         Value::Integer(z) => {
             wire::put_header(rest, at, 0x42, 8);
-            wire::put_signed(rest, at + 3, z);
+            wire::put_signed(rest, at + HEADER, z);
         }
         Value::String(n) => {
             wire::put_header(rest, at, 0x43, 2);
-            wire::put_two(rest, at + 3, n);
+            wire::put_two(rest, at + HEADER, n);
         }
         Value::Boolean(b) => {
             wire::put_header(rest, at, 0x44, 1);
-            wire::put_byte(rest, at + 3, boolean_byte(b));
+            wire::put_byte(rest, at + HEADER, boolean_byte(b));
         }
     }
-}
-
-fn put_labels(rest: &mut [u8], at: usize, labels: Labels)
-    requires { ⌜ at + 32 ≤ length (now rest) ⌝ }
-    ensures { λ _. ⌜ now (rest .exit) ≡ over (now (rest .entry)) at (labelBytes labels) ⌝ }
-{
-    labels.to_slice(&mut rest[at..]);
 }
 
 // One more attribute after the `size` bytes of an entry in the making. If it does not fit, nothing is stored; the new size is told all the same.
@@ -91,16 +92,16 @@ pub fn add_attribute(rest: &mut [u8], size: usize, name: u16, x: Labelled) -> us
     ensures { λ r. ⌜ stored r (now (rest .exit)) ≡ addAttribute (now (rest .entry)) size (attribute name x) ⌝ }
 {
     let value = x.value;
-    let body = 34 + value_size(value);
-    let end = size + 3 + body as usize;
+    let body = BEFORE_VALUE + value_size(value);
+    let end = size + HEADER + body as usize;
     if rest.len() < end {
         return end;
     }
     wire::put_header(rest, size, 0x41, body);
-    wire::put_two(rest, size + 3, name);
+    wire::put_two(rest, size + ATTRIBUTE_NAME, name);
     let labels = x.labels;
-    put_labels(rest, size + 5, labels);
-    put_value(rest, size + 37, value);
+    labels.write_at(rest, size + ATTRIBUTE_LABELS);
+    put_value(rest, size + ATTRIBUTE_VALUE, value);
     end
 }
 
@@ -113,7 +114,7 @@ pub fn finish_entry(
     title: u16,
     labels: Labels,
 ) -> Finished
-    requires { ⌜ (39 ≤ size) × (room ≤ 65535) ⌝ }
+    requires { ⌜ (entryAttributes ≤ size) × (room ≤ 65535) ⌝ }
     ensures { λ r. ⌜ ((ats : List Attribute) → Holding (now (rest .entry)) size ats → stored r (now (rest .exit)) ≡ putEntry (now (rest .entry)) room (entry kind title labels ats)) ⌝ }
 {
     if rest.len() < size {
@@ -122,10 +123,10 @@ pub fn finish_entry(
     if room < size {
         return Finished::TooLong;
     }
-    wire::put_header(rest, 0, 0x40, (size - 3) as u16);
-    wire::put_two(rest, 3, kind);
-    wire::put_two(rest, 5, title);
-    put_labels(rest, 7, labels);
+    wire::put_header(rest, 0, 0x40, (size - HEADER) as u16);
+    wire::put_two(rest, ENTRY_TYPE, kind);
+    wire::put_two(rest, ENTRY_TITLE, title);
+    labels.write_at(rest, ENTRY_LABELS);
     Finished::Fits(size)
 }
 
@@ -141,12 +142,12 @@ pub fn clear_rest(out: &mut [u8], from: usize)
 
 fn is_entry(out: &[u8], at: usize, kind: u16, title: u16) -> bool
     requires { ⌜ at ≤ 65535 ⌝ }
-    ensures { λ r. ⌜ r ≡ (eqb (two (now (out .entry)) (at + 3)) kind && eqb (two (now (out .entry)) (at + 5)) title) ⌝ }
+    ensures { λ r. ⌜ r ≡ (eqb (two (now (out .entry)) (at + entryType)) kind && eqb (two (now (out .entry)) (at + entryTitle)) title) ⌝ }
 {
-    if wire::two_at(out, at + 3) != kind {
+    if wire::two_at(out, at + ENTRY_TYPE) != kind {
         return false;
     }
-    wire::two_at(out, at + 5) == title
+    wire::two_at(out, at + ENTRY_TITLE) == title
 }
 
 // The place of the first entry of this type and title. Whatever entries the bytes up to `fill` are, the answer is right for those.
@@ -166,9 +167,9 @@ pub fn find_entry(out: &[u8], fill: usize, kind: u16, title: u16) -> Place
 
 fn is_attribute(out: &[u8], at: usize, name: u16) -> bool
     requires { ⌜ at ≤ 4294967296 ⌝ }
-    ensures { λ r. ⌜ r ≡ eqb (two (now (out .entry)) (at + 3)) name ⌝ }
+    ensures { λ r. ⌜ r ≡ eqb (two (now (out .entry)) (at + attributeName)) name ⌝ }
 {
-    wire::two_at(out, at + 3) == name
+    wire::two_at(out, at + ATTRIBUTE_NAME) == name
 }
 
 // The place of the first attribute of this name among those between two places.
@@ -192,17 +193,12 @@ pub fn find_attribute(out: &[u8], at: usize, name: u16) -> Place
     ensures { λ r. ⌜ ((e : Entry) → EntryAt (now (out .entry)) at e → r ≡ attributePlace name e at) × Below (at + 65539) r ⌝ }
 {
     let body = wire::length_at(out, at);
-    attribute_between(out, at + ENTRY_HEADER, at + 3 + body as usize, name)
-}
-
-pub fn labels_at(out: &[u8], at: usize) -> Labels
-    requires { ⌜ at ≤ 4294967400 ⌝ }
-    ensures { λ r. ⌜ r ≡ labelsAt (now (out .entry)) at ⌝ }
-{
-    if out.len() < at + 32 {
-        return Labels::EMPTY;
-    }
-    Labels::from_slice(&out[at..])
+    attribute_between(
+        out,
+        at + ENTRY_ATTRIBUTES,
+        at + HEADER + body as usize,
+        name,
+    )
 }
 
 fn value_at(out: &[u8], at: usize) -> Value
@@ -210,9 +206,9 @@ fn value_at(out: &[u8], at: usize) -> Value
     ensures { λ r. ⌜ r ≡ valueAt (now (out .entry)) at ⌝ }
 {
     match wire::byte_at(out, at) {
-        0x42 => Value::Integer(wire::signed_at(out, at + 3)),
-        0x43 => Value::String(wire::two_at(out, at + 3)),
-        _ => Value::Boolean(wire::byte_at(out, at + 3) == 1),
+        0x42 => Value::Integer(wire::signed_at(out, at + HEADER)),
+        0x43 => Value::String(wire::two_at(out, at + HEADER)),
+        _ => Value::Boolean(wire::byte_at(out, at + HEADER) == 1),
     }
 }
 
@@ -221,8 +217,8 @@ pub fn read_attribute(out: &[u8], at: usize) -> Labelled
     requires { ⌜ at ≤ 4294967296 ⌝ }
     ensures { λ r. ⌜ r ≡ contentAt (now (out .entry)) at ⌝ }
 {
-    let value = value_at(out, at + 37);
-    let labels = labels_at(out, at + 5);
+    let value = value_at(out, at + ATTRIBUTE_VALUE);
+    let labels = Labels::read_at(out, at + ATTRIBUTE_LABELS);
     Labelled { value, labels }
 }
 

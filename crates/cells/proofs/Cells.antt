@@ -28,7 +28,7 @@ split-key false v z e = let k : _≡_ {A = ℕ} 0 1 = cc in absurd (omega arith)
 
 pub hit-key : (s n s′ n′ : ℕ) (x : Slot) → hit s n x ≡ true → hit s′ n′ x ≡ true → (s′ ≡ s) × (n′ ≡ n)
 unfolding hit
-hit-key s n s′ n′ (slot r t a b p l m) e e′ =
+hit-key s n s′ n′ (slot r t a b y m) e e′ =
     let c = split-key (eqb a s) (eqb b n) (pick r (usedState t) false) e in
     let d = split-key (eqb a s′) (eqb b n′) (pick r (usedState t) false) e′ in
     (sym (eqb-true a s′ (d .0)) ∙ eqb-true a s (c .0), sym (eqb-true b n′ (d .1 .0)) ∙ eqb-true b n (c .1 .0))
@@ -39,15 +39,15 @@ both false v e = let k : _≡_ {A = ℕ} 0 1 = cc in absurd (omega arith)
 
 pub hit-used : (s n : ℕ) (x : Slot) → hit s n x ≡ true → inUse x ≡ true
 unfolding hit inUse
-hit-used s n (slot r t a b p l m) e = both r (usedState t) (split-key (eqb a s) (eqb b n) (pick r (usedState t) false) e .1 .1) .1
+hit-used s n (slot r t a b y m) e = both r (usedState t) (split-key (eqb a s) (eqb b n) (pick r (usedState t) false) e .1 .1) .1
 
 pub hit-reached : (s n : ℕ) (x : Slot) → hit s n x ≡ true → isReached x ≡ true
 unfolding hit isReached
-hit-reached s n (slot r t a b p l m) e = both r (usedState t) (split-key (eqb a s) (eqb b n) (pick r (usedState t) false) e .1 .1) .0
+hit-reached s n (slot r t a b y m) e = both r (usedState t) (split-key (eqb a s) (eqb b n) (pick r (usedState t) false) e .1 .1) .0
 
 pub free-miss : (s n : ℕ) (x : Slot) → inUse x ≡ false → hit s n x ≡ false
 unfolding hit inUse
-free-miss s n (slot r t a b p l m) e = go (eqb a s) (eqb b n) r
+free-miss s n (slot r t a b y m) e = go (eqb a s) (eqb b n) r
   where
     go : (u v r : Bool) → pick u (pick v (pick r (usedState t) false) false) false ≡ false
     go true true true = e
@@ -58,7 +58,7 @@ free-miss s n (slot r t a b p l m) e = go (eqb a s) (eqb b n) r
 -- a slot that is in use was used
 pub used-once : (x : Slot) → inUse x ≡ true → neverUsed x ≡ false
 unfolding inUse neverUsed usedState
-used-once (slot r t s n p a m) u = go (eqb t 0) u
+used-once (slot r t s n c m) u = go (eqb t 0) u
   where
     go : (z : Bool) → pick z false (not (eqb t 5)) ≡ true → z ≡ false
     go true e = sym e
@@ -73,7 +73,7 @@ not-hit s n s′ n′ x e ne = to-false (hit s′ n′ x) (λ p. (let k = hit-ke
 
 pub claimed-hit : (s n : ℕ) (x : Slot) → hit s n (claimed s n x) ≡ true
 unfolding hit claimed usedState
-claimed-hit s n (slot r t a b p l m) = simp (eq-eqb s s refl, eq-eqb n n refl)
+claimed-hit s n (slot r t a b y m) = simp (eq-eqb s s refl, eq-eqb n n refl)
 
 -- a store that leaves the key
 abbrev pub Keeps : Slot → Slot → Type 0
@@ -156,11 +156,11 @@ module _ (f : ℕ → Slot) (s n i : ℕ) (found : slotFor f s n ≡ At i) where
 
 claimed-value : (s n : ℕ) (x : Slot) → valueIn (claimed s n x) ≡ none
 unfolding valueIn claimed
-claimed-value s n (slot r t a b p l m) = refl
+claimed-value s n (slot r t a b y m) = refl
 
 claimed-mark : (s n : ℕ) (x : Slot) → markIn (claimed s n x) ≡ noLabels
 unfolding markIn claimed
-claimed-mark s n (slot r t a b p l m) = refl
+claimed-mark s n (slot r t a b y m) = refl
 
 pub not-false : (b : Bool) → not b ≡ false → b ≡ true
 not-false true x = refl

@@ -3,6 +3,7 @@
 use mathlib.Core.Path.{_≡_, refl, sym, ap, _∙_}
 use mathlib.Core.Bool.{Bool, true, false, false≢true}
 use mathlib.Core.List.{List}
+use mathlib.Core.Option.{none}
 use Prim.Native.Nat.{ℕ, suc, _+_, _≤_, _<_}
 use native.Mathlib.Omega.{arith}
 use lib.Dec.{ltb, lit<}
@@ -13,13 +14,14 @@ use Rattle.labels.specs.Bytes.{labelBytes}
 use Rattle.labels.proofs.Laws.{words-none}
 use Rattle.wire.specs.Numbers.{highBytes}
 use Rattle.wire.specs.Runs.{over}
+use Rattle.records.specs.Record.{kindAt}
 use Rattle.cells.specs.Chains.{counted, Way, step}
-use Rattle.cells.specs.Layout.{keyAt, bodyAt, nameIn, placeAt, linkIn, nextIn, chained, LastAbove, Slot, slot, blankSlot, slotAt, slotsOf}
+use Rattle.cells.specs.Layout.{keyAt, bodyAt, nameIn, placeAt, linkIn, nextIn, chained, LastAbove, Slot, slot, blankSlot, slotAt, slotsOf, bodyMark, keyName}
 use Rattle.cells.specs.Slots.{StoresAt, isReached, takenOut, putIn, claimed}
 use Rattle.cells.proofs.Tables.{put-same, put-self, table-put}
 use Rattle.cells.proofs.Chains.{is-or-not, order, out-back, out-kept, out-gone, in-kept, in-back, in-own, counted-some, counted-other, counted-sound, counted-same}
 use Rattle.cells.proofs.Links.{next-falls, next-is, chain-on, no-chain, chain-gap, chain-small, chain-named, same-chained, same-chain, next-kept, no-head, Relinked, relinked, names-kept}
-use Rattle.cells.proofs.Slots.{slot-in, slotFrom, fieldsAt, slot-fields, low-fields, same-slot, nameOf, Step, _then_, withState, withScope, withName, withMark, state-step, scope-step, name-step, mark-step, step-beside, step-links, step-fields, step-names, step-name, changed, stores-then}
+use Rattle.cells.proofs.Slots.{slot-in, slotFrom, fieldsAt, slot-fields, low-fields, same-slot, nameOf, Step, _then_, withState, withScope, withName, withContent, withMark, state-step, scope-step, name-step, empty-step, mark-step, step-beside, step-links, step-fields, step-names, step-name, changed, stores-then}
 
 -- whether a slot is reached
 reached-is : (w : List ℕ) (j : ℕ) → j < 512 → isReached (slotsOf w j) ≡ chained w (nameIn w j) j
@@ -30,7 +32,7 @@ reached-is w j below = rw (slot-in w j below) refl
 
 out-same : (x : Slot) → isReached x ≡ false → takenOut x ≡ x
 unfolding isReached takenOut
-out-same (slot r t s n p a m) e = rw e refl
+out-same (slot r t s n c m) e = rw e refl
 
 -- it is in no chain
 pub out-absent : (w : List ℕ) (j m p : ℕ) → j < 512 → m ≡ nameIn w j → LastAbove w m j p → {r : ℕ} → r ≡ nextIn w m p → (r ≡ j + 1 → ⊥) → StoresAt j takenOut w w
@@ -135,7 +137,7 @@ module _ (w : List ℕ) (j n p : ℕ) (below : j < 512) (room : 65536 ≤ length
 
     named-so : (x : Slot) → nameOf (withName n x) ≡ n
     unfolding nameOf withName
-    named-so (slot r t s n′ p a m) = refl
+    named-so (slot r t s n′ c m) = refl
 
     in-name : nameIn w3 j ≡ n
     in-name = names-kept w2 n p (suc j) in-small room2 (omega arith) c j below ∙ step-name j w1 w2 (withName n) below b ∙ named-so (fieldsAt w1 j false)
@@ -165,7 +167,7 @@ module _ (w : List ℕ) (j n p : ℕ) (below : j < 512) (room : 65536 ≤ length
 
     -- a reference to j that did not count: p alone is the last above j
     clash : (k : ℕ) → Way (nextIn w n) k → (k ≡ p → ⊥) → j < k → nextIn w n k ≡ 0 → ⊥
-    clash k way ne l none = go (ltb k p) refl
+    clash k way ne l ends = go (ltb k p) refl
       where
         go : (t : Bool) → ltb k p ≡ t → ⊥
         go true e = omega (arith, order (nextIn w n) (next-falls w n) k p way (at .way) (ltb-true k p e), at .last)
@@ -227,7 +229,7 @@ module _ (w : List ℕ) (j n p : ℕ) (below : j < 512) (room : 65536 ≤ length
             ∙ in-fields (chained w (nameIn w j) j) ∙ ap (putIn n) (sym (slot-fields w j) ∙ sym (slot-in w j below))
 
 pub in-way : (w : List ℕ) (j n p : ℕ) (w3 : List ℕ) {v u : ℕ} {w1 w2 : List ℕ} → j < 512 → 65536 ≤ length w → n < 1024 → isReached (slotsOf w j) ≡ false → LastAbove w n j p → v ≡ nextIn w n p
-    → w1 ≡ over w (placeAt n j) (highBytes 2 v) → w2 ≡ over w1 (keyAt j + 2) (highBytes 2 n) → u ≡ j + 1 → w3 ≡ over w2 (placeAt n p) (highBytes 2 u) → StoresAt j (putIn n) w w3
+    → w1 ≡ over w (placeAt n j) (highBytes 2 v) → w2 ≡ over w1 (keyAt j + keyName) (highBytes 2 n) → u ≡ j + 1 → w3 ≡ over w2 (placeAt n p) (highBytes 2 u) → StoresAt j (putIn n) w w3
 in-way w j n p w3 {v} {u} {w1} {w2} below room named absent at ev e1 e2 eu e3 =
     let next : ℕ = nextIn w n p in
     let first : w1 ≡ over w (placeAt n j) (highBytes 2 next) = rw ev at e1 in
@@ -241,34 +243,35 @@ in-way w j n p w3 {v} {u} {w1} {w2} below room named absent at ev e1 e2 eu e3 =
 
 -- what is filled in between
 abbrev entered : ℕ → Slot → Slot
-entered s x = withMark noLabels (withScope s (withState 1 x))
+entered s x = withMark noLabels (withContent none (withScope s (withState 1 x)))
 
 entered-name : (s : ℕ) (x : Slot) → nameOf (entered s x) ≡ nameOf x
-unfolding nameOf withState withScope withMark
-entered-name s (slot r t s′ n p a m) = refl
+unfolding nameOf withState withScope withContent withMark
+entered-name s (slot r t s′ n c m) = refl
 
 entered-out : (s : ℕ) (x : Slot) → isReached (entered s (takenOut x)) ≡ false
-unfolding isReached takenOut withState withScope withMark
-entered-out s (slot r t s′ n p a m) = refl
+unfolding isReached takenOut withState withScope withContent withMark
+entered-out s (slot r t s′ n c m) = refl
 
 claimed-by : (s n : ℕ) (x : Slot) → putIn n (entered s (takenOut x)) ≡ claimed s n x
-unfolding putIn takenOut withState withScope withMark claimed
-claimed-by s n (slot r t s′ n′ p a m) = refl
+unfolding putIn takenOut withState withScope withContent withMark claimed
+claimed-by s n (slot r t s′ n′ c m) = refl
 
-module _ (w : List ℕ) (j s : ℕ) (w0 : List ℕ) {w1 w2 : List ℕ} (w3 : List ℕ) (below : j < 512) (room : 65536 ≤ length w0) (fits : s < 65536) (out : StoresAt j takenOut w w0) (e1 : w1 ≡ over w0 j (highBytes 1 1)) (e2 : w2 ≡ over w1 (keyAt j) (highBytes 2 s)) (e3 : w3 ≡ over w2 (bodyAt j + 40) (labelBytes noLabels)) where
-  entered-way : StoresAt j (entered s) w0 w3
+module _ (w : List ℕ) (j s : ℕ) (w0 : List ℕ) {w1 w2 w3 : List ℕ} (w4 : List ℕ) (below : j < 512) (room : 65536 ≤ length w0) (fits : s < 65536) (out : StoresAt j takenOut w w0) (e1 : w1 ≡ over w0 j (highBytes 1 1)) (e2 : w2 ≡ over w1 (keyAt j) (highBytes 2 s)) (e3 : w3 ≡ over w2 (kindAt (bodyAt j)) (highBytes 1 0)) (e4 : w4 ≡ over w3 (bodyAt j + bodyMark) (labelBytes noLabels)) where
+  entered-way : StoresAt j (entered s) w0 w4
   entered-way =
       let a : Step j w0 w1 (withState 1) = state-step w0 j below room 1 (lit< tt) e1 in
       let b : Step j w0 w2 (λ x. withScope s (withState 1 x)) = a then scope-step w1 j below (omega (arith, a .size)) s fits e2 in
-      let c : Step j w0 w3 (entered s) = b then mark-step w2 j below (omega (arith, b .size)) noLabels words-none e3 in
-      changed j w0 w3 (entered s) (entered s) below c (entered-name s) (λ x. refl)
+      let c : Step j w0 w3 (λ x. withContent none (withScope s (withState 1 x))) = b then empty-step w2 j below (omega (arith, b .size)) e3 in
+      let d : Step j w0 w4 (entered s) = c then mark-step w3 j below (omega (arith, c .size)) noLabels words-none e4 in
+      changed j w0 w4 (entered s) (entered s) below d (entered-name s) (λ x. refl)
 
-  both-way : StoresAt j (λ x. entered s (takenOut x)) w w3
-  both-way = stores-then j w w0 w3 takenOut (entered s) (λ x. entered s (takenOut x)) out entered-way (λ x. refl)
+  both-way : StoresAt j (λ x. entered s (takenOut x)) w w4
+  both-way = stores-then j w w0 w4 takenOut (entered s) (λ x. entered s (takenOut x)) out entered-way (λ x. refl)
 
   -- it is in no chain yet
-  pub claim-out : isReached (slotsOf w3 j) ≡ false
+  pub claim-out : isReached (slotsOf w4 j) ≡ false
   claim-out = ap (λ (f : ℕ → Slot). isReached (f j)) (both-way .0) ∙ ap isReached (put-same j (entered s (takenOut (slotsOf w j))) (slotsOf w)) ∙ entered-out s (slotsOf w j)
 
-  pub claim-way : (n : ℕ) (w4 : List ℕ) → StoresAt j (putIn n) w3 w4 → StoresAt j (claimed s n) w w4
-  claim-way n w4 put = stores-then j w w3 w4 (λ x. entered s (takenOut x)) (putIn n) (claimed s n) both-way put (claimed-by s n)
+  pub claim-way : (n : ℕ) (w5 : List ℕ) → StoresAt j (putIn n) w4 w5 → StoresAt j (claimed s n) w w5
+  claim-way n w5 put = stores-then j w w4 w5 (λ x. entered s (takenOut x)) (putIn n) (claimed s n) both-way put (claimed-by s n)

@@ -1,6 +1,6 @@
 -- Freeing a scope: the loop, the cells, and the count, for which the invariant is needed.
 use mathlib.Core.Path.{_≡_, refl, sym, ap, _∙_, fun-ext}
-use mathlib.Core.Bool.{Bool, true, false, not, _&&_, _||_, false≢true}
+use mathlib.Core.Bool.{Bool, true, false, _&&_, _||_, false≢true}
 use mathlib.Core.List.{List}
 use Prim.Native.Nat.{ℕ, zero, suc, _+_, _-_, _≤_, _<_}
 use native.Mathlib.Omega.{arith}
@@ -65,23 +65,23 @@ freedSlots s f = λ j. freedSlot s (f j)
 
 hit-scoped : (s n : ℕ) (x : Slot) → hit s n x ≡ true → ofScope s x ≡ true
 unfolding hit ofScope
-hit-scoped s n (slot r t a b p l m) e = let c = split-key (eqb a s) (eqb b n) (pick r (usedState t) false) e in rw (c .0, both r (usedState t) (c .1 .1) .1) refl
+hit-scoped s n (slot r t a b y m) e = let c = split-key (eqb a s) (eqb b n) (pick r (usedState t) false) e in rw (c .0, both r (usedState t) (c .1 .1) .1) refl
 
 scope-one : (s s′ n : ℕ) (x : Slot) → ofScope s x ≡ true → hit s′ n x ≡ true → s′ ≡ s
 unfolding hit ofScope
-scope-one s s′ n (slot r t a b p l m) o e = sym (eqb-true a s′ (split-key (eqb a s′) (eqb b n) (pick r (usedState t) false) e .0)) ∙ eqb-true a s (both (eqb a s) (usedState t) o .0)
+scope-one s s′ n (slot r t a b y m) o e = sym (eqb-true a s′ (split-key (eqb a s′) (eqb b n) (pick r (usedState t) false) e .0)) ∙ eqb-true a s (both (eqb a s) (usedState t) o .0)
 
 scoped-used : (s : ℕ) (x : Slot) → ofScope s x ≡ true → inUse x ≡ true
 unfolding ofScope inUse
-scoped-used s (slot r t a b p l m) e = both (eqb a s) (usedState t) e .1
+scoped-used s (slot r t a b y m) e = both (eqb a s) (usedState t) e .1
 
 emptied-free : (x : Slot) → inUse (emptied x) ≡ false
 unfolding emptied inUse usedState
-emptied-free (slot r t s n p a m) = refl
+emptied-free (slot r t s n c m) = refl
 
 emptied-once : (x : Slot) → neverUsed (emptied x) ≡ false
 unfolding emptied neverUsed
-emptied-once (slot r t s n p a m) = refl
+emptied-once (slot r t s n c m) = refl
 
 -- a freed slot is emptied, or is not of the scope and stays
 freed-cases : (P : Slot → Type 0) (s : ℕ) (x : Slot) → (ofScope s x ≡ true → P (emptied x)) → (ofScope s x ≡ false → P x) → P (freedSlot s x)
@@ -183,7 +183,7 @@ any-more k h e = rw e refl
 
 scope-hit : (s : ℕ) (x : Slot) → isReached x ≡ true → ofScope s x ≡ true → hit s (nameOf x) x ≡ true
 unfolding ofScope hit nameOf isReached
-scope-hit s (slot r t a b p l m) there e = rw (there, eq-eqb b b refl) e
+scope-hit s (slot r t a b y m) there e = rw (there, eq-eqb b b refl) e
 
 module _ (s : ℕ) (f : ℕ → Slot) (fine : FineSlots f) where
   -- whether one of the k lowest slots is of s and n

@@ -1,8 +1,5 @@
 pub mod Chains
-pub mod Runs
 pub mod Tables
-pub mod Values
-pub mod Ranges
 pub mod Search
 pub mod Regions
 pub mod Links

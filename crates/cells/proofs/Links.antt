@@ -12,7 +12,7 @@ use Rattle.wire.specs.Numbers.{highBytes}
 use Rattle.wire.specs.Runs.{over}
 use Rattle.wire.proofs.Laws.{over-length, byte-outside, high-length, stored-two}
 use Rattle.cells.specs.Chains.{Way, begin, step}
-use Rattle.cells.specs.Layout.{keyAt, recordAt, linkAt, nameIn, placeAt, linkIn, nextIn, chained, besideSlots}
+use Rattle.cells.specs.Layout.{keyAt, recordAt, linkAt, nameIn, placeAt, linkIn, nextIn, chained, besideSlots, trailAt, keyName}
 use Rattle.cells.proofs.Chains.{same-test, on-way, way-small, way-on, gap, same-way, same-back, counted-is, counted-falls, counted-same}
 use Rattle.cells.proofs.Regions.{same-two, beside-same}
 
@@ -115,7 +115,7 @@ pub record Relinked (w w′ : List ℕ) (n p v : ℕ) : Type 0 where
   pub own : linkIn w′ n p ≡ v
   pub links : (q k : ℕ) → k ≤ 512 → (k ≡ p → ⊥) → linkIn w′ q k ≡ linkIn w q k
   pub heads : (q : ℕ) → (q ≡ n → ⊥) → 512 ≤ p → linkIn w′ q p ≡ linkIn w q p
-  pub low : (k : ℕ) → k < 39424 → byte w′ k ≡ byte w k
+  pub low : (k : ℕ) → k < trailAt → byte w′ k ≡ byte w k
   pub beside : besideSlots w′ ≡ besideSlots w
   pub size : length w′ ≡ length w
 
@@ -182,4 +182,4 @@ module _ (w : List ℕ) (n p v : ℕ) (small : p ≤ 512) (room : 65536 ≤ leng
 
   -- the names of slots stay
   pub names-kept : {w′ : List ℕ} → Relinked w w′ n p v → (i : ℕ) → i < 512 → nameIn w′ i ≡ nameIn w i
-  names-kept {w′} r i l = same-two w w′ (keyAt i + 2) (λ j h. r .low (keyAt i + 2 + j) (omega arith))
+  names-kept {w′} r i l = same-two w w′ (keyAt i + keyName) (λ j h. r .low (keyAt i + keyName + j) (omega arith))

@@ -7,11 +7,12 @@ use Prim.Native.Nat.{ℕ, _+_, _≤_, _<_}
 use native.Mathlib.Omega.{arith}
 use lib.ListN.{length, drop, length-drop}
 use lib.Seq.{getD-drop, ext-getD}
-use Rattle.labels.specs.Bytes.{labelsFrom}
+use Rattle.labels.specs.Bytes.{setAt}
+use Rattle.labels.proofs.Places.{set-same}
 use Rattle.wire.specs.Bytes.{byte, two}
 use Rattle.wire.proofs.Laws.{same-run, two-same}
 use Rattle.rules.specs.State.{DeclaredClass}
-use Rattle.cells.specs.Layout.{trailAt, recordAt, restAt, setAt, slotsOf, trailOf, NameRecord, nameAt, blankRecord, recordsOf, restOf, Beside, besideSlots}
+use Rattle.cells.specs.Layout.{trailAt, recordAt, wordsAt, slotsOf, trailOf, NameRecord, nameAt, blankRecord, recordsOf, restOf, Beside, besideSlots}
 use Rattle.cells.specs.Memory.{classIn, definitionIn, builtInIn, Names, cellsOf, usedOf, classesOf, definitionOf, builtInOf, namesOf}
 use Rattle.cells.proofs.Tables.{table-same}
 
@@ -22,8 +23,7 @@ names d b = record { definitions = d; builtIns = b }
 
 module _ (w w′ : List ℕ) where
   pub same-set-at : (p : ℕ) → ((j : ℕ) → j < 32 → byte w′ (p + j) ≡ byte w (p + j)) → setAt w′ p ≡ setAt w p
-  unfolding setAt
-  same-set-at p same = ap labelsFrom (same-run w′ w p p 32 same)
+  same-set-at p same = set-same w′ w p p (same-run w′ w p p 32 same)
 
   pub same-two : (p : ℕ) → ((j : ℕ) → j < 2 → byte w′ (p + j) ≡ byte w (p + j)) → two w′ p ≡ two w p
   same-two p same = two-same w′ w p p (same-run w′ w p p 2 same)
@@ -40,7 +40,7 @@ module _ (w w′ : List ℕ) where
         same-two (recordAt k + 6) (λ j h. at 6 j (omega arith) (omega arith)),
       )
 
-  pub trail-same : ((k : ℕ) → 39424 ≤ k → k < 39456 → byte w′ k ≡ byte w k) → trailOf w′ ≡ trailOf w
+  pub trail-same : ((k : ℕ) → trailAt ≤ k → k < recordAt 0 → byte w′ k ≡ byte w k) → trailOf w′ ≡ trailOf w
   unfolding trailOf
   trail-same same = same-set-at trailAt (λ j h. same (trailAt + j) (omega arith) (omega arith))
 
@@ -48,14 +48,14 @@ module _ (w w′ : List ℕ) where
   unfolding recordsOf
   records-same same = table-same 1024 (nameAt w) (nameAt w′) blankRecord (λ k h. same-name k (λ j l u. same k j h l u))
 
-  pub rest-same : length w′ ≡ length w → ((k : ℕ) → 48672 ≤ k → byte w′ k ≡ byte w k) → restOf w′ ≡ restOf w
+  pub rest-same : length w′ ≡ length w → ((k : ℕ) → wordsAt ≤ k → byte w′ k ≡ byte w k) → restOf w′ ≡ restOf w
   unfolding restOf
   rest-same size same =
-      ext-getD 0 (drop restAt w′) (drop restAt w) (simp length-drop (rw size)) (λ i l. getD-drop restAt w′ i 0 ∙ same (restAt + i) (omega arith) ∙ sym (getD-drop restAt w i 0))
+      ext-getD 0 (drop wordsAt w′) (drop wordsAt w) (simp length-drop (rw size)) (λ i l. getD-drop wordsAt w′ i 0 ∙ same (wordsAt + i) (omega arith) ∙ sym (getD-drop wordsAt w i 0))
 
   -- all three of them
-  pub beside-same : length w′ ≡ length w → ((k : ℕ) → 39424 ≤ k → k < 39456 → byte w′ k ≡ byte w k)
-      → ((k j : ℕ) → k < 1024 → 2 ≤ j → j < 8 → byte w′ (recordAt k + j) ≡ byte w (recordAt k + j)) → ((k : ℕ) → 48672 ≤ k → byte w′ k ≡ byte w k) → besideSlots w′ ≡ besideSlots w
+  pub beside-same : length w′ ≡ length w → ((k : ℕ) → trailAt ≤ k → k < recordAt 0 → byte w′ k ≡ byte w k)
+      → ((k j : ℕ) → k < 1024 → 2 ≤ j → j < 8 → byte w′ (recordAt k + j) ≡ byte w (recordAt k + j)) → ((k : ℕ) → wordsAt ≤ k → byte w′ k ≡ byte w k) → besideSlots w′ ≡ besideSlots w
   unfolding besideSlots
   beside-same size trail records rest = rw (trail-same trail, records-same records, rest-same size rest) refl
 

@@ -2,23 +2,21 @@
 use mathlib.Core.Path.{_≡_, refl, sym, ap, _∙_}
 use mathlib.Core.Bool.{Bool, true, false, not, false≢true}
 use mathlib.Core.List.{List}
+use mathlib.Core.Option.{Option, none, some}
 use Prim.Native.Nat.{ℕ, suc, _+_, _*_, _-_, _%_, _≤_, _<_}
 use native.Mathlib.Omega.{arith}
 use lib.Dec.{eqb}
-use lib.IntN.{ℤ}
-use borrow.Author.Tests.{eqb-true, eq-eqb, ne-eqb, lt-ltb, le-ltb}
-use Rattle.labels.specs.declared.Labels.{Labels}
-use Rattle.values.specs.declared.Value.{Value}
-use Rattle.values.specs.declared.Value.the-variants.{Integer, String, Boolean}
+use borrow.Author.Tests.{eqb-true, eq-eqb, ne-eqb}
 use Rattle.wire.specs.Bytes.{pick, byte, two}
-use Rattle.wire.specs.Numbers.{number, signed64}
-use Rattle.wire.specs.Runs.{bytesAt}
+use Rattle.wire.specs.Numbers.{number}
+use Rattle.values.specs.declared.Labelled.{Labelled}
+use Rattle.records.specs.declared.Held.{Held}
+use Rattle.records.specs.Record.{recordIn, isEmpty, heldOf}
+use Rattle.rules.specs.State.{isSome}
 use Rattle.cells.specs.declared.Found.the-variants.{At, Nothing}
-use Rattle.cells.specs.declared.Held.the-variants.{Empty, Holds}
 use Rattle.cells.specs.Chains.{counted, Way, begin, step}
-use Rattle.cells.specs.Layout.{keyAt, bodyAt, setAt, wordAt, nameIn, linkIn, nextIn, chained, LastAbove, slotAt, slotsOf}
-use Rattle.cells.specs.Slots.{valueFrom, labelled, usedState, inUse, hit, ofScope, valueIn, lastBelow, slotFor}
-use Rattle.cells.specs.Memory.{heldOf}
+use Rattle.cells.specs.Layout.{keyAt, bodyAt, nameIn, linkIn, nextIn, chained, LastAbove, slotAt, slotsOf}
+use Rattle.cells.specs.Slots.{usedState, inUse, hit, ofScope, valueIn, lastBelow, slotFor}
 use Rattle.cells.proofs.Chains.{counted-none, counted-past, counted-other, counted-some}
 use Rattle.cells.proofs.Search.{last-zero, last-open, last-skip}
 use Rattle.cells.proofs.Links.{next-falls, chain-on, chain-gap, chain-small, chain-named}
@@ -29,6 +27,11 @@ use Rattle.cells.proofs.Slots.{slot-in}
 low-differs : (w : List ℕ) (p q n : ℕ) → q ≡ p + 1 → (byte w q ≡ n % 256 → ⊥) → byte w q < 256 → two w p ≡ n → ⊥
 unfolding two
 low-differs w p q n at ne fits e = let number : byte w p * 256 + byte w q ≡ n = rw at e in ne (omega arith)
+
+filled-or-not : (o : Option Labelled) → not (isEmpty o) ≡ isSome o
+unfolding isEmpty isSome
+filled-or-not none = refl
+filled-or-not (some x) = refl
 
 module _ (w : List ℕ) (i : ℕ) (below : i < 512) where
   -- in_scope
@@ -48,15 +51,14 @@ module _ (w : List ℕ) (i : ℕ) (below : i < 512) where
   unfolding inUse slotAt
   free-read e f = rw (slot-in w i below, sym e) f
 
-  -- held_at
-  pub held-none : {t : ℕ} → t ≡ byte w i → t ≤ 1 → Empty ≡ heldOf (valueIn (slotsOf w i))
-  unfolding valueIn slotAt heldOf
-  held-none {t} p h = rw (slot-in w i below) (simp (le-ltb 1 (byte w i) (omega arith)))
+  -- held_at, has_value
+  pub content-read : {h : Held} → h ≡ heldOf (recordIn w (bodyAt i)) → h ≡ heldOf (valueIn (slotsOf w i))
+  unfolding valueIn slotAt
+  content-read e = rw (slot-in w i below) e
 
-  pub held-some : {t : ℕ} {v : Value} {a : Labels} → t ≡ byte w i → 1 < t → v ≡ valueFrom t (wordAt w (bodyAt i)) → a ≡ setAt w (bodyAt i + 8)
-      → Holds (labelled v a) ≡ heldOf (valueIn (slotsOf w i))
-  unfolding valueIn slotAt heldOf
-  held-some {t} {v} {a} p h ev ea = rw (slot-in w i below, ev, ea, p) (simp (lt-ltb 1 (byte w i) (omega arith)))
+  pub value-read : {b : Bool} → b ≡ isEmpty (recordIn w (bodyAt i)) → not b ≡ isSome (valueIn (slotsOf w i))
+  unfolding valueIn slotAt
+  value-read e = rw (slot-in w i below, e) (filled-or-not (recordIn w (bodyAt i)))
 
 -- ---- Chains
 
@@ -166,17 +168,3 @@ module _ (w : List ℕ) (s n : ℕ) where
 
     pub left-next : b ≡ false → {r′ : ℕ} → r′ ≡ nextIn w n (r - 1) → Left r′
     left-next e next = follow (r - 1) (left .way (r - 1) at-slot) (rw e at opened) next
-
--- value_at
-module _ (w : List ℕ) (t p : ℕ) where
-  pub value-integer : {z : ℤ} → t ≡ 2 → z ≡ signed64 (number (bytesAt w p 8) 0) → Integer z ≡ valueFrom t (wordAt w p)
-  unfolding valueFrom wordAt
-  value-integer e ez = rw (e, ez) refl
-
-  pub value-string : {n : ℕ} → (t ≡ 2 → ⊥) → n ≡ number (bytesAt w p 8) 0 → t ≡ 3 → String (n % 65536) ≡ valueFrom t (wordAt w p)
-  unfolding valueFrom wordAt
-  value-string ne en e = rw (e, en) refl
-
-  pub value-boolean : {n : ℕ} → (t ≡ 2 → ⊥) → n ≡ number (bytesAt w p 8) 0 → (t ≡ 3 → ⊥) → Boolean (eqb n 1) ≡ valueFrom t (wordAt w p)
-  unfolding valueFrom wordAt
-  value-boolean ne en ne′ = rw (ne-eqb t 2 ne, ne-eqb t 3 ne′, en) refl

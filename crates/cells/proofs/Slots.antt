@@ -3,25 +3,27 @@
 use mathlib.Core.Path.{_≡_, refl, sym, ap, _∙_}
 use mathlib.Core.Bool.{Bool, false}
 use mathlib.Core.List.{List}
-use Prim.Native.Nat.{ℕ, _+_, _^_, _≤_, _<_}
+use mathlib.Core.Option.{Option, none, some}
+use Prim.Native.Nat.{ℕ, _+_, _≤_, _<_}
 use native.Mathlib.Omega.{arith}
 use lib.Dec.{lit<}
 use lib.ListN.{length}
 use Rattle.labels.specs.declared.Labels.{Labels}
 use Rattle.labels.specs.Sets.{Words64}
-use Rattle.labels.specs.Bytes.{labelBytes, labelsFrom}
+use Rattle.labels.specs.Bytes.{labelBytes, setAt}
 use Rattle.labels.proofs.Laws.{label-length}
-use Rattle.values.specs.declared.Value.{Value}
+use Rattle.labels.proofs.Places.{set-in, set-outside, set-back}
 use Rattle.values.specs.declared.Labelled.{Labelled}
 use Rattle.wire.specs.Bytes.{byte, two}
-use Rattle.wire.specs.Numbers.{number, highBytes}
+use Rattle.wire.specs.Numbers.{highBytes}
 use Rattle.wire.specs.Runs.{bytesAt, over}
-use Rattle.wire.proofs.Laws.{run-length, same-run, over-length, byte-outside, run-outside, high-length, stored-back, stored-byte, stored-two, two-same}
-use Rattle.cells.specs.Layout.{keyAt, bodyAt, recordAt, linkAt, setAt, wordAt, nameIn, linkIn, chained, besideSlots, Slot, slot, blankSlot, slotAt, slotsOf}
-use Rattle.cells.specs.Slots.{StoresAt, kindOf, payloadOf, filled, marked, emptied}
-use Rattle.cells.proofs.Runs.{two-in, word-in, set-in, over-in, stored-set}
+use Rattle.wire.proofs.Laws.{two-in, over-in, run-length, same-run, over-length, byte-outside, run-outside, high-length, stored-byte, stored-two, two-same}
+use Rattle.records.specs.Record.{recordSize, kindAt, recordBytes, recordIn}
+use Rattle.records.proofs.Values.{Ranged}
+use Rattle.records.proofs.Laws.{record-in, record-length, record-back, record-outside, record-emptied}
+use Rattle.cells.specs.Layout.{keyAt, bodyAt, recordAt, linkAt, nameIn, linkIn, chained, besideSlots, Slot, slot, blankSlot, slotAt, slotsOf, bodySize, bodyMark, trailAt, wordsAt, keyName, keySize}
+use Rattle.cells.specs.Slots.{StoresAt, filled, marked, emptied}
 use Rattle.cells.proofs.Tables.{put-same, put-put, table-in, table-same, table-put}
-use Rattle.cells.proofs.Values.{Ranged, payload-lt, kind-lt}
 use Rattle.cells.proofs.Regions.{same-two, beside-same}
 use Rattle.cells.proofs.Chains.{is-or-not}
 use Rattle.cells.proofs.Links.{links-same, chains-same}
@@ -33,13 +35,13 @@ slot-in w i h = table-in 512 (slotAt w) blankSlot i h
 -- ---- A slot by whether it is reached, its state, and its two runs
 
 unfoldable pub slotFrom : (reached : Bool) → (state : ℕ) → (key body : List ℕ) → Slot
-slotFrom r t k b = slot r t (two k 0) (two k 2) (wordAt b 0) (setAt b 8) (setAt b 40)
+slotFrom r t k b = slot r t (two k 0) (two k keyName) (recordIn b 0) (setAt b bodyMark)
 
 abbrev pub keyOf : List ℕ → ℕ → List ℕ
-keyOf w i = bytesAt w (keyAt i) 4
+keyOf w i = bytesAt w (keyAt i) keySize
 
 abbrev pub bodyOf : List ℕ → ℕ → List ℕ
-bodyOf w i = bytesAt w (bodyAt i) 72
+bodyOf w i = bytesAt w (bodyAt i) bodySize
 
 -- the slot's own bytes
 abbrev pub fieldsAt : List ℕ → ℕ → Bool → Slot
@@ -51,26 +53,25 @@ slot-fields w i =
     let zero-key : keyAt i + 0 ≡ keyAt i = omega arith in
     let zero-body : bodyAt i + 0 ≡ bodyAt i = omega arith in
     rw (
-      two-in w (keyAt i) 4 0 (omega arith),
-      two-in w (keyAt i) 4 2 (omega arith),
-      word-in w (bodyAt i) 72 0 (omega arith),
-      set-in w (bodyAt i) 72 8 (omega arith),
-      set-in w (bodyAt i) 72 40 (omega arith),
+      two-in w (keyAt i) keySize 0 (omega arith),
+      two-in w (keyAt i) keySize keyName (omega arith),
+      record-in w (bodyAt i) bodySize 0 (omega arith),
+      set-in w (bodyAt i) bodySize bodyMark (omega arith),
       zero-key,
       zero-body,
     )
 
 -- the same bytes
-pub same-fields : (w w′ : List ℕ) (i : ℕ) → byte w′ i ≡ byte w i → ((k : ℕ) → keyAt i ≤ k → k < keyAt i + 4 → byte w′ k ≡ byte w k) → ((k : ℕ) → bodyAt i ≤ k → k < bodyAt i + 72 → byte w′ k ≡ byte w k)
+pub same-fields : (w w′ : List ℕ) (i : ℕ) → byte w′ i ≡ byte w i → ((k : ℕ) → keyAt i ≤ k → k < keyAt i + keySize → byte w′ k ≡ byte w k) → ((k : ℕ) → bodyAt i ≤ k → k < bodyAt i + bodySize → byte w′ k ≡ byte w k)
     → (r : Bool) → fieldsAt w′ i r ≡ fieldsAt w i r
 same-fields w w′ i state key body r =
     rw (
       state,
-      same-run w′ w (keyAt i) (keyAt i) 4 (λ k u. key (keyAt i + k) (omega arith) (omega arith)),
-      same-run w′ w (bodyAt i) (bodyAt i) 72 (λ k u. body (bodyAt i + k) (omega arith) (omega arith)),
+      same-run w′ w (keyAt i) (keyAt i) keySize (λ k u. key (keyAt i + k) (omega arith) (omega arith)),
+      same-run w′ w (bodyAt i) (bodyAt i) bodySize (λ k u. body (bodyAt i + k) (omega arith) (omega arith)),
     )
 
-pub low-fields : (w w′ : List ℕ) → ((k : ℕ) → k < 39424 → byte w′ k ≡ byte w k) → (i : ℕ) → i < 512 → (r : Bool) → fieldsAt w′ i r ≡ fieldsAt w i r
+pub low-fields : (w w′ : List ℕ) → ((k : ℕ) → k < trailAt → byte w′ k ≡ byte w k) → (i : ℕ) → i < 512 → (r : Bool) → fieldsAt w′ i r ≡ fieldsAt w i r
 low-fields w w′ same i l = same-fields w w′ i (same i (omega arith)) (λ k a b. same k (omega arith)) (λ k a b. same k (omega arith))
 
 -- slots that are reached alike, and have the same bytes
@@ -79,20 +80,20 @@ same-slot w w′ i name reached fields =
     slot-fields w′ i ∙ ap (fieldsAt w′ i) (ap (λ (n : ℕ). chained w′ n i) name ∙ reached) ∙ fields (chained w (nameIn w i) i) ∙ sym (slot-fields w i)
 
 -- where all bytes of the slots, the heads and the links are the same
-pub slots-same : (w w′ : List ℕ) → ((k : ℕ) → k < 39424 → byte w′ k ≡ byte w k) → ((q : ℕ) → q < 1024 → two w′ (recordAt q) ≡ two w (recordAt q)) → ((k : ℕ) → 47648 ≤ k → k < 48672 → byte w′ k ≡ byte w k) → slotsOf w′ ≡ slotsOf w
+pub slots-same : (w w′ : List ℕ) → ((k : ℕ) → k < trailAt → byte w′ k ≡ byte w k) → ((q : ℕ) → q < 1024 → two w′ (recordAt q) ≡ two w (recordAt q)) → ((k : ℕ) → linkAt 0 ≤ k → k < wordsAt → byte w′ k ≡ byte w k) → slotsOf w′ ≡ slotsOf w
 unfolding slotsOf
 slots-same w w′ low heads links =
     table-same 512 (slotAt w) (slotAt w′) blankSlot
     (λ i l. same-slot w w′ i (name i l) (chains-same w w′ name (links-same w w′ (λ p b. same-two w w′ (linkAt p) (λ j h. links (linkAt p + j) (omega arith) (omega arith))) heads) (nameIn w i) i l) (low-fields w w′ low i l))
   where
     name : (i : ℕ) → i < 512 → nameIn w′ i ≡ nameIn w i
-    name i l = same-two w w′ (keyAt i + 2) (λ j h. low (keyAt i + 2 + j) (omega arith))
+    name i l = same-two w w′ (keyAt i + keyName) (λ j h. low (keyAt i + keyName + j) (omega arith))
 
 -- ---- Stores at slot j
 
 -- w′ differs from w at most in the bytes of slot j
 abbrev Mine : ℕ → List ℕ → List ℕ → Type 0
-Mine j w w′ = (k : ℕ) → (k ≡ j → ⊥) → (keyAt j ≤ k → k < keyAt j + 4 → ⊥) → (bodyAt j ≤ k → k < bodyAt j + 72 → ⊥) → byte w′ k ≡ byte w k
+Mine j w w′ = (k : ℕ) → (k ≡ j → ⊥) → (keyAt j ≤ k → k < keyAt j + keySize → ⊥) → (bodyAt j ≤ k → k < bodyAt j + bodySize → ⊥) → byte w′ k ≡ byte w k
 
 -- slot j's bytes go by g, and nothing else changes
 pub record Step (j : ℕ) (w w′ : List ℕ) (g : Slot → Slot) : Type 0 where
@@ -106,29 +107,26 @@ _then_ {g′ = g′} a b = record { own = λ r. b .own r ∙ ap g′ (a .own r);
 
 -- what each field store does to the slot
 unfoldable pub withState : ℕ → Slot → Slot
-withState v (slot r t s n p a m) = slot r v s n p a m
+withState v (slot r t s n c m) = slot r v s n c m
 
 unfoldable pub withScope : ℕ → Slot → Slot
-withScope v (slot r t s n p a m) = slot r t v n p a m
+withScope v (slot r t s n c m) = slot r t v n c m
 
 unfoldable pub withName : ℕ → Slot → Slot
-withName v (slot r t s n p a m) = slot r t s v p a m
+withName v (slot r t s n c m) = slot r t s v c m
 
-unfoldable pub withPayload : ℕ → Slot → Slot
-withPayload v (slot r t s n p a m) = slot r t s n v a m
-
-unfoldable pub withSet : Labels → Slot → Slot
-withSet v (slot r t s n p a m) = slot r t s n p v m
+unfoldable pub withContent : Option Labelled → Slot → Slot
+withContent v (slot r t s n c m) = slot r t s n v m
 
 unfoldable pub withMark : Labels → Slot → Slot
-withMark v (slot r t s n p a m) = slot r t s n p a v
+withMark v (slot r t s n c m) = slot r t s n c v
 
 unfoldable pub nameOf : Slot → ℕ
-nameOf (slot r t s n p a m) = n
+nameOf (slot r t s n c m) = n
 
 pub name-fields : (w : List ℕ) (i : ℕ) (r : Bool) → nameOf (fieldsAt w i r) ≡ nameIn w i
 unfolding nameOf slotFrom
-name-fields w i r = two-in w (keyAt i) 4 2 (omega arith)
+name-fields w i r = two-in w (keyAt i) keySize keyName (omega arith)
 
 module _ (w : List ℕ) (j : ℕ) (below : j < 512) (room : 65536 ≤ length w) where
   pub state-step : {w′ : List ℕ} (v : ℕ) → v < 256 → w′ ≡ over w j (highBytes 1 v) → Step j w w′ (withState v)
@@ -140,28 +138,28 @@ module _ (w : List ℕ) (j : ℕ) (below : j < 512) (room : 65536 ≤ length w) 
       rw e (record {
         own = λ r. rw (
           stored-byte w j v (omega arith) fits,
-          same-run (over w j bs) w (keyAt j) (keyAt j) 4 (λ i l. other (keyAt j + i) (λ z. omega arith)),
-          same-run (over w j bs) w (bodyAt j) (bodyAt j) 72 (λ i l. other (bodyAt j + i) (λ z. omega arith)),
+          same-run (over w j bs) w (keyAt j) (keyAt j) keySize (λ i l. other (keyAt j + i) (λ z. omega arith)),
+          same-run (over w j bs) w (bodyAt j) (bodyAt j) bodySize (λ i l. other (bodyAt j + i) (λ z. omega arith)),
         ) refl;
         mine = λ k p q r. other k p;
         size = over-length w j bs;
       })
 
   -- any store within the key, and within the body
-  key-step : (o : ℕ) (bs : List ℕ) (g : Slot → Slot) {w′ : List ℕ} → o + length bs ≤ 4 → w′ ≡ over w (keyAt j + o) bs
+  key-step : (o : ℕ) (bs : List ℕ) (g : Slot → Slot) {w′ : List ℕ} → o + length bs ≤ keySize → w′ ≡ over w (keyAt j + o) bs
       → ((r : Bool) → slotFrom r (byte w j) (over (keyOf w j) o bs) (bodyOf w j) ≡ g (fieldsAt w j r)) → Step j w w′ g
   key-step o bs g fits e field =
       rw e (record {
-        own = λ r. rw (byte-outside w (keyAt j + o) bs j (λ a b. omega arith), over-in w (keyAt j) 4 o bs fits (omega arith), run-outside w (keyAt j + o) bs (bodyAt j) 72 (λ i a b c d. omega arith)) (field r);
+        own = λ r. rw (byte-outside w (keyAt j + o) bs j (λ a b. omega arith), over-in w (keyAt j) keySize o bs fits (omega arith), run-outside w (keyAt j + o) bs (bodyAt j) bodySize (λ i a b c d. omega arith)) (field r);
         mine = λ k p q r. byte-outside w (keyAt j + o) bs k (λ a b. q (omega arith) (omega arith));
         size = over-length w (keyAt j + o) bs;
       })
 
-  body-step : (o : ℕ) (bs : List ℕ) (g : Slot → Slot) {w′ : List ℕ} → o + length bs ≤ 72 → w′ ≡ over w (bodyAt j + o) bs
+  body-step : (o : ℕ) (bs : List ℕ) (g : Slot → Slot) {w′ : List ℕ} → o + length bs ≤ bodySize → w′ ≡ over w (bodyAt j + o) bs
       → ((r : Bool) → slotFrom r (byte w j) (keyOf w j) (over (bodyOf w j) o bs) ≡ g (fieldsAt w j r)) → Step j w w′ g
   body-step o bs g fits e field =
       rw e (record {
-        own = λ r. rw (byte-outside w (bodyAt j + o) bs j (λ a b. omega arith), run-outside w (bodyAt j + o) bs (keyAt j) 4 (λ i a b c d. omega arith), over-in w (bodyAt j) 72 o bs fits (omega arith)) (field r);
+        own = λ r. rw (byte-outside w (bodyAt j + o) bs j (λ a b. omega arith), run-outside w (bodyAt j + o) bs (keyAt j) keySize (λ i a b c d. omega arith), over-in w (bodyAt j) bodySize o bs fits (omega arith)) (field r);
         mine = λ k p q r. byte-outside w (bodyAt j + o) bs k (λ a b. r (omega arith) (omega arith));
         size = over-length w (bodyAt j + o) bs;
       })
@@ -170,19 +168,17 @@ module _ (w : List ℕ) (j : ℕ) (below : j < 512) (room : 65536 ≤ length w) 
   two-left : (o : ℕ) (bs : List ℕ) (q : ℕ) → ((i : ℕ) → q ≤ i → i < q + 2 → o ≤ i → i < o + length bs → ⊥) → two (over (keyOf w j) o bs) q ≡ two (keyOf w j) q
   two-left o bs q apart = two-same (over (keyOf w j) o bs) (keyOf w j) q q (run-outside (keyOf w j) o bs q 2 apart)
 
-  word-left : (o : ℕ) (bs : List ℕ) (q : ℕ) → ((i : ℕ) → q ≤ i → i < q + 8 → o ≤ i → i < o + length bs → ⊥) → wordAt (over (bodyOf w j) o bs) q ≡ wordAt (bodyOf w j) q
-  unfolding wordAt
-  word-left o bs q apart = ap (λ (m : List ℕ). number m 0) (run-outside (bodyOf w j) o bs q 8 apart)
+  record-left : (o : ℕ) (bs : List ℕ) (q : ℕ) → ((i : ℕ) → q ≤ i → i < q + recordSize → o ≤ i → i < o + length bs → ⊥) → recordIn (over (bodyOf w j) o bs) q ≡ recordIn (bodyOf w j) q
+  record-left o bs q apart = record-outside (bodyOf w j) o bs q apart
 
   set-left : (o : ℕ) (bs : List ℕ) (q : ℕ) → ((i : ℕ) → q ≤ i → i < q + 32 → o ≤ i → i < o + length bs → ⊥) → setAt (over (bodyOf w j) o bs) q ≡ setAt (bodyOf w j) q
-  unfolding setAt
-  set-left o bs q apart = ap labelsFrom (run-outside (bodyOf w j) o bs q 32 apart)
+  set-left o bs q apart = set-outside (bodyOf w j) o bs q apart
 
-  key-size : length (keyOf w j) ≡ 4
-  key-size = run-length w (keyAt j) 4
+  key-size : length (keyOf w j) ≡ keySize
+  key-size = run-length w (keyAt j) keySize
 
-  body-size : length (bodyOf w j) ≡ 72
-  body-size = run-length w (bodyAt j) 72
+  body-size : length (bodyOf w j) ≡ bodySize
+  body-size = run-length w (bodyAt j) bodySize
 
   pub scope-step : {w′ : List ℕ} (v : ℕ) → v < 65536 → w′ ≡ over w (keyAt j) (highBytes 2 v) → Step j w w′ (withScope v)
   unfolding slotFrom withScope
@@ -190,48 +186,43 @@ module _ (w : List ℕ) (j : ℕ) (below : j < 512) (room : 65536 ≤ length w) 
       let bs : List ℕ = highBytes 2 v in
       let size : length bs ≡ 2 = high-length 2 v in
       let start : w′ ≡ over w (keyAt j + 0) bs = e ∙ ap (λ (p : ℕ). over w p bs) (omega arith) in
-      key-step 0 bs (withScope v) (omega arith) start (λ r. rw (stored-two (keyOf w j) 0 v (omega (arith, key-size)) fits, two-left 0 bs 2 (λ i a b c d. omega arith)) refl)
+      key-step 0 bs (withScope v) (omega arith) start (λ r. rw (stored-two (keyOf w j) 0 v (omega (arith, key-size)) fits, two-left 0 bs keyName (λ i a b c d. omega arith)) refl)
 
-  pub name-step : {w′ : List ℕ} (v : ℕ) → v < 65536 → w′ ≡ over w (keyAt j + 2) (highBytes 2 v) → Step j w w′ (withName v)
+  pub name-step : {w′ : List ℕ} (v : ℕ) → v < 65536 → w′ ≡ over w (keyAt j + keyName) (highBytes 2 v) → Step j w w′ (withName v)
   unfolding slotFrom withName
   name-step v fits e =
       let bs : List ℕ = highBytes 2 v in
       let size : length bs ≡ 2 = high-length 2 v in
-      key-step 2 bs (withName v) (omega arith) e (λ r. rw (two-left 2 bs 0 (λ i a b c d. omega arith), stored-two (keyOf w j) 2 v (omega (arith, key-size)) fits) refl)
+      key-step keyName bs (withName v) (omega arith) e (λ r. rw (two-left keyName bs 0 (λ i a b c d. omega arith), stored-two (keyOf w j) keyName v (omega (arith, key-size)) fits) refl)
 
-  stored-word : (v : ℕ) → v < 256 ^ 8 → wordAt (over (bodyOf w j) 0 (highBytes 8 v)) 0 ≡ v
-  unfolding wordAt
-  stored-word v fits = stored-back (bodyOf w j) 0 8 v (omega (arith, body-size)) fits
-
-  pub payload-step : {w′ : List ℕ} (v : ℕ) → v < 256 ^ 8 → w′ ≡ over w (bodyAt j) (highBytes 8 v) → Step j w w′ (withPayload v)
-  unfolding slotFrom withPayload
-  payload-step {w′} v fits e =
-      let bs : List ℕ = highBytes 8 v in
-      let size : length bs ≡ 8 = high-length 8 v in
+  pub content-step : {w′ : List ℕ} (x : Labelled) → Ranged (x .value) → Words64 (x .labels) → w′ ≡ over w (bodyAt j) (recordBytes x) → Step j w w′ (withContent (some x))
+  unfolding slotFrom withContent
+  content-step {w′} x value set e =
+      let bs : List ℕ = recordBytes x in
+      let size : length bs ≡ recordSize = record-length x in
       let start : w′ ≡ over w (bodyAt j + 0) bs = e ∙ ap (λ (p : ℕ). over w p bs) (omega arith) in
-      body-step 0 bs (withPayload v) (omega arith) start (λ r. rw (stored-word v fits, set-left 0 bs 8 (λ i a b c d. omega arith), set-left 0 bs 40 (λ i a b c d. omega arith)) refl)
+      body-step 0 bs (withContent (some x)) (omega arith) start (λ r. rw (record-back (bodyOf w j) 0 x (omega (arith, body-size)) value set, set-left 0 bs bodyMark (λ i a b c d. omega arith)) refl)
 
-  pub set-step : {w′ : List ℕ} (v : Labels) → Words64 v → w′ ≡ over w (bodyAt j + 8) (labelBytes v) → Step j w w′ (withSet v)
-  unfolding slotFrom withSet
-  set-step v fits e =
-      let bs : List ℕ = labelBytes v in
-      let size : length bs ≡ 32 = label-length v in
-      body-step 8 bs (withSet v) (omega arith) e
-      (λ r. rw (word-left 8 bs 0 (λ i a b c d. omega arith), stored-set (bodyOf w j) 8 v (omega (arith, body-size)) fits, set-left 8 bs 40 (λ i a b c d. omega arith)) refl)
+  pub empty-step : {w′ : List ℕ} → w′ ≡ over w (kindAt (bodyAt j)) (highBytes 1 0) → Step j w w′ (withContent none)
+  unfolding slotFrom withContent
+  empty-step e =
+      let bs : List ℕ = highBytes 1 0 in
+      let size : length bs ≡ 1 = high-length 1 0 in
+      body-step (kindAt 0) bs (withContent none) (omega arith) e (λ r. rw (record-emptied (bodyOf w j) 0 (omega (arith, body-size)), set-left (kindAt 0) bs bodyMark (λ i a b c d. omega arith)) refl)
 
-  pub mark-step : {w′ : List ℕ} (v : Labels) → Words64 v → w′ ≡ over w (bodyAt j + 40) (labelBytes v) → Step j w w′ (withMark v)
+  pub mark-step : {w′ : List ℕ} (v : Labels) → Words64 v → w′ ≡ over w (bodyAt j + bodyMark) (labelBytes v) → Step j w w′ (withMark v)
   unfolding slotFrom withMark
   mark-step v fits e =
       let bs : List ℕ = labelBytes v in
       let size : length bs ≡ 32 = label-length v in
-      body-step 40 bs (withMark v) (omega arith) e
-      (λ r. rw (word-left 40 bs 0 (λ i a b c d. omega arith), set-left 40 bs 8 (λ i a b c d. omega arith), stored-set (bodyOf w j) 40 v (omega (arith, body-size)) fits) refl)
+      body-step bodyMark bs (withMark v) (omega arith) e
+      (λ r. rw (record-left bodyMark bs 0 (λ i a b c d. omega arith), set-back (bodyOf w j) bodyMark v (omega (arith, body-size)) fits) refl)
 
 -- ---- A run of stores as one change of the slots
 
 -- what such a run leaves
 module _ (j : ℕ) (w w′ : List ℕ) (g : Slot → Slot) (below : j < 512) (step : Step j w w′ g) where
-  past : (k : ℕ) → 39424 ≤ k → byte w′ k ≡ byte w k
+  past : (k : ℕ) → trailAt ≤ k → byte w′ k ≡ byte w k
   past k l = step .mine k (λ z. omega arith) (λ a b. omega arith) (λ a b. omega arith)
 
   pub step-beside : besideSlots w′ ≡ besideSlots w
@@ -275,41 +266,35 @@ pub stores-then : (j : ℕ) (w w′ w″ : List ℕ) (g h k : Slot → Slot) →
 stores-then j w w′ w″ g h k a b same =
     (b .0 ∙ rw (a .0, put-same j (g (slotsOf w j)) (slotsOf w), put-put j (h (g (slotsOf w j))) (g (slotsOf w j)) (slotsOf w), same (slotsOf w j)) refl, b .1 ∙ a .1)
 
-filled-by : (x : Labelled) (y : Slot) → withSet (x .labels) (withPayload (payloadOf (x .value)) (withState (kindOf (x .value)) y)) ≡ filled x y
-unfolding withState withSet withPayload filled
-filled-by x (slot r t s n p a m) = refl
+filled-by : (x : Labelled) (y : Slot) → withContent (some x) y ≡ filled x y
+unfolding withContent filled
+filled-by x (slot r t s n c m) = refl
 
-filled-name : (x : Labelled) (y : Slot) → nameOf (withSet (x .labels) (withPayload (payloadOf (x .value)) (withState (kindOf (x .value)) y))) ≡ nameOf y
-unfolding nameOf withState withSet withPayload
-filled-name x (slot r t s n p a m) = refl
+filled-name : (x : Labelled) (y : Slot) → nameOf (withContent (some x) y) ≡ nameOf y
+unfolding nameOf withContent
+filled-name x (slot r t s n c m) = refl
 
 marked-by : (k : Labels) (x : Slot) → withMark k x ≡ marked k x
 unfolding withMark marked
-marked-by k (slot r t s n p a m) = refl
+marked-by k (slot r t s n c m) = refl
 
 marked-name : (k : Labels) (x : Slot) → nameOf (withMark k x) ≡ nameOf x
 unfolding nameOf withMark
-marked-name k (slot r t s n p a m) = refl
+marked-name k (slot r t s n c m) = refl
 
 emptied-by : (x : Slot) → withState 5 x ≡ emptied x
 unfolding withState emptied
-emptied-by (slot r t s n p a m) = refl
+emptied-by (slot r t s n c m) = refl
 
 emptied-name : (x : Slot) → nameOf (withState 5 x) ≡ nameOf x
 unfolding nameOf withState
-emptied-name (slot r t s n p a m) = refl
+emptied-name (slot r t s n c m) = refl
 
-pub value-way : (w : List ℕ) (j : ℕ) (x : Labelled) {w1 w2 w3 : List ℕ} {t : ℕ} → j < 512 → 65536 ≤ length w → Ranged (x .value) → Words64 (x .labels)
-    → t ≡ kindOf (x .value) → w1 ≡ over w j (highBytes 1 t) → w2 ≡ over w1 (bodyAt j) (highBytes 8 (payloadOf (x .value))) → w3 ≡ over w2 (bodyAt j + 8) (labelBytes (x .labels))
-    → StoresAt j (filled x) w w3
-value-way w j x {w1} {w2} {w3} {t} below room hv hl et e1 e2 e3 =
-    let v : Value = x .value in
-    let first : w1 ≡ over w j (highBytes 1 (kindOf v)) = rw et at e1 in
-    let a : Step j w w1 (withState (kindOf v)) = state-step w j below room (kindOf v) (kind-lt v) first in
-    let b : Step j w w2 (λ y. withPayload (payloadOf v) (withState (kindOf v) y)) = a then payload-step w1 j below (omega (arith, a .size)) (payloadOf v) (payload-lt v hv) e2 in
-    changed j w w3 (λ y. withSet (x .labels) (withPayload (payloadOf v) (withState (kindOf v) y))) (filled x) below (b then set-step w2 j below (omega (arith, b .size)) (x .labels) hl e3) (filled-name x) (filled-by x)
+pub value-way : (w : List ℕ) (j : ℕ) (x : Labelled) {w1 : List ℕ} → j < 512 → 65536 ≤ length w → Ranged (x .value) → Words64 (x .labels) → w1 ≡ over w (bodyAt j) (recordBytes x)
+    → StoresAt j (filled x) w w1
+value-way w j x {w1} below room value set e = changed j w w1 (withContent (some x)) (filled x) below (content-step w j below room x value set e) (filled-name x) (filled-by x)
 
-pub mark-way : (w : List ℕ) (j : ℕ) (k : Labels) {w1 : List ℕ} → j < 512 → 65536 ≤ length w → Words64 k → w1 ≡ over w (bodyAt j + 40) (labelBytes k)
+pub mark-way : (w : List ℕ) (j : ℕ) (k : Labels) {w1 : List ℕ} → j < 512 → 65536 ≤ length w → Words64 k → w1 ≡ over w (bodyAt j + bodyMark) (labelBytes k)
     → StoresAt j (marked k) w w1
 mark-way w j k {w1} below room hk e = changed j w w1 (withMark k) (marked k) below (mark-step w j below room k hk e) (marked-name k) (marked-by k)
 

@@ -4,28 +4,28 @@ use mathlib.Core.Bool.{Bool, true, false, not, _&&_}
 use mathlib.Core.List.{List}
 use mathlib.Core.Option.{Option, some}
 use Prim.Native.Nat.{ℕ, _+_, _≤_, _<_}
-use native.Mathlib.Omega.{arith}
 use lib.Dec.{eqb}
-use borrow.Author.Tests.{eqb-true, lt-ltb, le-ltb}
+use borrow.Author.Tests.{eqb-true, le-ltb}
 use Rattle.labels.specs.declared.Labels.{Labels}
+use Rattle.labels.specs.Bytes.{setAt}
 use Rattle.labels.specs.Sets.{noLabels, _∪_}
 use Rattle.values.specs.declared.Labelled.{Labelled}
 use Rattle.values.specs.declared.Reason.the-variants.{AssignedAgain, CellLimit}
-use Rattle.wire.specs.Bytes.{pick, byte}
+use Rattle.wire.specs.Bytes.{pick}
 use Rattle.rules.specs.Outcome.{Outcome, refused, done, _>>=_, refuseIf}
 use Rattle.rules.specs.State.{Scope, sameScope, Cell, noCell, valueInto, markInto, Entry, State, cellsFor, isSome, oneIf, assign}
 use Rattle.cells.specs.declared.Found.{Found}
 use Rattle.cells.specs.declared.Found.the-variants.{At, Nothing}
 use Rattle.cells.specs.declared.Stored.{Stored}
 use Rattle.cells.specs.declared.Stored.the-variants.{Done, HasValue, NoRoom}
-use Rattle.cells.specs.declared.Held.{Held}
-use Rattle.cells.specs.declared.Held.the-variants.{Empty}
+use Rattle.records.specs.declared.Held.{Held}
+use Rattle.records.specs.declared.Held.the-variants.{Empty}
 use Rattle.cells.specs.declared.Seen.{Seen}
-use Rattle.cells.specs.Layout.{bodyAt, Slot, slot, slotAt, slotsOf, besideSlots, setAt, trailOf, putAt}
+use Rattle.cells.specs.Layout.{bodyAt, Slot, slot, slotAt, slotsOf, besideSlots, trailOf, putAt, bodyMark}
 use Rattle.cells.specs.Scopes.{scopeOf}
-use Rattle.cells.specs.Slots.{StoresAt, kindOf, hit, inUse, valueIn, markIn, cellIn, filled, marked, slotFor, freeSlot, obtained, obtain}
-use Rattle.cells.specs.Memory.{cellAt, cellsIn, usedIn, cellsOf, usedOf, classesOf, stateOf, outcome, Answers, markedOne, markOne, heldOf, seenOf}
-use Rattle.cells.proofs.Values.{Ranged, value-back, kind-value, kind-used}
+use Rattle.cells.specs.Slots.{StoresAt, hit, inUse, valueIn, markIn, cellIn, filled, marked, slotFor, freeSlot, obtained, obtain}
+use Rattle.cells.specs.Memory.{cellAt, cellsIn, usedIn, cellsOf, usedOf, classesOf, stateOf, outcome, Answers, markedOne, markOne, seenOf}
+use Rattle.records.specs.Record.{heldOf}
 use Rattle.cells.proofs.Slots.{slot-in}
 use Rattle.cells.proofs.Search.{was-found, was-last}
 use Rattle.cells.proofs.Scopes.{cell-at, by-number}
@@ -69,38 +69,28 @@ module _ (p : ℕ) (s : Scope) (n : ℕ) (st : State) where
 
 -- ---- Slots
 
-has-value : (w : List ℕ) (i : ℕ) → i < 512 → 1 < byte w i → isSome (valueIn (slotsOf w i)) ≡ true
-unfolding valueIn slotAt isSome
-has-value w i below h = rw (slot-in w i below, lt-ltb 1 (byte w i) h) refl
-
-no-value : (w : List ℕ) (i : ℕ) → i < 512 → byte w i ≤ 1 → isSome (valueIn (slotsOf w i)) ≡ false
-unfolding valueIn slotAt isSome
-no-value w i below h = rw (slot-in w i below, le-ltb 1 (byte w i) h) refl
-
-mark-read : (w : List ℕ) (i : ℕ) → i < 512 → setAt w (bodyAt i + 40) ≡ markIn (slotsOf w i)
+mark-read : (w : List ℕ) (i : ℕ) → i < 512 → setAt w (bodyAt i + bodyMark) ≡ markIn (slotsOf w i)
 unfolding markIn slotAt
 mark-read w i below = rw (slot-in w i below) refl
 
 abbrev cellWith : Option Labelled → Labels → Cell
 cellWith v m = record { exists = true; value = v; mark = m }
 
-filled-keeps : (x : Labelled) (y : Slot) → inUse y ≡ true → Keeps (filled x y) y
-unfolding hit filled inUse
-filled-keeps x (slot r t s n p a m) u s′ n′ = simp (u, kind-used (x .value))
+filled-keeps : (x : Labelled) (y : Slot) → Keeps (filled x y) y
+unfolding hit filled
+filled-keeps x (slot r t s n c m) s′ n′ = refl
 
-filled-cell : (x : Labelled) (y : Slot) → Ranged (x .value) → _≡_ {A = Cell} (cellIn (filled x y)) (cellWith (some x) (markIn y))
+filled-cell : (x : Labelled) (y : Slot) → inUse y ≡ true → _≡_ {A = Cell} (cellIn (filled x y)) (cellWith (some x) (markIn y))
 unfolding filled inUse valueIn markIn
-filled-cell x (slot r t s n p a m) h =
-    let v = x .value in
-    rw (kind-used v, lt-ltb 1 (kindOf v) (kind-value v), value-back v h) refl
+filled-cell x (slot r t s n c m) used = rw used refl
 
 marked-keeps : (k : Labels) (y : Slot) → Keeps (marked k y) y
 unfolding hit marked
-marked-keeps k (slot r t s n p a m) s′ n′ = refl
+marked-keeps k (slot r t s n c m) s′ n′ = refl
 
 marked-cell : (k : Labels) (y : Slot) → _≡_ {A = Cell} (cellIn (marked k y)) (record { exists = inUse y; value = valueIn y; mark = k })
 unfolding marked inUse valueIn markIn
-marked-cell k (slot r t s n p a m) = refl
+marked-cell k (slot r t s n c m) = refl
 
 -- one cell becomes y, by a change that leaves the others
 into : (c : ℕ → ℕ → Cell) (s n : ℕ) (y : Cell) (g : Bool → Cell → Cell) → ((z : Cell) → g false z ≡ z) → y ≡ g true (c s n) → (s′ m : ℕ)
@@ -156,11 +146,11 @@ module _ (w w′ : List ℕ) (s n : ℕ) {q : Found} (e : obtained q (slotsOf w�
       refused-by NoRoom (λ p. markOne p (scopeOf s) n l) (none-changed (slotsOf w) (besideSlots w) s n obtained-by at)
       (λ p es k r. mark-no-room p (scopeOf s) n (stateOf w es k r) l (no-slot at .0) (no-slot at .1))
 
-  pub assign-has : (x : Labelled) (i : ℕ) → q ≡ At i → {t : ℕ} → t ≡ byte w′ i → 1 < t → Answers w w′ HasValue (λ p. assign p (scopeOf s) n x)
+  pub assign-has : (x : Labelled) (i : ℕ) → q ≡ At i → {b : Bool} → b ≡ isSome (valueIn (slotsOf w′ i)) → b ≡ true → Answers w w′ HasValue (λ p. assign p (scopeOf s) n x)
   unfolding outcome stateOf
-  assign-has x i at et h =
+  assign-has x i at read h =
       let o = ready-at i at in
-      let there : isSome (cellsIn (slotsOf w) s n .value) ≡ true = rw (sym (o .value)) (has-value w′ i (o .below) (omega arith)) in
+      let there : isSome (cellsIn (slotsOf w) s n .value) ≡ true = rw (sym (o .value)) (sym read ∙ h) in
       refused-by HasValue (λ p. assign p (scopeOf s) n x) (value-kept (slotsOf w) (besideSlots w) s n obtained-by there)
       (λ p es k r. assign-again p (scopeOf s) n (stateOf w es k r) x (ap (λ (c : Cell). isSome (c .value)) cell-is ∙ there))
 
@@ -212,18 +202,18 @@ module _ (w w′ : List ℕ) (s n : ℕ) {q : Found} (e : obtained q (slotsOf w�
       fine = λ f. rw (c .0) (fine-keeps (slotsOf w′) i x s n keeps (ready-at i at .key) (fine-came (slotsOf w) (besideSlots w) s n small obtained-by f));
     }
 
-  pub assign-done : (x : Labelled) (i : ℕ) (w″ : List ℕ) → Ranged (x .value) → q ≡ At i → {t : ℕ} → t ≡ byte w′ i → t ≤ 1
+  pub assign-done : (x : Labelled) (i : ℕ) (w″ : List ℕ) → q ≡ At i → {b : Bool} → b ≡ isSome (valueIn (slotsOf w′ i)) → b ≡ false
       → StoresAt i (filled x) w′ w″ → Answers w w″ Done (λ p. assign p (scopeOf s) n x)
   unfolding stateOf valueInto
-  assign-done x i w″ range at et h c =
+  assign-done x i w″ at read h c =
       let o = ready-at i at in
       let y : Slot = filled x (slotsOf w′ i) in
-      let keeps : Keeps y (slotsOf w′ i) = filled-keeps x (slotsOf w′ i) (o .used) in
-      let none-there : isSome (cellsOf w (scopeOf s) n .value) ≡ false = rw (cell-is, sym (o .value)) (no-value w′ i (o .below) (omega arith)) in
-      stored-by i at y w″ keeps c (λ p. assign p (scopeOf s) n x) (λ b z. valueInto b x z) (λ z. refl) (filled-cell x (slotsOf w′ i) range ∙ ap (cellWith (some x)) (o .mark))
+      let keeps : Keeps y (slotsOf w′ i) = filled-keeps x (slotsOf w′ i) in
+      let none-there : isSome (cellsOf w (scopeOf s) n .value) ≡ false = rw (cell-is, sym (o .value)) (sym read ∙ h) in
+      stored-by i at y w″ keeps c (λ p. assign p (scopeOf s) n x) (λ b z. valueInto b x z) (λ z. refl) (filled-cell x (slotsOf w′ i) (o .used) ∙ ap (cellWith (some x)) (o .mark))
       (λ p es k r. assign-fits p (scopeOf s) n (stateOf w es k r) x none-there (room-left i at y w″ keeps c))
 
-  pub mark-done : (l : Labels) (i : ℕ) (w″ : List ℕ) {m u : Labels} → q ≡ At i → m ≡ setAt w′ (bodyAt i + 40) → u ≡ l ∪ m
+  pub mark-done : (l : Labels) (i : ℕ) (w″ : List ℕ) {m u : Labels} → q ≡ At i → m ≡ setAt w′ (bodyAt i + bodyMark) → u ≡ l ∪ m
       → StoresAt i (marked u) w′ w″ → Answers w w″ Done (λ p. markOne p (scopeOf s) n l)
   unfolding stateOf markedOne markInto
   mark-done l i w″ {m} {u} at em eu c =
@@ -248,7 +238,7 @@ abbrev seenWith : Held → Labels → Seen
 seenWith h m = record { held = h; mark = m }
 
 pub read-some : (w : List ℕ) (s n i : ℕ) {q : Found} {h : Held} {m : Labels} → q ≡ slotFor (slotsOf w) s n → q ≡ At i → h ≡ heldOf (valueIn (slotsOf w i))
-    → m ≡ setAt w (bodyAt i + 40) → _≡_ {A = Seen} (seenWith h m) (seenOf (cellsOf w (scopeOf s) n))
+    → m ≡ setAt w (bodyAt i + bodyMark) → _≡_ {A = Seen} (seenWith h m) (seenOf (cellsOf w (scopeOf s) n))
 unfolding seenOf cellsOf cellsIn cellAt
 read-some w s n i {q} {h} {m} e p eh em =
     let found : slotFor (slotsOf w) s n ≡ At i = sym e ∙ p in

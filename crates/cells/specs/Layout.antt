@@ -3,14 +3,15 @@
 use Prim.Native.Nat.{ℕ, _+_, _*_, _≤_, _<_}
 use mathlib.Core.Bool.{Bool, false}
 use mathlib.Core.List.{List}
+use mathlib.Core.Option.{Option, none}
 use lib.Dec.{eqb, ltb}
 use lib.ListN.{drop}
 use Rattle.labels.specs.declared.Labels.{Labels}
 use Rattle.labels.specs.Sets.{noLabels}
-use Rattle.labels.specs.Bytes.{labelsFrom}
+use Rattle.labels.specs.Bytes.{setAt}
 use Rattle.wire.specs.Bytes.{pick, byte, two}
-use Rattle.wire.specs.Numbers.{number}
-use Rattle.wire.specs.Runs.{bytesAt}
+use Rattle.values.specs.declared.Labelled.{Labelled}
+use Rattle.records.specs.Record.{recordIn}
 use Rattle.cells.specs.Chains.{counted, leadsTo, Way}
 
 -- ---- Places
@@ -23,25 +24,56 @@ stateAt i = i
 abbrev pub keyAt : ℕ → ℕ
 keyAt i = 512 + 4 * i
 
--- its body: payload 8 bytes, the value's set 32, the mark 32
+abbrev pub keyName : ℕ
+keyName = 2
+
+abbrev pub keySize : ℕ
+keySize = 4
+
+-- its body: the record of its value, 48 bytes, and its mark, 32
 abbrev pub bodyAt : ℕ → ℕ
-bodyAt i = 2560 + 72 * i
+bodyAt i = 2560 + 80 * i
+
+abbrev pub bodySize : ℕ
+bodySize = 80
+
+abbrev pub bodyMark : ℕ
+bodyMark = 48
 
 -- where the slots end, and the trail stands: 32 bytes
 abbrev pub trailAt : ℕ
-trailAt = 39424
+trailAt = 43520
 
 -- the record of name k: its chain's head 2 bytes, definition's place 2, class 1, built-in 1, parent's scope number 2
 abbrev pub recordAt : ℕ → ℕ
-recordAt k = 39456 + 8 * k
+recordAt k = 43552 + 8 * k
+
+abbrev pub nameDefinition : ℕ
+nameDefinition = 2
+
+abbrev pub nameClass : ℕ
+nameClass = 4
+
+abbrev pub nameBuiltIn : ℕ
+nameBuiltIn = 5
+
+abbrev pub nameParent : ℕ
+nameParent = 6
+
+abbrev pub nameSize : ℕ
+nameSize = 8
 
 -- the link of slot i: 2 bytes
 abbrev pub linkAt : ℕ → ℕ
-linkAt i = 47648 + 2 * i
+linkAt i = 51744 + 2 * i
 
--- from here on the bytes belong to others
-abbrev pub restAt : ℕ
-restAt = 48672
+-- sixteen words of 2 bytes, which belong to others
+abbrev pub wordsAt : ℕ
+wordsAt = 52768
+
+-- from here on nothing is kept
+abbrev pub freeAt : ℕ
+freeAt = 52800
 
 -- ---- What is read there
 
@@ -53,16 +85,10 @@ table n f blank i = pick (ltb i n) (f i) blank
 unfoldable pub putAt : {A : Type 0} → ℕ → A → (ℕ → A) → ℕ → A
 putAt i x f = λ j. pick (eqb j i) x (f j)
 
-unfoldable pub setAt : List ℕ → ℕ → Labels
-setAt w p = labelsFrom (bytesAt w p 32)
-
-unfoldable pub wordAt : List ℕ → ℕ → ℕ
-wordAt w p = number (bytesAt w p 8) 0
-
 -- ---- Chains: a slot is found from its name
 
 abbrev pub nameIn : List ℕ → ℕ → ℕ
-nameIn w i = two w (keyAt i + 2)
+nameIn w i = two w (keyAt i + keyName)
 
 -- where the link of slot p stands; that of 512 is the head of the name's chain
 unfoldable pub placeAt : (name p : ℕ) → ℕ
@@ -87,15 +113,15 @@ pub record LastAbove (w : List ℕ) (name j p : ℕ) : Type 0 where
 
 -- ---- Slots
 
--- reached: whether the chain of its name has the slot. state: 0 never used; 1 in use without a value; 2, 3, 4 in use with an integer, a string, a boolean; 5 freed
+-- reached: whether the chain of its name has the slot. state: 0 never used, 1 in use, 5 freed
 pub data Slot : Type 0 where
-  slot : (reached : Bool) → (state scope name payload : ℕ) → (set mark : Labels) → Slot
+  slot : (reached : Bool) → (state scope name : ℕ) → (content : Option Labelled) → (mark : Labels) → Slot
 
 unfoldable pub blankSlot : Slot
-blankSlot = slot false 0 0 0 0 noLabels noLabels
+blankSlot = slot false 0 0 0 none noLabels
 
 unfoldable pub slotAt : List ℕ → ℕ → Slot
-slotAt w i = slot (chained w (nameIn w i) i) (byte w (stateAt i)) (two w (keyAt i)) (nameIn w i) (wordAt w (bodyAt i)) (setAt w (bodyAt i + 8)) (setAt w (bodyAt i + 40))
+slotAt w i = slot (chained w (nameIn w i) i) (byte w (stateAt i)) (two w (keyAt i)) (nameIn w i) (recordIn w (bodyAt i)) (setAt w (bodyAt i + bodyMark))
 
 unfoldable pub slotsOf : List ℕ → ℕ → Slot
 slotsOf w = table 512 (slotAt w) blankSlot
@@ -113,13 +139,14 @@ unfoldable pub blankRecord : NameRecord
 blankRecord = nameRecord 0 0 0 0
 
 unfoldable pub nameAt : List ℕ → ℕ → NameRecord
-nameAt w k = nameRecord (two w (recordAt k + 2)) (byte w (recordAt k + 4)) (byte w (recordAt k + 5)) (two w (recordAt k + 6))
+nameAt w k = nameRecord (two w (recordAt k + nameDefinition)) (byte w (recordAt k + nameClass)) (byte w (recordAt k + nameBuiltIn)) (two w (recordAt k + nameParent))
 
 unfoldable pub recordsOf : List ℕ → ℕ → NameRecord
 recordsOf w = table 1024 (nameAt w) blankRecord
 
+-- the bytes of others: the words and what follows them
 unfoldable pub restOf : List ℕ → List ℕ
-restOf w = drop restAt w
+restOf w = drop wordsAt w
 
 -- all that a store at a slot leaves as it is
 pub record Beside : Type 0 where

@@ -1,37 +1,18 @@
 -- Slots: what one holds, what a store makes of it, and searches among the 512.
-use Prim.Native.Nat.{ℕ, zero, suc, _%_, _≤_, _<_}
+use Prim.Native.Nat.{ℕ, zero, suc, _≤_, _<_}
 use mathlib.Core.Path.{_≡_}
 use mathlib.Core.Bool.{Bool, true, false, not}
 use mathlib.Core.List.{List}
 use mathlib.Core.Option.{Option, none, some}
-use lib.Dec.{eqb, ltb}
+use lib.Dec.{eqb}
 use Rattle.labels.specs.declared.Labels.{Labels}
 use Rattle.labels.specs.Sets.{noLabels}
-use Rattle.values.specs.declared.Value.{Value}
-use Rattle.values.specs.declared.Value.the-variants.{Integer, String, Boolean}
 use Rattle.values.specs.declared.Labelled.{Labelled}
 use Rattle.wire.specs.Bytes.{pick}
-use Rattle.wire.specs.Numbers.{signed64, word64}
-use Rattle.rules.specs.State.{Cell, oneIf}
+use Rattle.rules.specs.State.{Cell}
 use Rattle.cells.specs.declared.Found.{Found}
 use Rattle.cells.specs.declared.Found.the-variants.{At, Nothing}
 use Rattle.cells.specs.Layout.{Slot, slot, slotsOf, Beside, besideSlots, putAt}
-
--- ---- Values
-
--- the state of a slot that holds a value, and its payload
-unfoldable pub kindOf : Value → ℕ
-kindOf (Integer z) = 2
-kindOf (String n) = 3
-kindOf (Boolean b) = 4
-
-unfoldable pub payloadOf : Value → ℕ
-payloadOf (Integer z) = word64 z
-payloadOf (String n) = n
-payloadOf (Boolean b) = oneIf b
-
-unfoldable pub valueFrom : (state payload : ℕ) → Value
-valueFrom t p = pick (eqb t 2) (Integer (signed64 p)) (pick (eqb t 3) (String (p % 65536)) (Boolean (eqb p 1)))
 
 -- ---- What a slot holds
 
@@ -39,29 +20,26 @@ unfoldable pub usedState : (state : ℕ) → Bool
 usedState t = pick (eqb t 0) false (not (eqb t 5))
 
 unfoldable pub inUse : Slot → Bool
-inUse (slot r t s n p a m) = usedState t
+inUse (slot r t s n c m) = usedState t
 
 unfoldable pub neverUsed : Slot → Bool
-neverUsed (slot r t s n p a m) = eqb t 0
+neverUsed (slot r t s n c m) = eqb t 0
 
 unfoldable pub isReached : Slot → Bool
-isReached (slot r t s n p a m) = r
+isReached (slot r t s n c m) = r
 
 -- reached, and in use for this scope number and name; in use for this scope number
 unfoldable pub hit : (scope name : ℕ) → Slot → Bool
-hit s n (slot r t s′ n′ p a m) = pick (eqb s′ s) (pick (eqb n′ n) (pick r (usedState t) false) false) false
+hit s n (slot r t s′ n′ c m) = pick (eqb s′ s) (pick (eqb n′ n) (pick r (usedState t) false) false) false
 
 unfoldable pub ofScope : (scope : ℕ) → Slot → Bool
-ofScope s (slot r t s′ n p a m) = pick (eqb s′ s) (usedState t) false
-
-abbrev pub labelled : Value → Labels → Labelled
-labelled v a = record { value = v; labels = a }
+ofScope s (slot r t s′ n c m) = pick (eqb s′ s) (usedState t) false
 
 unfoldable pub valueIn : Slot → Option Labelled
-valueIn (slot r t s n p a m) = pick (ltb 1 t) (some (labelled (valueFrom t p) a)) none
+valueIn (slot r t s n c m) = c
 
 unfoldable pub markIn : Slot → Labels
-markIn (slot r t s n p a m) = m
+markIn (slot r t s n c m) = m
 
 abbrev pub cellIn : Slot → Cell
 cellIn x = record { exists = inUse x; value = valueIn x; mark = markIn x }
@@ -70,22 +48,22 @@ cellIn x = record { exists = inUse x; value = valueIn x; mark = markIn x }
 
 -- out of its chain; into the chain of a name
 unfoldable pub takenOut : Slot → Slot
-takenOut (slot r t s n p a m) = slot false t s n p a m
+takenOut (slot r t s n c m) = slot false t s n c m
 
 unfoldable pub putIn : (name : ℕ) → Slot → Slot
-putIn n (slot r t s n′ p a m) = slot true t s n p a m
+putIn n (slot r t s n′ c m) = slot true t s n c m
 
 unfoldable pub claimed : (scope name : ℕ) → Slot → Slot
-claimed s n (slot r t s′ n′ p a m) = slot true 1 s n p a noLabels
+claimed s n (slot r t s′ n′ c m) = slot true 1 s n none noLabels
 
 unfoldable pub filled : Labelled → Slot → Slot
-filled x (slot r t s n p a m) = slot r (kindOf (x .value)) s n (payloadOf (x .value)) (x .labels) m
+filled x (slot r t s n c m) = slot r t s n (some x) m
 
 unfoldable pub marked : Labels → Slot → Slot
-marked k (slot r t s n p a m) = slot r t s n p a k
+marked k (slot r t s n c m) = slot r t s n c k
 
 unfoldable pub emptied : Slot → Slot
-emptied (slot r t s n p a m) = slot r 5 s n p a m
+emptied (slot r t s n c m) = slot r 5 s n c m
 
 unfoldable pub freedSlot : (scope : ℕ) → Slot → Slot
 freedSlot s x = pick (ofScope s x) (emptied x) x

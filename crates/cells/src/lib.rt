@@ -1,42 +1,43 @@
 // The cells of the working memory: 512 slots in lent bytes. Contracts speak of the definition's state, which the bytes stand for (specs/Memory.antt).
 ghost use mathlib.Core.Path.{_≡_};
-ghost use mathlib.Core.Bool.{true, false};
+ghost use mathlib.Core.Bool.{false};
 ghost use Prim.Native.Nat.{_+_, _≤_, _<_};
 ghost use lib.ListN.{length};
-ghost use Rattle.labels.specs.Bytes.{labelBytes};
+ghost use Rattle.labels.specs.Bytes.{setAt};
 ghost use Rattle.wire.specs.Numbers.{highBytes};
 ghost use Rattle.wire.specs.Runs.{over};
-ghost use Rattle.rules.specs.State.{free};
+ghost use Rattle.records.specs.Record.{heldOf};
+ghost use Rattle.rules.specs.State.{free, isSome};
 ghost use Rattle.rules.specs.State as state;
-ghost use Rattle.cells.specs.Layout.{bodyAt, slotsOf, besideSlots, setAt, wordAt, placeAt, linkIn, nextIn, LastAbove};
+ghost use Rattle.cells.specs.Layout.{bodyAt, bodyMark, slotsOf, besideSlots, placeAt, linkIn, nextIn, LastAbove};
 ghost use Rattle.cells.specs.Scopes.{scopeOf};
-ghost use Rattle.cells.specs.Slots.{kindOf, payloadOf, valueFrom, usedState, isReached, ofScope, valueIn, takenOut, putIn, claimed, filled, marked, freedSlot, StoresAt, slotFor, freeSlot, obtained};
+ghost use Rattle.cells.specs.Slots.{usedState, isReached, ofScope, valueIn, takenOut, putIn, claimed, filled, marked, freedSlot, StoresAt, slotFor, freeSlot, obtained};
 ghost use Rattle.cells.specs.Slots as slots;
-ghost use Rattle.cells.specs.Memory.{heldOf, seenOf, cellsOf, Fine, Becomes, Answers, markOne};
+ghost use Rattle.cells.specs.Memory.{seenOf, cellsOf, Fine, Becomes, Answers, markOne};
+use crate::layout::BODIES;
+use crate::layout::BODY_MARK;
+use crate::layout::BODY_SIZE;
+use crate::layout::KEY_NAME;
+use crate::layout::KEY_SIZE;
+use crate::layout::KEYS;
+use crate::layout::LINK_SIZE;
+use crate::layout::LINKS;
+use crate::layout::NAME_SIZE;
+use crate::layout::NAMES;
+use crate::layout::SLOTS;
 use labels::Labels;
+use records::Held;
 use values::Labelled;
-use values::Value;
 
-// The state of a slot that was freed; that of one never used is 0.
+pub mod layout; // layout.rt: where everything stands
+
+// The state of a slot that was freed; that of one never used is 0, and of one in use 1.
 const FREED: u8 = 5;
-
-const KEYS: usize = 512;
-
-const BODIES: usize = 2560;
-
-const NAMES: usize = 39456;
-
-const LINKS: usize = 47648;
 
 // What a search among the slots finds.
 pub enum Found {
     At(usize),
     Nothing,
-}
-
-pub enum Held {
-    Empty,
-    Holds(Labelled),
 }
 
 // What a cell holds: nothing, too, where there is none.
@@ -52,45 +53,29 @@ pub enum Stored {
     NoRoom,
 }
 
-// ---- Label sets in bytes
-
-pub fn labels_at(work: &[u8], p: usize) -> Labels
-    requires { ⌜ p + 32 ≤ length (now work) ⌝ }
-    ensures { λ r. ⌜ r ≡ setAt (now (work .entry)) p ⌝ }
-{
-    Labels::from_slice(&work[p..])
-}
-
-pub fn put_labels(work: &mut [u8], p: usize, set: Labels)
-    requires { ⌜ p + 32 ≤ length (now work) ⌝ }
-    ensures { λ _. ⌜ now (work .exit) ≡ over (now (work .entry)) p (labelBytes set) ⌝ }
-{
-    set.to_slice(&mut work[p..]);
-}
-
 // ---- Chains: the slots of one name, by falling numbers. A reference is one more than a slot's number, or 0
 
 // The reference at slot p; at 512, the head of the name's chain.
 fn link_of(work: &[u8], name: u16, p: usize) -> u16
     ensures { λ r. ⌜ r ≡ linkIn (now (work .entry)) name p ⌝ }
 {
-    if p < 512 {
-        return wire::two_at(work, LINKS + 2 * p);
+    if p < SLOTS {
+        return wire::two_at(work, LINKS + LINK_SIZE * p);
     }
     if 1024 <= name {
         return 0;
     }
-    wire::two_at(work, NAMES + 8 * name as usize)
+    wire::two_at(work, NAMES + NAME_SIZE * name as usize)
 }
 
 fn put_link(work: &mut [u8], name: u16, p: usize, next: u16)
     ensures { λ _. ⌜ now (work .exit) ≡ over (now (work .entry)) (placeAt name p) (highBytes 2 next) ⌝ }
 {
-    if p < 512 {
-        wire::put_two(work, LINKS + 2 * p, next);
+    if p < SLOTS {
+        wire::put_two(work, LINKS + LINK_SIZE * p, next);
         return;
     }
-    wire::put_two(work, NAMES + 8 * name as usize, next);
+    wire::put_two(work, NAMES + NAME_SIZE * name as usize, next);
 }
 
 // What follows slot p in the chain of a name: a reference that does not fall, or leads to another name, is none.
@@ -106,7 +91,7 @@ fn next_of(work: &[u8], name: u16, p: usize) -> u16
     if p <= i {
         return 0;
     }
-    if wire::two_at(work, KEYS + 4 * i + 2) != name {
+    if wire::two_at(work, KEYS + KEY_SIZE * i + KEY_NAME) != name {
         return 0;
     }
     next
@@ -117,8 +102,8 @@ fn last_above(work: &[u8], name: u16, j: usize) -> usize
     requires { ⌜ j < 512 ⌝ }
     ensures { λ r. ⌜ LastAbove (now (work .entry)) name j r ⌝ }
 {
-    let mut p = 512;
-    let mut next = next_of(work, name, 512);
+    let mut p = SLOTS;
+    let mut next = next_of(work, name, SLOTS);
     while j + 1 < next as usize {
         p = next as usize - 1;
         next = next_of(work, name, p);
@@ -142,11 +127,11 @@ fn in_scope(work: &[u8], i: usize, scope: u16) -> bool
     requires { ⌜ (i < 512) × (65536 ≤ length (now work)) ⌝ }
     ensures { λ r. ⌜ r ≡ ofScope scope (slotsOf (now (work .entry)) i) ⌝ }
 {
-    let low = KEYS + 4 * i + 1;
+    let low = KEYS + KEY_SIZE * i + 1;
     if work[low] != (scope % 256) as u8 {
         return false;
     }
-    if wire::two_at(work, KEYS + 4 * i) != scope {
+    if wire::two_at(work, KEYS + KEY_SIZE * i) != scope {
         return false;
     }
     is_used(wire::byte_at(work, i))
@@ -156,7 +141,7 @@ fn find(work: &[u8], scope: u16, name: u16) -> Found
     requires { ⌜ 65536 ≤ length (now work) ⌝ }
     ensures { λ r. ⌜ r ≡ slotFor (slotsOf (now (work .entry))) scope name ⌝ }
 {
-    let mut next = next_of(work, name, 512);
+    let mut next = next_of(work, name, SLOTS);
     while next != 0 {
         let i = next as usize - 1;
         if in_scope(work, i, scope) {
@@ -172,7 +157,7 @@ fn find_free(work: &[u8]) -> Found
     ensures { λ r. ⌜ r ≡ freeSlot (slotsOf (now (work .entry))) ⌝ }
 {
     let mut i = 0;
-    while i < 512 {
+    while i < SLOTS {
         if !is_used(work[i]) {
             return Found::At(i);
         }
@@ -183,38 +168,25 @@ fn find_free(work: &[u8]) -> Found
 
 // ---- Reads
 
-pub fn value_at(work: &[u8], state: u8, body: usize) -> Value
-    ensures { λ r. ⌜ r ≡ valueFrom state (wordAt (now (work .entry)) body) ⌝ }
-{
-    if state == 2 {
-        return Value::Integer(wire::signed_at(work, body));
-    }
-    let payload = wire::number_at(work, body);
-    if state == 3 {
-        return Value::String((payload % 65536) as u16);
-    }
-    Value::Boolean(payload == 1)
-}
-
 fn held_at(work: &[u8], i: usize) -> Held
-    requires { ⌜ (i < 512) × (65536 ≤ length (now work)) ⌝ }
+    requires { ⌜ i < 512 ⌝ }
     ensures { λ r. ⌜ r ≡ heldOf (valueIn (slotsOf (now (work .entry)) i)) ⌝ }
 {
-    let state = wire::byte_at(work, i);
-    if state <= 1 {
-        return Held::Empty;
-    }
-    let body = BODIES + 72 * i;
-    let value = value_at(work, state, body);
-    let labels = labels_at(work, body + 8);
-    Held::Holds(Labelled { value, labels })
+    records::record_at(work, BODIES + BODY_SIZE * i)
+}
+
+fn has_value(work: &[u8], i: usize) -> bool
+    requires { ⌜ i < 512 ⌝ }
+    ensures { λ r. ⌜ r ≡ isSome (valueIn (slotsOf (now (work .entry)) i)) ⌝ }
+{
+    !records::is_empty(work, BODIES + BODY_SIZE * i)
 }
 
 fn mark_at(work: &[u8], i: usize) -> Labels
     requires { ⌜ (i < 512) × (65536 ≤ length (now work)) ⌝ }
-    ensures { λ r. ⌜ r ≡ setAt (now (work .entry)) (bodyAt i + 40) ⌝ }
+    ensures { λ r. ⌜ r ≡ setAt (now (work .entry)) (bodyAt i + bodyMark) ⌝ }
 {
-    labels_at(work, BODIES + 72 * i + 40)
+    Labels::read_at(work, BODIES + BODY_SIZE * i + BODY_MARK)
 }
 
 // What the cell of a scope and a name holds.
@@ -240,7 +212,7 @@ fn take_out(work: &mut [u8], j: usize)
     requires { ⌜ (j < 512) × (65536 ≤ length (now work)) ⌝ }
     ensures { λ _. ⌜ StoresAt j takenOut (now (work .entry)) (now (work .exit)) ⌝ }
 {
-    let name = wire::two_at(work, KEYS + 4 * j + 2);
+    let name = wire::two_at(work, KEYS + KEY_SIZE * j + KEY_NAME);
     let p = last_above(work, name, j);
     if next_of(work, name, p) as usize != j + 1 {
         return;
@@ -256,7 +228,7 @@ fn put_in(work: &mut [u8], j: usize, name: u16)
     let p = last_above(work, name, j);
     let next = next_of(work, name, p);
     put_link(work, name, j, next);
-    wire::put_two(work, KEYS + 4 * j + 2, name);
+    wire::put_two(work, KEYS + KEY_SIZE * j + KEY_NAME, name);
     put_link(work, name, p, (j + 1) as u16);
 }
 
@@ -266,48 +238,24 @@ fn claim(work: &mut [u8], j: usize, scope: u16, name: u16)
 {
     take_out(work, j);
     wire::put_byte(work, j, 1);
-    wire::put_two(work, KEYS + 4 * j, scope);
-    put_labels(work, BODIES + 72 * j + 40, Labels::EMPTY);
+    wire::put_two(work, KEYS + KEY_SIZE * j, scope);
+    records::empty_record(work, BODIES + BODY_SIZE * j);
+    Labels::EMPTY.write_at(work, BODIES + BODY_SIZE * j + BODY_MARK);
     put_in(work, j, name);
-}
-
-pub fn kind_of(value: Value) -> u8
-    ensures { λ r. ⌜ r ≡ kindOf value ⌝ }
-{
-    match value {
-        Value::Integer(_) => 2,
-        Value::String(_) => 3,
-        Value::Boolean(_) => 4,
-    }
-}
-
-pub fn put_payload(work: &mut [u8], body: usize, value: Value)
-    ensures { λ _. ⌜ now (work .exit) ≡ over (now (work .entry)) body (highBytes 8 (payloadOf value)) ⌝ }
-{
-    match value {
-        Value::Integer(z) => wire::put_signed(work, body, z),
-        Value::String(n) => wire::put_number(work, body, n as u64, 8),
-        Value::Boolean(b) => wire::put_number(work, body, b as u64, 8),
-    }
 }
 
 fn put_value(work: &mut [u8], i: usize, x: Labelled)
     requires { ⌜ (i < 512) × (65536 ≤ length (now work)) ⌝ }
     ensures { λ _. ⌜ StoresAt i (filled x) (now (work .entry)) (now (work .exit)) ⌝ }
 {
-    let body = BODIES + 72 * i;
-    let value = x.value;
-    let labels = x.labels;
-    wire::put_byte(work, i, kind_of(value));
-    put_payload(work, body, value);
-    put_labels(work, body + 8, labels);
+    records::put_record(work, BODIES + BODY_SIZE * i, x);
 }
 
 fn put_mark(work: &mut [u8], i: usize, mark: Labels)
     requires { ⌜ (i < 512) × (65536 ≤ length (now work)) ⌝ }
     ensures { λ _. ⌜ StoresAt i (marked mark) (now (work .entry)) (now (work .exit)) ⌝ }
 {
-    put_labels(work, BODIES + 72 * i + 40, mark);
+    mark.write_at(work, BODIES + BODY_SIZE * i + BODY_MARK);
 }
 
 // The slot of a key, claimed if there is none; Nothing where all are in use.
@@ -337,7 +285,7 @@ pub fn assign(work: &mut [u8], scope: u16, name: u16, x: Labelled) -> Stored
     let Found::At(i) = obtain(work, scope, name) else {
         return Stored::NoRoom;
     };
-    if 1 < wire::byte_at(work, i) {
+    if has_value(work, i) {
         return Stored::HasValue;
     }
     put_value(work, i, x);
@@ -374,7 +322,7 @@ pub fn free_scope(work: &mut [u8], scope: u16)
     ensures { λ _. ⌜ Becomes (now (work .entry)) (now (work .exit)) (free (scopeOf scope)) (λ ns. ns) ⌝ }
 {
     let mut i = 0;
-    while i < 512 {
+    while i < SLOTS {
         if wire::byte_at(work, i) == 0 {
             return;
         }

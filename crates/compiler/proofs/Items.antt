@@ -10,7 +10,8 @@ use lib.Dec.{eqb}
 use lib.ListN.{length}
 use borrow.Author.Tests.{ne-eqb, eq-eqb}
 use Rattle.labels.specs.Sets.{noLabels}
-use Rattle.values.specs.declared.Reason.{Reason}
+use Rattle.values.specs.declared.Refusal.{Refusal}
+use Rattle.values.specs.Refusals.{refusalAt}
 use Rattle.values.specs.declared.Reason.the-variants.{DefinedAgain}
 use Rattle.wire.specs.Bytes.{byte, two, endOf, fieldsIn}
 use Rattle.rules.specs.Format.{allowed}
@@ -36,15 +37,14 @@ use Rattle.syntax.specs.Nodes.{itemPlaces, nodeFor, runsAt, running}
 use Rattle.syntax.proofs.NodesRead.{items-for}
 use Rattle.syntax.proofs.NamesKnown.{known-after, items-known}
 use Rattle.wire.proofs.Fields.{no-fields, field-first}
-use Rattle.cells.specs.Scopes.{scopeOf}
 use Rattle.cells.specs.Memory.{baseFor, stateOf}
 use Rattle.catalog.specs.Finding.{Written}
 use Rattle.evaluator.specs.Known.{KnownIn}
 use Rattle.evaluator.proofs.Names.{ready-first}
-use Rattle.resources.specs.declared.Ran.{Ran}
-use Rattle.resources.specs.declared.Ran.the-variants.{Done, Refused}
+use Rattle.resources.specs.declared.Filled.{Filled}
+use Rattle.resources.specs.declared.Filled.the-variants.{Done, Refused}
 use Rattle.declarations.specs.Standing.{NamesKnown}
-use Rattle.execution.specs.Executed.{Able, Stage, stateWith, Here, Ends, refusedSo as endsRefused, doneSo as endsDone, AbleAfter, Executes, begun}
+use Rattle.execution.specs.Executed.{Able, Stage, stateWith, Ends, refusedSo as endsRefused, doneSo as endsDone, AbleAfter, Executes, begun}
 use Rattle.definitions.specs.Prepared.{Prepares, NodeBlock}
 use Rattle.definitions.specs.Defined.{ItemStands, IsDefinition, Defines}
 use Rattle.definitions.proofs.Definitions.{definition-there}
@@ -64,7 +64,7 @@ chosen-none p e = rw e refl
 -- ---- define
 
 module _ (m : List ℕ) (p : ℕ) (w : List ℕ) (fill : ℕ) {t : Bool} (told : (k : Known) → KnownIn m w k → t ≡ isTaken k (two m (p + 3))) where
-  pub defines-again : (w′ : List ℕ) {q : ℕ} → q ≡ p → t ≡ true → DefinedSo m p w w′ fill (Refused DefinedAgain q)
+  pub defines-again : (w′ : List ℕ) {why : Refusal} → why ≡ refusalAt DefinedAgain p → t ≡ true → DefinedSo m p w w′ fill (Refused why)
   defines-again w′ e h = rw e (takenSo (λ k i. sym (told k i) ∙ h))
 
   pub defines : (w′ : List ℕ) → t ≡ false → Defines m p w w′ → DefinedSo m p w w′ fill (Done fill)
@@ -100,12 +100,12 @@ statement-kind t e a b c = rw (ne-eqb t 0x30 a, ne-eqb t 0x32 b, ne-eqb t 0x34 c
 -- ---- What comes after an item
 
 module _ {m w out : List ℕ} {left : ℕ} {c : Option ℕ} {ps : List ℕ} {k : Known} {o : Outcome State} where
-  then-items : {a : Ran} → Ends m w out left k o a → ItemsEnd m w out left c ps (o >>= λ st. runPlaces m c ps k st) a
+  then-items : {a : Filled} → Ends m w out left k o a → ItemsEnd m w out left c ps (o >>= λ st. runPlaces m c ps k st) a
   unfolding _>>=_
   then-items (endsRefused e) = refusedSo (ap (λ (x : Outcome State). x >>= λ st. runPlaces m c ps k st) e)
   then-items (endsDone es e s) = goesOn k es (ap (λ (x : Outcome State). x >>= λ st. runPlaces m c ps k st) e) s
 
-items-same : {m w out : List ℕ} {left : ℕ} {c : Option ℕ} {ps : List ℕ} {o o′ : Outcome State} {a : Ran} → o ≡ o′ → ItemsEnd m w out left c ps o′ a → ItemsEnd m w out left c ps o a
+items-same : {m w out : List ℕ} {left : ℕ} {c : Option ℕ} {ps : List ℕ} {o o′ : Outcome State} {a : Filled} → o ≡ o′ → ItemsEnd m w out left c ps o′ a → ItemsEnd m w out left c ps o a
 items-same e i = rw e i
 
 -- ---- run_item
@@ -132,14 +132,6 @@ not-false : (b : Bool) → not b ≡ false → b ≡ true
 not-false true e = refl
 not-false false e = false-not-true (sym e)
 
-top-here : Here 0 false noLabels topContext
-unfolding topContext scopeOf baseFor
-top-here = record { scope = refl; base = refl; path = refl }
-
-node-here : Here 1 true noLabels nodeContext
-unfolding nodeContext scopeOf baseFor
-node-here = record { scope = refl; base = refl; path = refl }
-
 -- what stands at p, by the tag read there
 module _ (m : List ℕ) (p : ℕ) (s : ItemStands m p) {t : ℕ} (read : t ≡ byte m p) where
   pub stands-statement : (t ≡ 0x30 → ⊥) → ((t ≡ 0x32) ⊎ (t ≡ 0x34) → ⊥) → StandsAs m 32 StatementKind p
@@ -158,15 +150,15 @@ module _ (m : List ℕ) (p : ℕ) (c : Option ℕ) (w out : List ℕ) (fill left
     says = λ k es i. goesOn k es (passed-over m p c ps k (stateWith w out fill left es) (node-runs m p c (sym read ∙ e) ∙ sym told ∙ not-true _ h)) i;
   }
 
-  pub runs-node : (w′ out′ : List ℕ) {left′ block : ℕ} {b : Bool} {a : Ran} → t ≡ 0x30 → b ≡ isChosen c p → not b ≡ false → NodeBlock m p block → Executes m w w′ out out′ fill left left′ (Here 1 true noLabels) a (λ k. runBlock k (declaration k 17) (blockAt m 31 block)) → (ps : List ℕ) → RunsTo m w w′ out out′ fill left left′ c (p ∷ ps) ps a
+  pub runs-node : (w′ out′ : List ℕ) {left′ block : ℕ} {b : Bool} {a : Filled} → t ≡ 0x30 → b ≡ isChosen c p → not b ≡ false → NodeBlock m p block → Executes m w w′ out out′ fill left left′ nodeContext a (λ k. runBlock k (declaration k 17) (blockAt m 31 block)) → (ps : List ℕ) → RunsTo m w w′ out out′ fill left left′ c (p ∷ ps) ps a
   unfolding runItems runAtTop runPlaces
   runs-node w′ out′ e told h n x ps = record {
     able = x .able;
     steps = x .steps;
-    says = λ k es i. items-same (runs-here m p c ps k (stateWith w out fill left es) (node-runs m p c (sym read ∙ e) ∙ sym told ∙ not-false _ h) (n .tree)) (then-items (x .says k nodeContext es i node-here));
+    says = λ k es i. items-same (runs-here m p c ps k (stateWith w out fill left es) (node-runs m p c (sym read ∙ e) ∙ sym told ∙ not-false _ h) (n .tree)) (then-items (x .says k es i));
   }
 
-  pub runs-statement : (w′ out′ : List ℕ) {left′ : ℕ} {a : Ran} → (t ≡ 0x30 → ⊥) → ((t ≡ 0x32) ⊎ (t ≡ 0x34) → ⊥) → Executes m w w′ out out′ fill left left′ (Here 0 false noLabels) a (begun 17 p (statementAt m 32 p)) → (ps : List ℕ) → RunsTo m w w′ out out′ fill left left′ c (p ∷ ps) ps a
+  pub runs-statement : (w′ out′ : List ℕ) {left′ : ℕ} {a : Filled} → (t ≡ 0x30 → ⊥) → ((t ≡ 0x32) ⊎ (t ≡ 0x34) → ⊥) → Executes m w w′ out out′ fill left left′ topContext a (begun 17 p (statementAt m 32 p)) → (ps : List ℕ) → RunsTo m w w′ out out′ fill left left′ c (p ∷ ps) ps a
   unfolding runItems runPlaces
   runs-statement w′ out′ x y e ps = record {
     able = e .able;
@@ -175,7 +167,7 @@ module _ (m : List ℕ) (p : ℕ) (c : Option ℕ) (w out : List ℕ) (fill left
         let st : State = stateWith w out fill left es in
         let here = runs-here m p c ps k st (other-runs m p c (λ h. x (read ∙ h))) (statement-item (stands-statement m p s read x y)) in
         let itself = alone k (statementAt m 32 p) p topContext st (statement-place m 32 p) in
-        items-same (here ∙ ap (λ (o : Outcome State). o >>= λ st′. runPlaces m c ps k st′) itself) (then-items (e .says k topContext es i top-here));
+        items-same (here ∙ ap (λ (o : Outcome State). o >>= λ st′. runPlaces m c ps k st′) itself) (then-items (e .says k es i));
   }
 
 -- a definition
@@ -200,7 +192,7 @@ module _ (m : List ℕ) (p : ℕ) (c : Option ℕ) (w out : List ℕ) (fill left
     title = unfold withDefinition in x .title ∙ i .title;
   }
 
-  pub runs-definition : (w′ : List ℕ) {a : Ran} → (t ≡ 0x32) ⊎ (t ≡ 0x34) → DefinedSo m p w w′ fill a → (ps : List ℕ) → RunsTo m w w′ out out fill left left c (p ∷ ps) ps a
+  pub runs-definition : (w′ : List ℕ) {a : Filled} → (t ≡ 0x32) ⊎ (t ≡ 0x34) → DefinedSo m p w w′ fill a → (ps : List ℕ) → RunsTo m w w′ out out fill left left c (p ∷ ps) ps a
   unfolding AbleAfter runPlaces
   runs-definition w′ tag (takenSo taken) ps =
       let i = is-definition m p s read tag in
@@ -234,7 +226,7 @@ module _ (m : List ℕ) (p : ℕ) (c : Option ℕ) (w out : List ℕ) (fill left
 
 module _ {m w₀ w w′ out₀ out out′ : List ℕ} {f₀ l₀ f l l′ : ℕ} {c : Option ℕ} {before between after : List ℕ} where
   -- one run after the other
-  and-then : {a : Ran} → RunsTo m w₀ w out₀ out f₀ l₀ l c before between (Done f) → RunsTo m w w′ out out′ f l l′ c between after a → RunsTo m w₀ w′ out₀ out′ f₀ l₀ l′ c before after a
+  and-then : {a : Filled} → RunsTo m w₀ w out₀ out f₀ l₀ l c before between (Done f) → RunsTo m w w′ out out′ f l l′ c between after a → RunsTo m w₀ w′ out₀ out′ f₀ l₀ l′ c before after a
   and-then {a} x y = record { able = y .able; steps = let i = x .steps in let j = y .steps in omega arith; says = λ k es i. go (x .says k es i) }
     where
       go : {o : Outcome State} → ItemsEnd m w out l c between o (Done f) → ItemsEnd m w′ out′ l′ c after o a
@@ -267,7 +259,7 @@ module _ {m w₀ w out₀ out : List ℕ} {l₀ l f : ℕ} {c : Option ℕ} {p :
   pub still-able : Able m w out f
   still-able = unfold AbleAfter in so .runs .able
 
-  module _ (w′ out′ : List ℕ) {l′ : ℕ} {a : Ran} (here : p < length m) (x : (ps : List ℕ) → RunsTo m w w′ out out′ f l l′ c (p ∷ ps) ps a) where
+  module _ (w′ out′ : List ℕ) {l′ : ℕ} {a : Filled} (here : p < length m) (x : (ps : List ℕ) → RunsTo m w w′ out out′ f l l′ c (p ∷ ps) ps a) where
     this-one : RunsTo m w₀ w′ out₀ out′ 0 l₀ l′ c (itemPlaces m) (fieldsIn m (endOf m p) (length m)) a
     this-one = and-then (so .runs) (rw (field-first m p (length m) here) (x (fieldsIn m (endOf m p) (length m))))
 
@@ -284,11 +276,11 @@ module _ {m w₀ w out₀ out : List ℕ} {l₀ l f : ℕ} {c : Option ℕ} {p :
           runs = rw told at this-one;
         })
 
-    pub items-refuse : {r : Reason} {q : ℕ} → a ≡ Refused r q → RunsTo m w₀ w′ out₀ out′ 0 l₀ l′ c (itemPlaces m) [] a
+    pub items-refuse : {why : Refusal} → a ≡ Refused why → RunsTo m w₀ w′ out₀ out′ 0 l₀ l′ c (itemPlaces m) [] a
     unfolding AbleAfter
-    items-refuse {r} {q} told = rw told (record { able = tt; steps = this-one .steps; says = λ k es i. go (rw told at (this-one .says k es i)) })
+    items-refuse {why} told = rw told (record { able = tt; steps = this-one .steps; says = λ k es i. go (rw told at (this-one .says k es i)) })
       where
-        go : {o : Outcome State} → ItemsEnd m w′ out′ l′ c (fieldsIn m (endOf m p) (length m)) o (Refused r q) → ItemsEnd m w′ out′ l′ c [] o (Refused r q)
+        go : {o : Outcome State} → ItemsEnd m w′ out′ l′ c (fieldsIn m (endOf m p) (length m)) o (Refused why) → ItemsEnd m w′ out′ l′ c [] o (Refused why)
         go (refusedSo e) = refusedSo e
 
   pub items-done : length m ≤ p → RunsTo m w₀ w out₀ out 0 l₀ l c (itemPlaces m) [] (Done f)
@@ -333,10 +325,10 @@ module _ (m device w out : List ℕ) (left : ℕ) (sound : check m ≡ Sound) (r
   unfolding runManifest runPlaces
   whole-run e = rw (items-for m device sound, items-read m (running m (nodeFor m device) (itemPlaces m)), e, chosen-found (nodeFor m device), first-state) refl
 
-  pub manifest-runs : (w′ out′ : List ℕ) {left′ : ℕ} {n : Found} {a : Ran} → n ≡ foundOf (nodeFor m device) → RunsTo m w w′ out out′ 0 left left′ (chosenOf n) (itemPlaces m) [] a → RunsManifest m device out out′ left left′ a
+  pub manifest-runs : (w′ out′ : List ℕ) {left′ : ℕ} {n : Found} {a : Filled} → n ≡ foundOf (nodeFor m device) → RunsTo m w w′ out out′ 0 left left′ (chosenOf n) (itemPlaces m) [] a → RunsManifest m device out out′ left left′ a
   manifest-runs w′ out′ {left′} {n} e x = record { steps = x .steps; ends = go (x .able) (whole-run e) (x .says (knownFirst (manifestOf m .strings)) [] first-stage) }
     where
-      go : {a : Ran} {o o′ : Outcome State} → AbleAfter m w′ out′ a → o′ ≡ o → ItemsEnd m w′ out′ left′ (chosenOf n) [] o a → RunEnds out′ left′ o′ a
+      go : {a : Filled} {o o′ : Outcome State} → AbleAfter m w′ out′ a → o′ ≡ o → ItemsEnd m w′ out′ left′ (chosenOf n) [] o a → RunEnds out′ left′ o′ a
       go able same (refusedSo h) = specs.refusedSo (same ∙ h)
       go able same (goesOn {f = f} k es h i) =
           let st : State = stateWith w′ out′ f left′ es in

@@ -7,29 +7,29 @@ use lib.ListN.{length}
 use Rattle.values.specs.declared.Answer.{Answer}
 use Rattle.values.specs.Numbers.{said}
 use Rattle.wire.specs.Runs.{zeros}
-use Rattle.rules.specs.Compile.{Effect, memoryAfter, compile}
+use Rattle.rules.specs.Compile.{Effect, memoryOf, compile}
 use Rattle.rules.proofs.Computing.{Seen, seen}
 use Rattle.rules.proofs.Cases.{expects, gives, Each, noRow, also, Holds, table-holds}
 use Rattle.rules.proofs.Rows.{Row}
 use Rattle.rules.proofs.Rows
-use Rattle.compiler.specs.Compiled.{Compiles}
+use Rattle.compiler.specs.Compiled.{Leaves}
 
 -- what every call on a row's manifest, device and limit answers and leaves, if the bytes lent are as long as the row says: the answer and the
 -- output that the row expects, byte for byte, and a memory of zeros
 pub record Meets (r : Row) : Type 0 where
-  pub call : {out out′ work work′ : List ℕ} {a : Answer} → length out ≡ r .output → length work ≡ r .memory → Compiles (r .manifest) (r .device) (r .limit) out out′ work work′ a
+  pub call : {out out′ work work′ : List ℕ} {a : Answer} → length out ≡ r .output → length work ≡ r .memory → Leaves (r .manifest) (r .device) (r .limit) out out′ work work′ a
       → (said a ≡ expects r .answer) × (out′ ≡ expects r .output) × (work′ ≡ zeros (r .memory))
 
 seen-answer : (m device : List ℕ) (limit output memory : ℕ) → said (compile m device limit output memory .answer) ≡ seen m device limit output memory .answer
 unfolding seen
 seen-answer m device limit output memory = refl
 
-seen-output : (m device : List ℕ) (limit output memory : ℕ) → compile m device limit output memory .output ≡ seen m device limit output memory .output
+seen-output : (m device : List ℕ) (limit output memory : ℕ) → compile m device limit output memory .outputAfter ≡ seen m device limit output memory .output
 unfolding seen
 seen-output m device limit output memory = refl
 
-module _ (r : Row) (holds : Holds r) {out out′ work work′ : List ℕ} {a : Answer} (o : length out ≡ r .output) (w : length work ≡ r .memory) (c : Compiles (r .manifest) (r .device) (r .limit) out out′ work work′ a) where
-  effect : record { answer = a; output = out′; memory = work′ } ≡ compile (r .manifest) (r .device) (r .limit) (r .output) (r .memory)
+module _ (r : Row) (holds : Holds r) {out out′ work work′ : List ℕ} {a : Answer} (o : length out ≡ r .output) (w : length work ≡ r .memory) (c : Leaves (r .manifest) (r .device) (r .limit) out out′ work work′ a) where
+  effect : record { answer = a; outputAfter = out′; memoryAfter = work′ } ≡ compile (r .manifest) (r .device) (r .limit) (r .output) (r .memory)
   effect = c .effect ∙ λ i. compile (r .manifest) (r .device) (r .limit) (o i) (w i)
 
   answered : said a ≡ expects r .answer
@@ -38,11 +38,11 @@ module _ (r : Row) (holds : Holds r) {out out′ work work′ : List ℕ} {a : A
 
   written : out′ ≡ expects r .output
   unfolding gives
-  written = ap (λ (e : Effect). e .output) effect ∙ seen-output (r .manifest) (r .device) (r .limit) (r .output) (r .memory) ∙ ap (λ (s : Seen). s .output) holds
+  written = ap (λ (e : Effect). e .outputAfter) effect ∙ seen-output (r .manifest) (r .device) (r .limit) (r .output) (r .memory) ∙ ap (λ (s : Seen). s .output) holds
 
   zeroed : work′ ≡ zeros (r .memory)
-  unfolding compile memoryAfter zeros
-  zeroed = ap (λ (e : Effect). e .memory) effect
+  unfolding compile memoryOf zeros
+  zeroed = ap (λ (e : Effect). e .memoryAfter) effect
 
 meets : (r : Row) → Holds r → Meets r
 meets r h = record { call = λ o w c. (answered r h o w c, written r h o w c, zeroed r h o w c) }

@@ -7,6 +7,7 @@ use lib.ListN.{length, replicate}
 use lib.Seq.{length-take-le}
 use borrow.Author.Tests.{lt-ltb, le-ltb}
 use Rattle.values.specs.declared.Reason.{Reason}
+use Rattle.values.specs.declared.Refusal.{Refusal}
 use Rattle.values.specs.declared.Reason.the-variants.{MemoryTooShort}
 use Rattle.values.specs.declared.Answer.{Answer}
 use Rattle.values.specs.declared.Answer.the-variants.{Catalog, Refused}
@@ -15,7 +16,7 @@ use Rattle.rules.specs.Outcome.{Outcome, refused, done, _>>=_, refuseIf}
 use Rattle.rules.specs.State.{State}
 use Rattle.rules.specs.Read.{manifestOf}
 use Rattle.rules.specs.Catalog.{catalogBytes}
-use Rattle.rules.specs.Compile.{roomIn, runManifest, checked, finalState, entriesInOrder, Compiled, compiledFrom, compiled, answerOf, outputAfter, memoryAfter, compile}
+use Rattle.rules.specs.Compile.{roomIn, runManifest, checked, finalState, entriesInOrder, Compiled, compiledFrom, compiled, answerOf, outputOf, memoryOf, compile}
 use Rattle.rules.specs.declared.Verdict.{Verdict}
 use Rattle.rules.specs.declared.Verdict.the-variants.{Sound, Fault}
 use Rattle.syntax.specs.Before.{before}
@@ -23,9 +24,10 @@ use Rattle.syntax.proofs.Whole.{before-the-run}
 use Rattle.catalog.specs.Making.{clearedFrom}
 use Rattle.catalog.specs.Finding.{Written}
 use Rattle.catalog.proofs.Growing.{cleared-after, cleared-all}
-use Rattle.resources.specs.declared.Ran.{Ran}
-use Rattle.resources.specs.declared.Ran.the-variants.{Done, Refused as RanRefused}
-use Rattle.compiler.specs.Compiled.{Compiles}
+use Rattle.evaluator.specs.Answers.{refusedBy}
+use Rattle.resources.specs.declared.Filled.{Filled}
+use Rattle.resources.specs.declared.Filled.the-variants.{Done, Refused as NotRun}
+use Rattle.compiler.specs.Compiled.{Leaves}
 use Rattle.compiler.specs.Running.{RunEnds, refusedSo, doneSo}
 
 -- ---- The final state, by what is found before the run
@@ -55,24 +57,24 @@ module _ (m device : List ℕ) (limit : ℕ) (out work : List ℕ) where
   compiled-done e = rw e refl
 
   module _ (out₁ out′ work′ : List ℕ) {n : ℕ} (o : length out₁ ≡ length out) (mem : n ≡ length work) (cleared : work′ ≡ zeros n) where
-    zero-memory : work′ ≡ memoryAfter (length work)
-    unfolding memoryAfter zeros
+    zero-memory : work′ ≡ memoryOf (length work)
+    unfolding memoryOf zeros
     zero-memory = cleared ∙ ap (λ (n : ℕ). replicate n 0) mem
 
     -- the three parts make the whole
-    all-three : {o : Outcome Compiled} {a : Answer} → compiled m device limit (length out) (length work) ≡ o → a ≡ answerOf o → out′ ≡ outputAfter (length out) o → Compiles m device limit out out′ work work′ a
+    all-three : {o : Outcome Compiled} {a : Answer} → compiled m device limit (length out) (length work) ≡ o → a ≡ answerOf o → out′ ≡ outputOf (length out) o → Leaves m device limit out out′ work work′ a
     unfolding compile
     all-three {o} {a} e answer output =
         let answer′ : a ≡ answerOf (compiled m device limit (length out) (length work)) = answer ∙ ap answerOf (sym e) in
-        let output′ : out′ ≡ outputAfter (length out) (compiled m device limit (length out) (length work)) = output ∙ ap (outputAfter (length out)) (sym e) in
-        record { effect = λ i. record { answer = answer′ i; output = output′ i; memory = zero-memory i } }
+        let output′ : out′ ≡ outputOf (length out) (compiled m device limit (length out) (length work)) = output ∙ ap (outputOf (length out)) (sym e) in
+        record { effect = λ i. record { answer = answer′ i; outputAfter = output′ i; memoryAfter = zero-memory i } }
 
-    pub refuses : {r : Reason} {p : ℕ} {a : Answer} → finalState m device limit (length out) (length work) ≡ refused r p → a ≡ Refused r p → out′ ≡ clearedFrom 0 out₁ → Compiles m device limit out out′ work work′ a
-    unfolding answerOf outputAfter
+    pub refuses : {why : Refusal} {a : Answer} → finalState m device limit (length out) (length work) ≡ refusedBy why → a ≡ Refused (why .reason) (why .place) → out′ ≡ clearedFrom 0 out₁ → Leaves m device limit out out′ work work′ a
+    unfolding answerOf outputOf
     refuses e told zero = all-three (compiled-refused e) told (zero ∙ cleared-all out₁ ∙ ap (λ (n : ℕ). replicate n 0) o)
 
-    pub accepts : {st : State} {f left : ℕ} → finalState m device limit (length out) (length work) ≡ done st → st .stepsLeft ≡ left → Written out₁ f (entriesInOrder st) → f ≤ length out₁ → out′ ≡ clearedFrom f out₁ → Compiles m device limit out out′ work work′ (Catalog f (limit - left))
-    unfolding answerOf outputAfter compiledFrom
+    pub accepts : {st : State} {f left : ℕ} → finalState m device limit (length out) (length work) ≡ done st → st .stepsLeft ≡ left → Written out₁ f (entriesInOrder st) → f ≤ length out₁ → out′ ≡ clearedFrom f out₁ → Leaves m device limit out out′ work work′ (Catalog f (limit - left))
+    unfolding answerOf outputOf compiledFrom
     accepts {st} {f} {left} e steps written within rest =
         let bytes : List ℕ = catalogBytes (entriesInOrder st) in
         let size : f ≡ length bytes = sym (length-take-le f out₁ within) ∙ ap length (written .bytes) in
@@ -90,7 +92,7 @@ pub record Ended (out : List ℕ) (left f : ℕ) (o : Outcome State) : Type 0 wh
   pub within : f ≤ length out
   pub short : f ≤ 65535
 
-module _ {out : List ℕ} {left : ℕ} {o : Outcome State} {a : Ran} (x : RunEnds out left o a) where
+module _ {out : List ℕ} {left : ℕ} {o : Outcome State} {a : Filled} (x : RunEnds out left o a) where
   pub run-done : {f : ℕ} → a ≡ Done f → Ended out left f o
   unfolding roomIn
   run-done {f} e = go (rw e at x)
@@ -98,8 +100,8 @@ module _ {out : List ℕ} {left : ℕ} {o : Outcome State} {a : Ran} (x : RunEnd
       go : RunEnds out left o (Done f) → Ended out left f o
       go (doneSo st h steps written room) = record { state = st; same = h; steps = steps; written = written; within = unfold roomIn in omega arith; short = unfold roomIn in omega arith }
 
-  pub run-refused : {r : Reason} {p : ℕ} → a ≡ RanRefused r p → o ≡ refused r p
-  run-refused {r} {p} e = go (rw e at x)
+  pub run-refused : {why : Refusal} → a ≡ NotRun why → o ≡ refusedBy why
+  run-refused {why} e = go (rw e at x)
     where
-      go : RunEnds out left o (RanRefused r p) → o ≡ refused r p
+      go : RunEnds out left o (NotRun why) → o ≡ refusedBy why
       go (refusedSo h) = h

@@ -5,7 +5,13 @@ use mathlib.Core.List.{List}
 use lib.ListN.{length}
 use Rattle.values.specs.declared.Answer.{Answer}
 use Rattle.rules.specs.Compile.{compile}
+use Rattle.rules.specs.EditRule.{IsBytes}
 
 -- the answer and all bytes lent are those of the definition, for this manifest, device and limit
-pub record Compiles (manifest device : List ℕ) (limit : ℕ) (output output′ memory memory′ : List ℕ) (answer : Answer) : Type 0 where
-  pub effect : record { answer = answer; output = output′; memory = memory′ } ≡ compile manifest device limit (length output) (length memory)
+pub record Leaves (manifest device : List ℕ) (limit : ℕ) (outputBefore outputAfter memoryBefore memoryAfter : List ℕ) (answer : Answer) : Type 0 where
+  pub effect : record { answer = answer; outputAfter = outputAfter; memoryAfter = memoryAfter } ≡ compile manifest device limit (length outputBefore) (length memoryBefore)
+
+-- what a call of `compile` is: its manifest is a byte string, as whatever a slice of bytes holds, and it leaves what the definition says
+pub record Compiles (manifest device : List ℕ) (limit : ℕ) (outputBefore outputAfter memoryBefore memoryAfter : List ℕ) (answer : Answer) : Type 0 where
+  pub bytes : IsBytes manifest
+  pub leaves : Leaves manifest device limit outputBefore outputAfter memoryBefore memoryAfter answer

@@ -7,9 +7,10 @@ use mathlib.Core.Option.{Option, none, some}
 use lib.Dec.{eqb}
 use lib.ListN.{length}
 use Rattle.wire.specs.Bytes.{two}
-use Rattle.values.specs.declared.Reason.{Reason}
+use Rattle.values.specs.declared.Refusal.{Refusal}
+use Rattle.values.specs.Refusals.{refusalAt}
 use Rattle.values.specs.declared.Reason.the-variants.{DefinedAgain}
-use Rattle.rules.specs.Outcome.{Outcome, refused, done}
+use Rattle.rules.specs.Outcome.{Outcome, done}
 use Rattle.rules.specs.State.{Entry, State, Known}
 use Rattle.rules.specs.Run.{isTaken, runItems}
 use Rattle.rules.specs.Read.{manifestOf}
@@ -19,9 +20,10 @@ use Rattle.syntax.specs.declared.Found.{Found}
 use Rattle.syntax.specs.declared.Found.the-variants.{At, Nothing}
 use Rattle.syntax.specs.Nodes.{running}
 use Rattle.catalog.specs.Finding.{Written}
+use Rattle.evaluator.specs.Answers.{refusedBy}
 use Rattle.evaluator.specs.Known.{KnownIn}
-use Rattle.resources.specs.declared.Ran.{Ran}
-use Rattle.resources.specs.declared.Ran.the-variants.{Done, Refused}
+use Rattle.resources.specs.declared.Filled.{Filled}
+use Rattle.resources.specs.declared.Filled.the-variants.{Done, Refused}
 use Rattle.execution.specs.Executed.{Stage, stateWith, AbleAfter}
 use Rattle.definitions.specs.Defined.{Defines}
 
@@ -37,8 +39,8 @@ isChosen none p = false
 isChosen (some q) p = eqb p q
 
 -- the definition at p: its name is taken, or from w to w′ it becomes known
-pub data DefinedSo (m : List ℕ) (p : ℕ) (w w′ : List ℕ) (fill : ℕ) : Ran → Type 0 where
-  takenSo : ((k : Known) → KnownIn m w k → isTaken k (two m (p + 3)) ≡ true) → DefinedSo m p w w′ fill (Refused DefinedAgain p)
+pub data DefinedSo (m : List ℕ) (p : ℕ) (w w′ : List ℕ) (fill : ℕ) : Filled → Type 0 where
+  takenSo : ((k : Known) → KnownIn m w k → isTaken k (two m (p + 3)) ≡ true) → DefinedSo m p w w′ fill (Refused (refusalAt DefinedAgain p))
   knownSo : ((k : Known) → KnownIn m w k → isTaken k (two m (p + 3)) ≡ false) → Defines m p w w′ → DefinedSo m p w w′ fill (Done fill)
 
 -- ---- Items in order
@@ -48,12 +50,12 @@ unfoldable pub runPlaces : List ℕ → (c : Option ℕ) → (places : List ℕ)
 runPlaces m c ps k st = runItems k (itemsAt m (running m c ps)) st
 
 -- the answer means the outcome o: its refusal; or it is what the items at the places given, which are left, make of what the bytes stand for
-pub data ItemsEnd (m w out : List ℕ) (left : ℕ) (c : Option ℕ) (ps : List ℕ) (o : Outcome State) : Ran → Type 0 where
-  refusedSo : {r : Reason} {p : ℕ} → o ≡ refused r p → ItemsEnd m w out left c ps o (Refused r p)
+pub data ItemsEnd (m w out : List ℕ) (left : ℕ) (c : Option ℕ) (ps : List ℕ) (o : Outcome State) : Filled → Type 0 where
+  refusedSo : {why : Refusal} → o ≡ refusedBy why → ItemsEnd m w out left c ps o (Refused why)
   goesOn : {f : ℕ} (k : Known) (es : List Entry) → o ≡ runPlaces m c ps k (stateWith w out f left es) → Stage m w out f k es → ItemsEnd m w out left c ps o (Done f)
 
 -- of the items at `from` those at `to` are left
-pub record RunsTo (m w w′ out out′ : List ℕ) (fill left left′ : ℕ) (c : Option ℕ) (from to : List ℕ) (answer : Ran) : Type 0 where
+pub record RunsTo (m w w′ out out′ : List ℕ) (fill left left′ : ℕ) (c : Option ℕ) (from to : List ℕ) (answer : Filled) : Type 0 where
   pub able : AbleAfter m w′ out′ answer
   pub steps : left′ ≤ left
   pub says : (k : Known) (es : List Entry) → Stage m w out fill k es → ItemsEnd m w′ out′ left′ c to (runPlaces m c from k (stateWith w out fill left es)) answer
@@ -61,10 +63,10 @@ pub record RunsTo (m w w′ out out′ : List ℕ) (fill left left′ : ℕ) (c 
 -- ---- The whole run
 
 -- the answer means the outcome o: its refusal; or the output holds its entries, and the steps left are its own
-pub data RunEnds (out : List ℕ) (left : ℕ) (o : Outcome State) : Ran → Type 0 where
-  refusedSo : {r : Reason} {p : ℕ} → o ≡ refused r p → RunEnds out left o (Refused r p)
+pub data RunEnds (out : List ℕ) (left : ℕ) (o : Outcome State) : Filled → Type 0 where
+  refusedSo : {why : Refusal} → o ≡ refusedBy why → RunEnds out left o (Refused why)
   doneSo : {f : ℕ} (st : State) → o ≡ done st → st .stepsLeft ≡ left → Written out f (entriesInOrder st) → f ≤ roomIn (length out) → RunEnds out left o (Done f)
 
-pub record RunsManifest (m device out out′ : List ℕ) (left left′ : ℕ) (answer : Ran) : Type 0 where
+pub record RunsManifest (m device out out′ : List ℕ) (left left′ : ℕ) (answer : Filled) : Type 0 where
   pub steps : left′ ≤ left
   pub ends : RunEnds out′ left′ (runManifest (manifestOf m) device left (length out)) answer

@@ -13,30 +13,29 @@ ghost use Rattle.catalog.specs.Making.{clearedFrom};
 ghost use Rattle.declarations.specs.Standing.{Set};
 ghost use Rattle.execution.specs.Executed.{Able};
 ghost use Rattle.definitions.specs.Defined.{ItemStands, IsDefinition};
-ghost use Rattle.compiler.specs.Compiled.{Compiles};
+ghost use Rattle.compiler.specs.Compiled.{Leaves, Compiles};
 ghost use Rattle.compiler.specs.Running.{chosenOf, isChosen, DefinedSo, RunsTo, RunsManifest};
 use labels::Labels;
-use resources::Ran;
+use memory::Context;
+use resources::Filled;
 use rules::Verdict;
 use syntax::Found;
 use values::Answer;
 use values::Reason;
+use values::Refusal;
 
 // ---- Items
 
 // The definition at p becomes known, unless its name is taken (8).
-fn define(m: &[u8], p: usize, work: &mut [u8], fill: usize) -> Ran
+fn define(m: &[u8], p: usize, work: &mut [u8], fill: usize) -> Filled
     requires { ⌜ Set (now m) (now work) × (ItemStands (now m) p × IsDefinition (now m) p) ⌝ }
     ensures { λ r. ⌜ DefinedSo (now (m .entry)) p (now (work .entry)) (now (work .exit)) fill r ⌝ }
 {
     if definitions::is_taken(m, p, work) {
-        return Ran::Refused {
-            reason: Reason::DefinedAgain,
-            place: p as u16,
-        };
+        return Filled::Refused(Refusal::at(Reason::DefinedAgain, p));
     }
     definitions::define(m, p, work);
-    Ran::Done(fill)
+    Filled::Done(fill)
 }
 
 // Whether the node at p is the one that runs.
@@ -58,37 +57,35 @@ fn run_item(
     out: &mut [u8],
     fill: usize,
     left: &mut u16,
-) -> Ran
+) -> Filled
     requires { ⌜ Able (now m) (now work) (now out) fill × ItemStands (now m) p ⌝ }
     ensures { λ r. ⌜ ((ps : List ℕ) → RunsTo (now (m .entry)) (now (work .entry)) (now (work .exit)) (now (out .entry)) (now (out .exit)) fill (now (left .entry)) (now (left .exit)) (chosenOf node) (p ∷ ps) ps r) ⌝ }
 {
     match wire::byte_at(m, p) {
         0x30 => {
             if !is_chosen(node, p) {
-                return Ran::Done(fill);
+                return Filled::Done(fill);
             }
             let block = definitions::node_block(m, p);
-            execution::run_block(
-                m,
-                31,
-                block,
-                work,
-                out,
-                fill,
-                left,
-                17,
-                1,
-                true,
-                Labels::EMPTY,
-            )
+            let here = Context {
+                scope: memory::NODE,
+                path: Labels::EMPTY,
+            };
+            execution::run_block(m, 31, block, work, out, fill, left, 17, here)
         }
         0x32 | 0x34 => define(m, p, work, fill),
-        _ => execution::run_statement(m, 32, p, work, out, fill, left, 17, 0, false, Labels::EMPTY),
+        _ => {
+            let here = Context {
+                scope: memory::TOP,
+                path: Labels::EMPTY,
+            };
+            execution::run_statement(m, 32, p, work, out, fill, left, 17, here)
+        }
     }
 }
 
 // "Items run in order."
-fn run_items(m: &[u8], node: Found, work: &mut [u8], out: &mut [u8], left: &mut u16) -> Ran
+fn run_items(m: &[u8], node: Found, work: &mut [u8], out: &mut [u8], left: &mut u16) -> Filled
     requires { ⌜ Able (now m) (now work) (now out) 0 × (check (now m) ≡ Sound) ⌝ }
     ensures { λ r. ⌜ RunsTo (now (m .entry)) (now (work .entry)) (now (work .exit)) (now (out .entry)) (now (out .exit)) 0 (now (left .entry)) (now (left .exit)) (chosenOf node) (itemPlaces (now (m .entry))) [] r ⌝ }
 {
@@ -96,17 +93,17 @@ fn run_items(m: &[u8], node: Found, work: &mut [u8], out: &mut [u8], left: &mut 
     let mut p = wire::end_of(m, 0);
     while p < m.len() {
         let r = run_item(m, node, p, work, out, filled, left);
-        let Ran::Done(more) = r else {
+        let Filled::Done(more) = r else {
             return r;
         };
         filled = more;
         p = wire::end_of(m, p);
     }
-    Ran::Done(filled)
+    Filled::Done(filled)
 }
 
 // A sound manifest, whatever the memory holds.
-fn run_manifest(m: &[u8], device: &[u8], out: &mut [u8], work: &mut [u8], left: &mut u16) -> Ran
+fn run_manifest(m: &[u8], device: &[u8], out: &mut [u8], work: &mut [u8], left: &mut u16) -> Filled
     requires { ⌜ ((check (now m) ≡ Sound) × (length (now m) ≤ 65535)) × (65536 ≤ length (now work)) ⌝ }
     ensures { λ r. ⌜ RunsManifest (now (m .entry)) (now (device .entry)) (now (out .entry)) (now (out .exit)) (now (left .entry)) (now (left .exit)) r ⌝ }
 {
@@ -118,24 +115,26 @@ fn run_manifest(m: &[u8], device: &[u8], out: &mut [u8], work: &mut [u8], left: 
 // ---- The whole
 
 // A refusal: "after a refusal the output and the working memory are zero throughout".
-fn refuse(reason: Reason, place: u16, out: &mut [u8], work: &mut [u8]) -> Answer
-    ensures { λ r. ⌜ (r ≡ Refused reason place) × ((now (out .exit) ≡ clearedFrom 0 (now (out .entry))) × (now (work .exit) ≡ zeros (length (now (work .entry))))) ⌝ }
+fn refuse(refusal: Refusal, out: &mut [u8], work: &mut [u8]) -> Answer
+    ensures { λ r. ⌜ (r ≡ Refused (refusal .reason) (refusal .place)) × ((now (out .exit) ≡ clearedFrom 0 (now (out .entry))) × (now (work .exit) ≡ zeros (length (now (work .entry))))) ⌝ }
 {
     memory::clear(work);
     catalog::clear_rest(out, 0);
+    let reason = refusal.reason;
+    let place = refusal.place;
     Answer::Refused { reason, place }
 }
 
 // A sound manifest, and the bytes lent cleared after it.
 fn run_checked(m: &[u8], device: &[u8], limit: u16, out: &mut [u8], work: &mut [u8]) -> Answer
     requires { ⌜ (65536 ≤ length (now work)) × (before (now m) ≡ Sound) ⌝ }
-    ensures { λ r. ⌜ Compiles (now (m .entry)) (now (device .entry)) limit (now (out .entry)) (now (out .exit)) (now (work .entry)) (now (work .exit)) r ⌝ }
+    ensures { λ r. ⌜ Leaves (now (m .entry)) (now (device .entry)) limit (now (out .entry)) (now (out .exit)) (now (work .entry)) (now (work .exit)) r ⌝ }
 {
     let mut left = limit;
     let r = run_manifest(m, device, out, work, &mut left);
     match r {
-        Ran::Refused { reason, place } => refuse(reason, place, out, work),
-        Ran::Done(filled) => {
+        Filled::Refused(refusal) => refuse(refusal, out, work),
+        Filled::Done(filled) => {
             memory::clear(work);
             catalog::clear_rest(out, filled);
             Answer::Catalog {
@@ -157,11 +156,11 @@ pub fn compile(
     ensures { λ r. ⌜ Compiles (now (manifest .entry)) (now (device .entry)) limit (now (out .entry)) (now (out .exit)) (now (work .entry)) (now (work .exit)) r ⌝ }
 {
     if work.len() < 65536 {
-        return refuse(Reason::MemoryTooShort, 0, out, work);
+        return refuse(Refusal::at(Reason::MemoryTooShort, 0), out, work);
     }
     let v = syntax::check_all(manifest);
     match v {
-        Verdict::Fault { reason, place } => refuse(reason, place as u16, out, work),
+        Verdict::Fault { reason, place } => refuse(Refusal::at(reason, place), out, work),
         Verdict::Sound => run_checked(manifest, device, limit, out, work),
     }
 }

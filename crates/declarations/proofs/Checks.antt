@@ -5,7 +5,7 @@ use mathlib.Core.List.{List}
 use mathlib.Core.Option.{Option, none, some}
 use native.Mathlib.Omega.{arith}
 use borrow.Author.Tests.{ne-eqb, eq-eqb}
-use Rattle.values.specs.declared.Reason.{Reason}
+use Rattle.values.specs.declared.Refusal.{Refusal}
 use Rattle.wire.specs.Bytes.{byte, fieldsIn}
 use Rattle.rules.specs.Outcome.{refused, done}
 use Rattle.rules.specs.Tree.{Parameter, TypeDefinition, ClassDefinition, typeDefinition, classDefinition, definition}
@@ -14,6 +14,7 @@ use Rattle.rules.specs.declared.Kind.the-variants.{Parameter as ParameterKind}
 use Rattle.places.specs.At.{itemAt, parametersAt, Siblings}
 use Rattle.cells.specs.Memory.{definitionOf}
 use Rattle.evaluator.specs.Known.{DefinedAt, undefined, typeAt, classAt}
+use Rattle.evaluator.specs.Answers.{refusedBy}
 use Rattle.statements.specs.declared.Ran.{Ran}
 use Rattle.statements.specs.declared.Ran.the-variants.{Done, Refused}
 use Rattle.attributes.specs.Names.{Alike}
@@ -66,6 +67,6 @@ pub checked-done : {ps : List Parameter} {gs : List Given} {c : Ran} → Checked
 checked-done (refusedSo e) is = absurd (let z : _≡_ {A = ℕ} 0 1 = cc in omega arith)
 checked-done (checkedSo vs e) is = record { values = vs; are = e }
 
-pub checked-refused : {ps : List Parameter} {gs : List Given} {c : Ran} {r : Reason} {p : ℕ} → Checked ps gs c → c ≡ Refused r p → checkGiven ps gs ≡ refused r p
+pub checked-refused : {ps : List Parameter} {gs : List Given} {c : Ran} {why : Refusal} → Checked ps gs c → c ≡ Refused why → checkGiven ps gs ≡ refusedBy why
 checked-refused (refusedSo e) is = cc
 checked-refused (checkedSo vs e) is = absurd (let z : _≡_ {A = ℕ} 0 1 = cc in omega arith)

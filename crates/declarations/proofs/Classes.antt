@@ -5,13 +5,13 @@ use mathlib.Core.Bool.{Bool, true, false, _&&_, false≢true}
 use mathlib.Core.List.{List, []}
 use mathlib.Core.Option.{Option, none, some}
 use borrow.Author.Tests.{eq-eqb, ne-eqb}
-use Rattle.labels.specs.declared.Labels.{Labels}
-use Rattle.values.specs.declared.Reason.{Reason}
+use Rattle.values.specs.declared.Refusal.{Refusal}
+use Rattle.values.specs.Refusals.{refusalAt}
 use Rattle.values.specs.declared.Reason.the-variants.{Unknown, DeclaredAgain}
 use Rattle.wire.specs.Bytes.{byte, two, endOf, fieldsIn}
 use Rattle.rules.specs.Outcome.{Outcome, done, _>>=_, refuseIf, orRefuse}
 use Rattle.rules.specs.Tree.{Parent, ClassDefinition, classDefinition, definition}
-use Rattle.rules.specs.State.{Base, baseScope, classScope, DeclaredClass, Entry, State, Context, Known, isDeclared, declared, oneIf}
+use Rattle.rules.specs.State.{Base, baseScope, classScope, DeclaredClass, Entry, State, Context, Known, isDeclared, markDeclared, oneIf}
 use Rattle.rules.specs.Evaluate.{findType, findClass}
 use Rattle.rules.specs.Run.{Given, parameterValues, storeAll, baseUnder, placedUnder, inClass}
 use Rattle.places.specs.At.{itemAt, parentAt, afterParentAt, parametersAt, blockAt}
@@ -19,6 +19,8 @@ use Rattle.places.proofs.Items.{class-definition-opens, parent-given, parent-no
 use Rattle.cells.specs.Scopes.{scopeOf}
 use Rattle.cells.specs.Memory.{baseFor, classesOf, stateOf, Becomes}
 use Rattle.cells.proofs.Scopes.{class-scope, top-scope, node-scope}
+use Rattle.memory.specs.declared.Context.{Context as Here}
+use Rattle.memory.specs.Contexts.{contextOf}
 use Rattle.memory.specs.Names.{placed, atNode}
 use Rattle.memory.proofs.Classes.{base-told}
 use Rattle.evaluator.specs.Known.{DefinedAt, KnownIn}
@@ -33,7 +35,7 @@ use Rattle.declarations.specs.declared.Found.the-variants.{Nothing}
 use Rattle.declarations.specs.declared.Class.the-variants.{At, Refused as NotFound}
 use Rattle.declarations.specs.declared.StartedClass.the-variants.{Body, Refused as NotStarted}
 use Rattle.declarations.specs.Standing.{definitionWith}
-use Rattle.declarations.specs.Classes.{checkClass, FoundStands, refusedSo, foundSo, ChecksClass, Entered, startClass, ParentSmall, scopeUnder, baseWith, classContext, startedAs, BodyStands, StartsClass}
+use Rattle.declarations.specs.Classes.{checkClass, FoundStands, refusedSo, foundSo, ChecksClass, Entered, startClass, ParentSmall, scopeUnder, baseWith, startedAs, BodyStands, StartsClass}
 use Rattle.declarations.proofs.Standing.{FoundAt, class-stands, classFrom, PartsAt}
 use Rattle.declarations.proofs.Checks.{class-missing, class-there, ChecksGiven, Values, checked-done, checked-refused}
 
@@ -107,13 +109,13 @@ module _ (w : List ℕ) (q : ℕ) {asked : Bool} where
 
 -- check_class
 module _ (m t w : List ℕ) (again : Bool) (p q first end : ℕ) where
-  pub class-unknown : {f : Found} → f ≡ definitionWith m w q 0x34 → f ≡ Nothing → ChecksClass m t w again p q first end (NotFound Unknown p)
+  pub class-unknown : {f : Found} {why : Refusal} → f ≡ definitionWith m w q 0x34 → f ≡ Nothing → why ≡ refusalAt Unknown p → ChecksClass m t w again p q first end (NotFound why)
   unfolding checkClass orRefuse _>>=_ FoundStands
-  class-unknown told is = record {
+  class-unknown {why = why} told is at-place = record {
     stands = tt;
     says = λ k es s r gs known gives alike.
         let none-there : findClass q (k .definitions) ≡ none = class-missing m w q told is (known .definitions q) in
-        refusedSo {r = Unknown} {p = p} (rw none-there refl);
+        refusedSo {why = why} (rw (at-place, none-there) refl);
   }
 
   module _ {d : ℕ} {b : Bool} (found : FoundAt m w q 0x34 d) (asked : (es : List Entry) (n r : ℕ) → b ≡ (again && isDeclared q (stateOf w es n r))) where
@@ -123,14 +125,14 @@ module _ (m t w : List ℕ) (again : Bool) (p q first end : ℕ) where
         let at : DefinedAt m d (findType q (k .definitions)) (findClass q (k .definitions)) = rw (found .place) (known .definitions q) in
         class-there (found .positive) (found .tag) tree at
 
-    pub class-again : b ≡ true → ChecksClass m t w again p q first end (NotFound DeclaredAgain p)
+    pub class-again : {why : Refusal} → b ≡ true → why ≡ refusalAt DeclaredAgain p → ChecksClass m t w again p q first end (NotFound why)
     unfolding checkClass orRefuse refuseIf _>>=_ FoundStands
-    class-again is = record {
+    class-again {why} is at-place = record {
       stands = tt;
       says = λ k es s r gs known gives alike.
           let o = class-definition-opens (found .stands .stands) (found .tag) in
           let there = class-found k known (o .tree) in
-          refusedSo {r = DeclaredAgain} {p = p} (rw (there, sym (asked es s r), is) refl);
+          refusedSo {why = why} (rw (at-place, there, sym (asked es s r), is) refl);
     }
 
     module _ {from to : ℕ} {c : Ran} (fresh : b ≡ false) (start : from ≡ afterParentAt m (d + 5)) (parts : PartsAt m d from to (classDefinition (classFrom m d to))) (checks : ChecksGiven m t first end from to c) where
@@ -138,12 +140,12 @@ module _ (m t w : List ℕ) (again : Bool) (p q first end : ℕ) where
       unfolding checkClass orRefuse refuseIf _>>=_
       check-known k es s r gs known = rw (class-found k known (parts .tree), sym (asked es s r), fresh, start) refl
 
-      pub class-unchecked : (r : Reason) (l : ℕ) → c ≡ Refused r l → ChecksClass m t w again p q first end (NotFound r l)
+      pub class-unchecked : (why : Refusal) → c ≡ Refused why → ChecksClass m t w again p q first end (NotFound why)
       unfolding _>>=_ FoundStands
-      class-unchecked reason l is = record {
+      class-unchecked why is = record {
         stands = tt;
         says = λ k es s r gs known gives alike.
-            refusedSo {r = reason} {p = l} (check-known k es s r gs known ∙ rw (checked-refused (checks gs gives alike (parts .laid .parameters) (parts .laid .small)) is) refl);
+            refusedSo {why = why} (check-known k es s r gs known ∙ rw (checked-refused (checks gs gives alike (parts .laid .parameters) (parts .laid .small)) is) refl);
       }
 
       pub class-checked : c ≡ Done → ChecksClass m t w again p q first end (At d)
@@ -158,54 +160,58 @@ module _ (m t w : List ℕ) (again : Bool) (p q first end : ℕ) where
 -- ---- Up to the body
 
 -- start_class
-module _ (m t w : List ℕ) (d : ℕ) (node : Bool) (path : Labels) {name : ℕ} (parent : ℕ) (base : Bool) {w₁ : List ℕ} (named : name ≡ two m (d + 3)) (small : two m (d + 3) < 1024)
-    (above : scopeOf parent ≡ scopeUnder (parentAt m (d + 5)) (baseFor node)) (based : baseFor base ≡ baseWith (parentAt m (d + 5)) (baseFor node) (classesOf w)) (marks : Becomes w w₁ (declared name (placed parent base)) (λ ns. ns)) where
-  placed-so : (c : Context) (es : List Entry) (s r : ℕ) → c .base ≡ baseFor node → placed parent base ≡ placedUnder (parentAt m (d + 5)) c (stateOf w es s r)
+module _ (m t w : List ℕ) (d : ℕ) (here : Here) {name : ℕ} (parent : ℕ) (base : Bool) {w₁ : List ℕ} (named : name ≡ two m (d + 3)) (small : two m (d + 3) < 1024)
+    (above : scopeOf parent ≡ scopeUnder (parentAt m (d + 5)) (contextOf here .base)) (based : baseFor base ≡ baseWith (parentAt m (d + 5)) (contextOf here .base) (classesOf w)) (marks : Becomes w w₁ (markDeclared name (placed parent base)) (λ ns. ns)) where
+  placed-so : (es : List Entry) (s r : ℕ) → placed parent base ≡ placedUnder (parentAt m (d + 5)) (contextOf here) (stateOf w es s r)
   unfolding placedUnder scopeUnder baseWith stateOf
-  placed-so c es s r at = go (parentAt m (d + 5)) above based
+  placed-so es s r = go (parentAt m (d + 5)) above based
     where
-      go : (o : Option Parent) → scopeOf parent ≡ scopeUnder o (baseFor node) → baseFor base ≡ baseWith o (baseFor node) (classesOf w) → placed parent base ≡ placedUnder o c (stateOf w es s r)
-      go none a b = λ i. record { parent = (a ∙ ap baseScope (sym at)) i; base = (b ∙ sym at) i }
-      go (some q) a b = λ i. record { parent = a i; base = (b ∙ ap (λ (x : Base). baseUnder x (classesOf w (q .name))) (sym at)) i }
+      go : (o : Option Parent) → scopeOf parent ≡ scopeUnder o (contextOf here .base) → baseFor base ≡ baseWith o (contextOf here .base) (classesOf w) → placed parent base ≡ placedUnder o (contextOf here) (stateOf w es s r)
+      go none a b = λ i. record { parent = a i; base = b i }
+      go (some q) a b = λ i. record { parent = a i; base = b i }
 
-  module _ {from to : ℕ} {a : Ran} {w₂ : List ℕ} (start : from ≡ afterParentAt m (d + 5)) (parts : PartsAt m d from to (classDefinition (classFrom m d to))) (stores : Assigns m t w₁ w₂ from to (2 + name) path a) where
+  -- where the body runs
+  abbrev inside : Here
+  inside = record { scope = record { number = 2 + name; «base_is_node» = base }; path = here .path }
+
+  module _ {from to : ℕ} {a : Ran} {w₂ : List ℕ} (start : from ≡ afterParentAt m (d + 5)) (parts : PartsAt m d from to (classDefinition (classFrom m d to))) (stores : Assigns m t w₁ w₂ from to inside a) where
     entered : State → Outcome Entered
-    entered st = done (record { body = blockAt m 31 to; here = classContext (two m (d + 3)) base path; state = st })
+    entered st = done (record { body = blockAt m 31 to; here = contextOf inside; state = st })
 
-    started : (c : Context) (es : List Entry) (s r : ℕ) (x : ClassDefinition) (gs vs : List Given) → itemAt m d ≡ definition (classDefinition x) → Gives t gs → parameterValues (x .parameters) gs ≡ done vs → c .base ≡ baseFor node → c .path ≡ path
-        → (ranAs a (stateOf w₂ es s r) >>= entered) ≡ startClass x vs c (stateOf w es s r)
+    started : (es : List Entry) (s r : ℕ) (x : ClassDefinition) (gs vs : List Given) → itemAt m d ≡ definition (classDefinition x) → Gives t gs → parameterValues (x .parameters) gs ≡ done vs
+        → (ranAs a (stateOf w₂ es s r) >>= entered) ≡ startClass x vs (contextOf here) (stateOf w es s r)
     unfolding startClass inClass entered
-    started c es s r x gs vs tree gives values at way =
+    started es s r x gs vs tree gives values =
         let st : State = stateOf w es s r in
         let q : ℕ = two m (d + 3) in
         let read = parts .tree in
         let same : classFrom m d to ≡ x = cc in
-        let p : DeclaredClass = placedUnder (parentAt m (d + 5)) c st in
-        let here : placed parent base ≡ p = placed-so c es s r at in
+        let p : DeclaredClass = placedUnder (parentAt m (d + 5)) (contextOf here) st in
+        let there : placed parent base ≡ p = placed-so es s r in
         let all : parameterValues (parametersAt m (fieldsIn m from to)) gs ≡ done vs = rw start (ap (λ (y : ClassDefinition). parameterValues (y .parameters) gs) same ∙ values) in
-        let scope : classScope q ≡ scopeOf (2 + name) = sym (ap (λ (n : ℕ). scopeOf (2 + n)) named ∙ class-scope q small) in
-        let stored = stores .does gs vs gives all .says (inClass q p c) es s r scope way in
-        let marked : stateOf w₁ es s r ≡ declared q p st = marks .state es s r ∙ ap₂ (λ (n : ℕ) (y : DeclaredClass). declared n y st) named here in
-        let context : classContext q base path ≡ inClass q p c = λ i. record { scope = classScope q; base = here i .base; path = sym way i } in
-        ap (λ (o : Outcome State). o >>= entered) (stored ∙ ap (storeAll (inClass q p c) vs) marked)
-        ∙ ap (λ (h : Context). storeAll (inClass q p c) vs (declared q p st) >>= λ st′. done (record { body = blockAt m 31 to; here = h; state = st′ })) context
-        ∙ ap (λ (y : ClassDefinition). startClass y vs c st) same
+        let scope : scopeOf (2 + name) ≡ classScope q = ap (λ (n : ℕ). scopeOf (2 + n)) named ∙ class-scope q small in
+        let context : contextOf inside ≡ inClass q p (contextOf here) = λ i. record { scope = scope i; base = there i .base; path = here .path } in
+        let stored = stores .does gs vs gives all .says es s r in
+        let marked : stateOf w₁ es s r ≡ markDeclared q p st = marks .state es s r ∙ ap₂ (λ (n : ℕ) (y : DeclaredClass). markDeclared n y st) named there in
+        ap (λ (o : Outcome State). o >>= entered) (stored ∙ ap₂ (λ (h : Context) (z : State). storeAll h vs z) context marked)
+        ∙ ap (λ (h : Context). storeAll (inClass q p (contextOf here)) vs (markDeclared q p st) >>= λ st′. done (record { body = blockAt m 31 to; here = h; state = st′ })) context
+        ∙ ap (λ (y : ClassDefinition). startClass y vs (contextOf here) st) same
 
     kept : Keeps w w₂
     kept = keeps-then (record { names = marks .names; rest = marks .rest; fine = marks .fine }) (stores .keeps)
 
-    pub class-stopped : (r : Reason) (l : ℕ) → a ≡ Refused r l → StartsClass m t w w₂ d node path (NotStarted r l)
+    pub class-stopped : (why : Refusal) → a ≡ Refused why → StartsClass m t w w₂ d here (NotStarted why)
     unfolding startedAs ranAs _>>=_ BodyStands entered
-    class-stopped reason l is = record {
+    class-stopped why is = record {
       stands = tt;
       keeps = kept;
-      says = λ c es s r x gs vs tree gives values at way. sym (ap (λ (b : Ran). ranAs b (stateOf w₂ es s r) >>= entered) is) ∙ started c es s r x gs vs tree gives values at way;
+      says = λ es s r x gs vs tree gives values. sym (ap (λ (b : Ran). ranAs b (stateOf w₂ es s r) >>= entered) is) ∙ started es s r x gs vs tree gives values;
     }
 
-    pub class-started : a ≡ Done → StartsClass m t w w₂ d node path (Body to base)
+    pub class-started : a ≡ Done → StartsClass m t w w₂ d here (Body to inside)
     unfolding startedAs ranAs _>>=_ BodyStands entered
     class-started is = record {
       stands = (parts .laid .body .block, parts .laid .known);
       keeps = kept;
-      says = λ c es s r x gs vs tree gives values at way. sym (ap (λ (b : Ran). ranAs b (stateOf w₂ es s r) >>= entered) is) ∙ started c es s r x gs vs tree gives values at way;
+      says = λ es s r x gs vs tree gives values. sym (ap (λ (b : Ran). ranAs b (stateOf w₂ es s r) >>= entered) is) ∙ started es s r x gs vs tree gives values;
     }

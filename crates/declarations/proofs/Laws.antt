@@ -10,7 +10,7 @@ use Rattle.values.specs.declared.Labelled.{Labelled}
 use Rattle.values.specs.declared.Reason.the-variants.{Unknown, DeclaredAgain}
 use Rattle.rules.specs.Outcome.{Outcome, refused, done, _>>=_, refuseIf, orRefuse}
 use Rattle.rules.specs.Tree.{Parameter, TypeDefinition, ClassDefinition}
-use Rattle.rules.specs.State.{State, Context, Known, bodyScope, isDeclared, declared, free}
+use Rattle.rules.specs.State.{State, Context, Known, bodyScope, isDeclared, markDeclared, free}
 use Rattle.rules.specs.Evaluate.{findType, findClass}
 use Rattle.rules.specs.Run.{Given, namedOnce, parametersKnown, parameterValues, storeTitle, storeAll, Declare, ofType, ofClass, included, runBlock, placedUnder, inClass, inBody, parentFirst, enterClass, declaration}
 use Rattle.cells.specs.Memory.{Names, definitionOf, namesOf}
@@ -53,7 +53,7 @@ class-then {B} k again p q gs st f = go (findClass q (k .definitions)) (again &&
 
 module _ (k : Known) (n : ℕ) (c : Context) (st : State) where
   pub type-runs : (p t : ℕ) (x : Labelled) (gs : List Given)
-      → declaration k (suc n) (ofType p t x gs) c st ≡ (startType k n p t x gs c st >>= λ e. runBlock k (declaration k n) (e .body) (inBody n c) (e .state) >>= λ st′. done (free (bodyScope n) st′))
+      → declaration k (suc n) (ofType p t x gs) c st ≡ (startType k p t x gs (inBody n c) st >>= λ e. runBlock k (declaration k n) (e .body) (inBody n c) (e .state) >>= λ st′. done (free (bodyScope n) st′))
   unfolding declaration startType orRefuse _>>=_
   type-runs p t x gs = go (findType t (k .definitions))
     where
@@ -114,7 +114,7 @@ module _ (k : Known) (n : ℕ) (c : Context) (st : State) where
 pub class-enters : (k : Known) (declare : Declare) (d : ClassDefinition) (vs : List Given) (c : Context) (st : State)
     → enterClass k declare d vs c st ≡ (startClass d vs c st >>= λ e. runBlock k declare (e .body) (e .here) (e .state))
 unfolding enterClass startClass _>>=_
-class-enters k declare d vs c st = go (storeAll here vs (declared (d .name) (placedUnder (d .parent) c st) st))
+class-enters k declare d vs c st = go (storeAll here vs (markDeclared (d .name) (placedUnder (d .parent) c st) st))
   where
     here : Context
     here = inClass (d .name) (placedUnder (d .parent) c st) c

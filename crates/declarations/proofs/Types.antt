@@ -3,19 +3,20 @@ use Prim.Native.Nat.{ℕ, _+_, _<_}
 use mathlib.Core.Path.{_≡_, refl, sym, ap, _∙_}
 use mathlib.Core.List.{List}
 use mathlib.Core.Option.{Option, none, some}
-use Rattle.labels.specs.declared.Labels.{Labels}
 use Rattle.values.specs.declared.Labelled.{Labelled}
-use Rattle.values.specs.declared.Reason.{Reason}
+use Rattle.values.specs.declared.Refusal.{Refusal}
+use Rattle.values.specs.Refusals.{refusalAt}
 use Rattle.values.specs.declared.Reason.the-variants.{Unknown}
 use Rattle.wire.specs.Bytes.{two, fieldsIn}
 use Rattle.rules.specs.Outcome.{Outcome, done, _>>=_, orRefuse}
 use Rattle.rules.specs.Tree.{typeDefinition}
-use Rattle.rules.specs.State.{Entry, State, Context, Known}
+use Rattle.rules.specs.State.{Entry, State, Known}
 use Rattle.rules.specs.Evaluate.{findType, findClass}
-use Rattle.rules.specs.Run.{Given, store, storeTitle, storeAll, inBody}
+use Rattle.rules.specs.Run.{Given, store, storeTitle, storeAll}
 use Rattle.places.specs.At.{parametersAt, blockAt}
 use Rattle.cells.specs.Memory.{stateOf}
-use Rattle.cells.proofs.Scopes.{body-scope}
+use Rattle.memory.specs.declared.Context.{Context as Here}
+use Rattle.memory.specs.Contexts.{contextOf}
 use Rattle.memory.specs.declared.TitleName.{TitleName}
 use Rattle.memory.specs.declared.TitleName.the-variants.{At as TitleAt, Nothing as NoTitle}
 use Rattle.memory.specs.Names.{titleOf, titleFound}
@@ -49,102 +50,102 @@ module _ (w : List ℕ) {t : TitleName} (told : titleFound t ≡ titleOf w) wher
   pub number-small : {n : ℕ} → t ≡ TitleAt n → n < 1024
   number-small {n} is = title-small w n (title-is is)
 
-  module _ {scope : ℕ} {path : Labels} (p : ℕ) (x : Labelled) where
-    pub title-nowhere : t ≡ NoTitle → Does w w scope path (ranAs Done) (λ c. storeTitle (titleOf w) c p x)
+  module _ {here : Here} (p : ℕ) (x : Labelled) where
+    pub title-nowhere : t ≡ NoTitle → Does w w here (ranAs Done) (λ c. storeTitle (titleOf w) c p x)
     unfolding titleFound storeTitle ranAs
-    title-nowhere is = record { says = λ c es n r here way. ap (λ (o : Option ℕ). storeTitle o c p x (stateOf w es n r)) (sym (ap titleFound is) ∙ told); keeps = keeps-same w }
+    title-nowhere is = record { says = λ es n r. ap (λ (o : Option ℕ). storeTitle o (contextOf here) p x (stateOf w es n r)) (sym (ap titleFound is) ∙ told); keeps = keeps-same w }
 
-    pub title-stored : {w′ : List ℕ} {n : ℕ} (a : Ran) → t ≡ TitleAt n → Does w w′ scope path (ranAs a) (λ c. store c p n x) → Does w w′ scope path (ranAs a) (λ c. storeTitle (titleOf w) c p x)
+    pub title-stored : {w′ : List ℕ} {n : ℕ} (a : Ran) → t ≡ TitleAt n → Does w w′ here (ranAs a) (λ c. store c p n x) → Does w w′ here (ranAs a) (λ c. storeTitle (titleOf w) c p x)
     unfolding storeTitle
-    title-stored a is d = record { says = λ c es n r here way. d .says c es n r here way ∙ ap (λ (o : Option ℕ). storeTitle o c p x (stateOf w es n r)) (sym (title-is is)); keeps = d .keeps }
+    title-stored a is d = record { says = λ es n r. d .says es n r ∙ ap (λ (o : Option ℕ). storeTitle o (contextOf here) p x (stateOf w es n r)) (sym (title-is is)); keeps = d .keeps }
 
 -- ---- The ways of `fill_scope`
 
-module _ {m t w w₁ : List ℕ} {p from to scope : ℕ} {x : Labelled} {path : Labels} {a : Ran} (d : Does w w₁ scope path (ranAs a) (λ c. storeTitle (titleOf w) c p x)) where
-  pub fill-stopped : (r : Reason) (q : ℕ) → a ≡ Refused r q → Fills m t w w₁ p from to scope x path (Refused r q)
+module _ {m t w w₁ : List ℕ} {p from to : ℕ} {x : Labelled} {here : Here} {a : Ran} (d : Does w w₁ here (ranAs a) (λ c. storeTitle (titleOf w) c p x)) where
+  pub fill-stopped : (why : Refusal) → a ≡ Refused why → Fills m t w w₁ p from to x here (Refused why)
   unfolding ranAs _>>=_
-  fill-stopped reason q is = record {
+  fill-stopped why is = record {
     keeps = d .keeps;
     does = λ gs vs gives values. record {
-      says = λ c es n r here way. ap (λ (o : Outcome State). o >>= λ st₁. storeAll c vs st₁) (sym (ap (λ (b : Ran). ranAs b (stateOf w₁ es n r)) is) ∙ d .says c es n r here way);
+      says = λ es n r. ap (λ (o : Outcome State). o >>= λ st₁. storeAll (contextOf here) vs st₁) (sym (ap (λ (b : Ran). ranAs b (stateOf w₁ es n r)) is) ∙ d .says es n r);
       keeps = d .keeps;
     };
   }
 
-  pub fill-stored : {w₂ : List ℕ} (b : Ran) → a ≡ Done → Assigns m t w₁ w₂ from to scope path b → Fills m t w w₂ p from to scope x path b
+  pub fill-stored : {w₂ : List ℕ} (b : Ran) → a ≡ Done → Assigns m t w₁ w₂ from to here b → Fills m t w w₂ p from to x here b
   unfolding ranAs _>>=_
   fill-stored b is i = record {
     keeps = keeps-then (d .keeps) (i .keeps);
     does = λ gs vs gives values. record {
-      says = λ c es n r here way.
-          i .does gs vs gives values .says c es n r here way
-          ∙ ap (λ (o : Outcome State). o >>= λ st₁. storeAll c vs st₁) (sym (ap (λ (b : Ran). ranAs b (stateOf w₁ es n r)) is) ∙ d .says c es n r here way);
+      says = λ es n r.
+          i .does gs vs gives values .says es n r
+          ∙ ap (λ (o : Outcome State). o >>= λ st₁. storeAll (contextOf here) vs st₁) (sym (ap (λ (b : Ran). ranAs b (stateOf w₁ es n r)) is) ∙ d .says es n r);
       keeps = keeps-then (d .keeps) (i .keeps);
     };
   }
 
 -- ---- The ways of `start_type`
 
-module _ (m t w : List ℕ) (n p first end : ℕ) (x : Labelled) (path : Labels) {name : ℕ} (named : name ≡ two m (p + 3)) where
-  pub type-unknown : {f : Found} → f ≡ definitionWith m w name 0x32 → f ≡ Nothing → StartsType m t w w n p first end x path (NotStarted Unknown p)
+module _ (m t w : List ℕ) (p first end : ℕ) (x : Labelled) (here : Here) {name : ℕ} (named : name ≡ two m (p + 3)) where
+  pub type-unknown : {f : Found} {why : Refusal} → f ≡ definitionWith m w name 0x32 → f ≡ Nothing → why ≡ refusalAt Unknown p → StartsType m t w w p first end x here (NotStarted why)
   unfolding startedAs startType orRefuse _>>=_ BodyStands
-  type-unknown {f} told is = record {
+  type-unknown {f} told is at-place = record {
     stands = tt;
     keeps = keeps-same w;
-    says = λ k c es s r gs known title gives alike way.
+    says = λ k es s r gs known title gives alike.
         let none-there : findType (two m (p + 3)) (k .definitions) ≡ none = type-missing m w (two m (p + 3)) (rw named at told) is (known .definitions (two m (p + 3))) in
-        rw none-there refl;
+        rw (at-place, none-there) refl;
   }
 
   module _ {d to : ℕ} {c : Ran} (found : FoundAt m w name 0x32 d) (parts : PartsAt m d (d + 5) to (typeDefinition (typeFrom m d to))) (checks : ChecksGiven m t first end (d + 5) to c) where
-    entered : Known → Context → State → List Given → Outcome Entered
-    entered k ctx st vs = storeTitle (k .title) (inBody n ctx) p x st >>= λ st₁. storeAll (inBody n ctx) vs st₁ >>= λ st₂. done (record { body = blockAt m 31 to; state = st₂ })
+    entered : Known → State → List Given → Outcome Entered
+    entered k st vs = storeTitle (k .title) (contextOf here) p x st >>= λ st₁. storeAll (contextOf here) vs st₁ >>= λ st₂. done (record { body = blockAt m 31 to; state = st₂ })
 
     -- the definition is the one that the code found
-    start-known : (k : Known) (ctx : Context) (st : State) (gs : List Given) → KnownIn m w k → startType k n p (two m (p + 3)) x gs ctx st ≡ (checkGiven (parametersAt m (fieldsIn m (d + 5) to)) gs >>= entered k ctx st)
+    start-known : (k : Known) (st : State) (gs : List Given) → KnownIn m w k → startType k p (two m (p + 3)) x gs (contextOf here) st ≡ (checkGiven (parametersAt m (fieldsIn m (d + 5) to)) gs >>= entered k st)
     unfolding startType orRefuse _>>=_ entered
-    start-known k ctx st gs known =
+    start-known k st gs known =
         let at : DefinedAt m d (findType name (k .definitions)) (findClass name (k .definitions)) = rw (found .place) (known .definitions name) in
         let there : findType name (k .definitions) ≡ some (typeFrom m d to) = type-there (found .positive) (found .tag) (parts .tree) at in
         rw (sym named, there) refl
 
-    pub type-unchecked : (r : Reason) (q : ℕ) → c ≡ Refused r q → StartsType m t w w n p first end x path (NotStarted r q)
+    pub type-unchecked : (why : Refusal) → c ≡ Refused why → StartsType m t w w p first end x here (NotStarted why)
     unfolding startedAs _>>=_ BodyStands
-    type-unchecked reason q is = record {
+    type-unchecked why is = record {
       stands = tt;
       keeps = keeps-same w;
-      says = λ k ctx es s r gs known title gives alike way.
-          sym (start-known k ctx (stateOf w es s r) gs known ∙ ap (λ (o : Outcome (List Given)). o >>= entered k ctx (stateOf w es s r)) (checked-refused (checks gs gives alike (parts .laid .parameters) (parts .laid .small)) is));
+      says = λ k es s r gs known title gives alike.
+          sym (start-known k (stateOf w es s r) gs known ∙ ap (λ (o : Outcome (List Given)). o >>= entered k (stateOf w es s r)) (checked-refused (checks gs gives alike (parts .laid .parameters) (parts .laid .small)) is));
     }
 
-    module _ {w′ : List ℕ} {a : Ran} (passed : c ≡ Done) (fills : Fills m t w w′ p (d + 5) to (1026 + n) x path a) where
+    module _ {w′ : List ℕ} {a : Ran} (passed : c ≡ Done) (fills : Fills m t w w′ p (d + 5) to x here a) where
       body : State → Outcome Entered
       body st = done (record { body = blockAt m 31 to; state = st })
 
-      started : (k : Known) (ctx : Context) (es : List Entry) (s r : ℕ) (gs : List Given) → KnownIn m w k → titleOf w ≡ k .title → Gives t gs → Alike m gs (fieldsIn m first end) → ctx .path ≡ path
-          → (ranAs a (stateOf w′ es s r) >>= body) ≡ startType k n p (two m (p + 3)) x gs ctx (stateOf w es s r)
-      unfolding _>>=_ inBody entered body
-      started k ctx es s r gs known title gives alike way =
+      started : (k : Known) (es : List Entry) (s r : ℕ) (gs : List Given) → KnownIn m w k → titleOf w ≡ k .title → Gives t gs → Alike m gs (fieldsIn m first end)
+          → (ranAs a (stateOf w′ es s r) >>= body) ≡ startType k p (two m (p + 3)) x gs (contextOf here) (stateOf w es s r)
+      unfolding _>>=_ entered body
+      started k es s r gs known title gives alike =
           let v : Values (parametersAt m (fieldsIn m (d + 5) to)) gs = checked-done (checks gs gives alike (parts .laid .parameters) (parts .laid .small)) passed in
           let vs : List Given = v .values in
           let st : State = stateOf w es s r in
-          let filled = fills .does gs vs gives (checked-values (parametersAt m (fieldsIn m (d + 5) to)) gs (v .are)) .says (inBody n ctx) es s r (sym (body-scope n)) way in
-          ap (λ (o : Outcome State). o >>= body) (filled ∙ ap (λ (o : Option ℕ). storeTitle o (inBody n ctx) p x st >>= λ st₁. storeAll (inBody n ctx) vs st₁) title)
-          ∙ bind-bind (storeTitle (k .title) (inBody n ctx) p x st) (λ st₁. storeAll (inBody n ctx) vs st₁) body
-          ∙ sym (start-known k ctx st gs known ∙ ap (λ (o : Outcome (List Given)). o >>= entered k ctx st) (v .are))
+          let filled = fills .does gs vs gives (checked-values (parametersAt m (fieldsIn m (d + 5) to)) gs (v .are)) .says es s r in
+          ap (λ (o : Outcome State). o >>= body) (filled ∙ ap (λ (o : Option ℕ). storeTitle o (contextOf here) p x st >>= λ st₁. storeAll (contextOf here) vs st₁) title)
+          ∙ bind-bind (storeTitle (k .title) (contextOf here) p x st) (λ st₁. storeAll (contextOf here) vs st₁) body
+          ∙ sym (start-known k st gs known ∙ ap (λ (o : Outcome (List Given)). o >>= entered k st) (v .are))
 
-      pub type-unfilled : (r : Reason) (q : ℕ) → a ≡ Refused r q → StartsType m t w w′ n p first end x path (NotStarted r q)
+      pub type-unfilled : (why : Refusal) → a ≡ Refused why → StartsType m t w w′ p first end x here (NotStarted why)
       unfolding startedAs ranAs _>>=_ BodyStands body
-      type-unfilled reason q is = record {
+      type-unfilled why is = record {
         stands = tt;
         keeps = fills .keeps;
-        says = λ k ctx es s r gs known title gives alike way. sym (ap (λ (b : Ran). ranAs b (stateOf w′ es s r) >>= body) is) ∙ started k ctx es s r gs known title gives alike way;
+        says = λ k es s r gs known title gives alike. sym (ap (λ (b : Ran). ranAs b (stateOf w′ es s r) >>= body) is) ∙ started k es s r gs known title gives alike;
       }
 
-      pub type-filled : a ≡ Done → StartsType m t w w′ n p first end x path (Body to)
+      pub type-filled : a ≡ Done → StartsType m t w w′ p first end x here (Body to)
       unfolding startedAs ranAs _>>=_ BodyStands body
       type-filled is = record {
         stands = (parts .laid .body .block, parts .laid .known);
         keeps = fills .keeps;
-        says = λ k ctx es s r gs known title gives alike way. sym (ap (λ (b : Ran). ranAs b (stateOf w′ es s r) >>= body) is) ∙ started k ctx es s r gs known title gives alike way;
+        says = λ k es s r gs known title gives alike. sym (ap (λ (b : Ran). ranAs b (stateOf w′ es s r) >>= body) is) ∙ started k es s r gs known title gives alike;
       }

@@ -4,18 +4,20 @@ use mathlib.Core.Path.{_≡_}
 use mathlib.Core.Bool.{Bool, _&&_}
 use mathlib.Core.List.{List}
 use mathlib.Core.Option.{Option, none, some}
-use Rattle.labels.specs.declared.Labels.{Labels}
-use Rattle.values.specs.declared.Reason.{Reason}
+use Rattle.values.specs.declared.Refusal.{Refusal}
 use Rattle.values.specs.declared.Reason.the-variants.{Unknown, DeclaredAgain}
 use Rattle.wire.specs.Bytes.{byte, two, fieldsIn}
-use Rattle.rules.specs.Outcome.{Outcome, refused, done, _>>=_, refuseIf, orRefuse}
+use Rattle.rules.specs.Outcome.{Outcome, done, _>>=_, refuseIf, orRefuse}
 use Rattle.rules.specs.Tree.{Block, Parent, ClassDefinition, classDefinition, definition}
-use Rattle.rules.specs.State.{Scope, classScope, Base, baseScope, DeclaredClass, Entry, State, Context, Known, isDeclared, declared}
+use Rattle.rules.specs.State.{Scope, classScope, Base, baseScope, DeclaredClass, Entry, State, Context, Known, isDeclared, markDeclared}
 use Rattle.rules.specs.Evaluate.{findClass}
 use Rattle.rules.specs.Run.{Given, parameterValues, storeAll, baseUnder, placedUnder, inClass}
 use Rattle.rules.specs.declared.Kind.the-variants.{Item, Block as BlockKind}
 use Rattle.places.specs.At.{itemAt, blockAt, StandsAs}
-use Rattle.cells.specs.Memory.{baseFor, stateOf}
+use Rattle.cells.specs.Memory.{stateOf}
+use Rattle.memory.specs.declared.Context.{Context as Here}
+use Rattle.memory.specs.Contexts.{contextOf}
+use Rattle.evaluator.specs.Answers.{refusedBy}
 use Rattle.evaluator.specs.Known.{KnownIn}
 use Rattle.statements.specs.Answers.{Keeps}
 use Rattle.attributes.specs.Names.{Alike}
@@ -50,11 +52,11 @@ pub record ClassStands (m : List ℕ) (p : ℕ) : Type 0 where
 
 unfoldable pub FoundStands : List ℕ → Class → Type 0
 FoundStands m (At p) = ClassStands m p
-FoundStands m (NotFound r p) = Unit {0}
+FoundStands m (NotFound why) = Unit {0}
 
 -- the answer means the outcome o
 pub data FoundAs (m : List ℕ) (o : Outcome Checked) : Class → Type 0 where
-  refusedSo : {r : Reason} {p : ℕ} → o ≡ refused r p → FoundAs m o (NotFound r p)
+  refusedSo : {why : Refusal} → o ≡ refusedBy why → FoundAs m o (NotFound why)
   foundSo : {p : ℕ} (d : ClassDefinition) (vs : List Given) → itemAt m p ≡ definition (classDefinition d) → o ≡ done (record { definition = d; values = vs }) → FoundAs m o (At p)
 
 -- the class q, declared at p, whose 26s, from `first` to `end`, are in the table t
@@ -72,7 +74,7 @@ pub record Entered : Type 0 where
 -- "Then it is marked declared, its parameters are assigned"
 unfoldable pub startClass : ClassDefinition → (values : List Given) → Context → State → Outcome Entered
 startClass d vs c st =
-    storeAll (inClass (d .name) (placedUnder (d .parent) c st) c) vs (declared (d .name) (placedUnder (d .parent) c st) st)
+    storeAll (inClass (d .name) (placedUnder (d .parent) c st) c) vs (markDeclared (d .name) (placedUnder (d .parent) c st) st)
     >>= λ st′. done (record { body = d .body; here = inClass (d .name) (placedUnder (d .parent) c st) c; state = st′ })
 
 -- a parent's name, if there is one at q, is below 1,024
@@ -88,21 +90,17 @@ unfoldable pub baseWith : Option Parent → Base → (ℕ → Option DeclaredCla
 baseWith none b classes = b
 baseWith (some q) b classes = baseUnder b (classes (q .name))
 
--- where the body of the class q runs
-abbrev pub classContext : (q : ℕ) → (node : Bool) → Labels → Context
-classContext q node path = record { scope = classScope q; base = baseFor node; path = path }
-
-unfoldable pub startedAs : List ℕ → (q : ℕ) → Labels → StartedClass → State → Outcome Entered
-startedAs m q path (Body b node) st = done (record { body = blockAt m 31 b; here = classContext q node path; state = st })
-startedAs m q path (Refused r p) st = refused r p
+unfoldable pub startedAs : List ℕ → StartedClass → State → Outcome Entered
+startedAs m (Body b here) st = done (record { body = blockAt m 31 b; here = contextOf here; state = st })
+startedAs m (Refused why) st = refusedBy why
 
 unfoldable pub BodyStands : List ℕ → StartedClass → Type 0
-BodyStands m (Body b node) = StandsAs m 31 BlockKind b × NamesKnown m b
-BodyStands m (Refused r p) = Unit {0}
+BodyStands m (Body b here) = StandsAs m 31 BlockKind b × NamesKnown m b
+BodyStands m (Refused why) = Unit {0}
 
--- the class whose 34 is at p, declared where the base is node or top
-pub record StartsClass (m t w w′ : List ℕ) (p : ℕ) (node : Bool) (path : Labels) (answer : StartedClass) : Type 0 where
+-- the class whose 34 is at p, declared from a context
+pub record StartsClass (m t w w′ : List ℕ) (p : ℕ) (here : Here) (answer : StartedClass) : Type 0 where
   pub stands : BodyStands m answer
   pub keeps : Keeps w w′
-  pub says : (c : Context) (es : List Entry) (s r : ℕ) (d : ClassDefinition) (gs vs : List Given) → itemAt m p ≡ definition (classDefinition d) → Gives t gs → parameterValues (d .parameters) gs ≡ done vs → c .base ≡ baseFor node → c .path ≡ path
-      → startedAs m (two m (p + 3)) path answer (stateOf w′ es s r) ≡ startClass d vs c (stateOf w es s r)
+  pub says : (es : List Entry) (s r : ℕ) (d : ClassDefinition) (gs vs : List Given) → itemAt m p ≡ definition (classDefinition d) → Gives t gs → parameterValues (d .parameters) gs ≡ done vs
+      → startedAs m answer (stateOf w′ es s r) ≡ startClass d vs (contextOf here) (stateOf w es s r)

@@ -8,7 +8,7 @@ use Rattle.wire.specs.Bytes.{pick, byte}
 use Rattle.rules.specs.Check.{stringPlaces}
 use Rattle.rules.specs.declared.Kind.the-variants.{Item}
 use Rattle.places.specs.At.{StandsAs}
-use Rattle.syntax.proofs.NamesKnown.{Known as NamesFrom}
+use Rattle.syntax.specs.Names.{NamesFrom}
 use Rattle.cells.specs.Memory.{definitionOf}
 use Rattle.declarations.specs.declared.Found.{Found}
 use Rattle.declarations.specs.declared.Found.the-variants.{At, Nothing}

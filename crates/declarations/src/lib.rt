@@ -17,11 +17,14 @@ ghost use Rattle.parameters.specs.Checked.{SmallNames};
 ghost use Rattle.declarations.specs.Standing.{Set, definitionWith};
 ghost use Rattle.declarations.specs.Types.{Fills, StartsType};
 ghost use Rattle.declarations.specs.Classes.{ClassStands, ChecksClass, ParentSmall, scopeUnder, baseWith, StartsClass};
-use labels::Labels;
+use attributes::Span;
+use memory::Context;
+use memory::Scope;
 use memory::TitleName;
 use statements::Ran;
 use values::Labelled;
 use values::Reason;
+use values::Refusal;
 
 // Where the definition of a name is.
 pub enum Found {
@@ -32,19 +35,28 @@ pub enum Found {
 // A type's body that is ready to run: where its block is.
 pub enum Started {
     Body(usize),
-    Refused { reason: Reason, place: u16 },
+    Refused(Refusal),
 }
 
 // Where a class's definition is.
 pub enum Class {
     At(usize),
-    Refused { reason: Reason, place: u16 },
+    Refused(Refusal),
 }
 
-// A class's body that is ready to run, and its base.
+// What a declaration of a class asks for: the class `name`, by the 28, 29 or 35 at `place`. A 28 refuses a declared class (`again`) and gives attributes;
+// the others give none.
+pub struct Request {
+    pub place: usize,
+    pub name: u16,
+    pub again: bool,
+    pub given: Span,
+}
+
+// A class's body that is ready to run, and where it runs.
 pub enum StartedClass {
-    Body { block: usize, base_is_node: bool },
-    Refused { reason: Reason, place: u16 },
+    Body { block: usize, here: Context },
+    Refused(Refusal),
 }
 
 // ---- Definitions
@@ -67,81 +79,64 @@ fn find_definition(m: &[u8], work: &[u8], name: u16, tag: u8) -> Found
 // ---- Types
 
 // The title goes to the variable "title", if the table has that string.
-fn store_title(work: &mut [u8], p: usize, scope: u16, x: Labelled, path: Labels) -> Ran
+fn store_title(work: &mut [u8], p: usize, here: Context, x: Labelled) -> Ran
     requires { ⌜ (65536 ≤ length (now work)) × (p ≤ 65535) ⌝ }
-    ensures { λ r. ⌜ Does (now (work .entry)) (now (work .exit)) scope path (ranAs r) (λ c. storeTitle (titleOf (now (work .entry))) c p x) ⌝ }
+    ensures { λ r. ⌜ Does (now (work .entry)) (now (work .exit)) here (ranAs r) (λ c. storeTitle (titleOf (now (work .entry))) c p x) ⌝ }
 {
     let t = memory::title(work);
     match t {
         TitleName::Nothing => Ran::Done,
-        TitleName::At(name) => statements::store(work, p, scope, name, x, path),
+        TitleName::At(name) => statements::store(work, p, here, name, x),
     }
 }
 
-// Title and parameters in the scope of a body.
+// Title and parameters in the context of a body.
 fn fill_scope(
     m: &[u8],
     p: usize,
-    from: usize,
-    block: usize,
+    parameters: Span,
     table: &[u8],
     x: Labelled,
     work: &mut [u8],
-    scope: u16,
-    path: Labels,
+    here: Context,
 ) -> Ran
-    requires { ⌜ ((p ≤ 65535) × (block ≤ 65535)) × (((65536 ≤ length (now work)) × (length (now m) ≤ 65535)) × (Siblings (now m) 31 Parameter from block × SmallNames (now m) (fieldsIn (now m) from block))) ⌝ }
-    ensures { λ r. ⌜ Fills (now (m .entry)) (now (table .entry)) (now (work .entry)) (now (work .exit)) p from block scope x path r ⌝ }
+    requires { ⌜ ((p ≤ 65535) × (parameters .end ≤ 65535)) × (((65536 ≤ length (now work)) × (length (now m) ≤ 65535)) × (Siblings (now m) 31 Parameter (parameters .first) (parameters .end) × SmallNames (now m) (fieldsIn (now m) (parameters .first) (parameters .end)))) ⌝ }
+    ensures { λ r. ⌜ Fills (now (m .entry)) (now (table .entry)) (now (work .entry)) (now (work .exit)) p (parameters .first) (parameters .end) x here r ⌝ }
 {
-    let t = store_title(work, p, scope, x, path);
+    let t = store_title(work, p, here, x);
     match t {
-        Ran::Refused { reason, place } => Ran::Refused { reason, place },
-        Ran::Done => parameters::store_parameters(m, from, block, table, work, scope, path),
+        Ran::Refused(refusal) => Ran::Refused(refusal),
+        Ran::Done => parameters::store_parameters(m, parameters, table, work, here),
     }
 }
 
-// The 27 at p, whose title is x and whose attributes, from `first` to `end`, are in the table: its body has `levels` levels left.
+// The 27 at p, whose title is x and whose attributes are in the table: `here` is where its body runs.
 pub fn start_type(
     m: &[u8],
     p: usize,
-    first: usize,
-    end: usize,
+    given: Span,
     table: &[u8],
     x: Labelled,
     work: &mut [u8],
-    levels: u8,
-    path: Labels,
+    here: Context,
 ) -> Started
-    requires { ⌜ Set (now m) (now work) × (((p ≤ 65535) × (end ≤ 65535)) × (two (now m) (p + 3) < 1024)) ⌝ }
-    ensures { λ r. ⌜ StartsType (now (m .entry)) (now (table .entry)) (now (work .entry)) (now (work .exit)) levels p first end x path r ⌝ }
+    requires { ⌜ Set (now m) (now work) × (((p ≤ 65535) × (given .end ≤ 65535)) × (two (now m) (p + 3) < 1024)) ⌝ }
+    ensures { λ r. ⌜ StartsType (now (m .entry)) (now (table .entry)) (now (work .entry)) (now (work .exit)) p (given .first) (given .end) x here r ⌝ }
 {
     let found = find_definition(m, work, wire::two_at(m, p + 3), 0x32);
     let Found::At(d) = found else {
-        return Started::Refused {
-            reason: Reason::Unknown,
-            place: p as u16,
-        };
+        return Started::Refused(Refusal::at(Reason::Unknown, p));
     };
-    let from = d as usize + 5;
-    let block = parameters::end_of_parameters(m, from);
-    let c = parameters::check_parameters(m, first, end, from, block, table);
-    if let Ran::Refused { reason, place } = c {
-        return Started::Refused { reason, place };
+    let first = d as usize + 5;
+    let end = parameters::end_of_parameters(m, first);
+    let c = parameters::check_parameters(m, given, Span { first, end }, table);
+    if let Ran::Refused(refusal) = c {
+        return Started::Refused(refusal);
     }
-    let r = fill_scope(
-        m,
-        p,
-        from,
-        block,
-        table,
-        x,
-        work,
-        1026 + levels as u16,
-        path,
-    );
+    let r = fill_scope(m, p, Span { first, end }, table, x, work, here);
     match r {
-        Ran::Refused { reason, place } => Started::Refused { reason, place },
-        Ran::Done => Started::Body(block),
+        Ran::Refused(refusal) => Started::Refused(refusal),
+        Ran::Done => Started::Body(end),
     }
 }
 
@@ -171,38 +166,24 @@ fn is_again(work: &[u8], name: u16, asked: bool) -> bool
     false
 }
 
-// The class `name`, declared at p; `again` says that it must not be declared yet.
-pub fn check_class(
-    m: &[u8],
-    p: usize,
-    name: u16,
-    again: bool,
-    first: usize,
-    end: usize,
-    table: &[u8],
-    work: &[u8],
-) -> Class
-    requires { ⌜ Set (now m) (now work) × (((p ≤ 65535) × (end ≤ 65535)) × (name < 1024)) ⌝ }
-    ensures { λ r. ⌜ ChecksClass (now (m .entry)) (now (table .entry)) (now (work .entry)) «again» p name first end r ⌝ }
+// The class that is asked for, its attributes' values in the table.
+pub fn check_class(m: &[u8], request: Request, table: &[u8], work: &[u8]) -> Class
+    requires { ⌜ Set (now m) (now work) × (((request .place ≤ 65535) × (request .given .end ≤ 65535)) × (request .name < 1024)) ⌝ }
+    ensures { λ r. ⌜ ChecksClass (now (m .entry)) (now (table .entry)) (now (work .entry)) (request .again) (request .place) (request .name) (request .given .first) (request .given .end) r ⌝ }
 {
-    let found = find_definition(m, work, name, 0x34);
+    let found = find_definition(m, work, request.name, 0x34);
     let Found::At(d) = found else {
-        return Class::Refused {
-            reason: Reason::Unknown,
-            place: p as u16,
-        };
+        return Class::Refused(Refusal::at(Reason::Unknown, request.place));
     };
-    if is_again(work, name, again) {
-        return Class::Refused {
-            reason: Reason::DeclaredAgain,
-            place: p as u16,
-        };
+    if is_again(work, request.name, request.again) {
+        return Class::Refused(Refusal::at(Reason::DeclaredAgain, request.place));
     }
-    let from = first_parameter(m, d as usize);
-    let block = parameters::end_of_parameters(m, from);
-    let c = parameters::check_parameters(m, first, end, from, block, table);
+    let first = first_parameter(m, d as usize);
+    let end = parameters::end_of_parameters(m, first);
+    let given = request.given;
+    let c = parameters::check_parameters(m, given, Span { first, end }, table);
     match c {
-        Ran::Refused { reason, place } => Class::Refused { reason, place },
+        Ran::Refused(refusal) => Class::Refused(refusal),
         Ran::Done => Class::At(d as usize),
     }
 }
@@ -237,29 +218,32 @@ fn class_base(m: &[u8], d: usize, work: &[u8], base_is_node: bool) -> bool
     }
 }
 
-// The class at d, its values in the table, declared where the base is node or top: marked declared, its parameters assigned.
-pub fn start_class(
-    m: &[u8],
-    d: usize,
-    table: &[u8],
-    work: &mut [u8],
-    base_is_node: bool,
-    path: Labels,
-) -> StartedClass
+// The class at d, its values in the table, declared from `here`: marked declared, its parameters assigned.
+pub fn start_class(m: &[u8], d: usize, table: &[u8], work: &mut [u8], here: Context) -> StartedClass
     requires { ⌜ Set (now m) (now work) × ClassStands (now m) d ⌝ }
-    ensures { λ r. ⌜ StartsClass (now (m .entry)) (now (table .entry)) (now (work .entry)) (now (work .exit)) d «base_is_node» path r ⌝ }
+    ensures { λ r. ⌜ StartsClass (now (m .entry)) (now (table .entry)) (now (work .entry)) (now (work .exit)) d here r ⌝ }
 {
     let name = wire::two_at(m, d + 3);
-    let base = class_base(m, d, work, base_is_node);
-    memory::declare_class(work, name, parent_scope(m, d, base_is_node), base);
-    let from = first_parameter(m, d);
-    let block = parameters::end_of_parameters(m, from);
-    let r = parameters::store_parameters(m, from, block, table, work, 2 + name, path);
+    let base_is_node = class_base(m, d, work, here.scope.base_is_node);
+    let parent = parent_scope(m, d, here.scope.base_is_node);
+    memory::declare_class(work, name, parent, base_is_node);
+    let first = first_parameter(m, d);
+    let block = parameters::end_of_parameters(m, first);
+    let number = 2 + name;
+    let path = here.path;
+    let inside = Context {
+        scope: Scope {
+            number,
+            base_is_node,
+        },
+        path,
+    };
+    let r = parameters::store_parameters(m, Span { first, end: block }, table, work, inside);
     match r {
-        Ran::Refused { reason, place } => StartedClass::Refused { reason, place },
+        Ran::Refused(refusal) => StartedClass::Refused(refusal),
         Ran::Done => StartedClass::Body {
             block,
-            base_is_node: base,
+            here: inside,
         },
     }
 }

@@ -1,3 +1,4 @@
 pub mod Marking
 pub mod Nodes
 pub mod Definitions
+pub mod Scopes

@@ -1,14 +1,14 @@
 -- The ways of `evaluate`: by the tag. Assumes nothing.
 use Prim.Native.Nat.{ℕ, suc, _+_, _-_, _≤_, _<_}
 use mathlib.Core.Path.{_≡_, refl, sym, ap, _∙_, subst}
-use mathlib.Core.Bool.{Bool, true}
+use mathlib.Core.Bool.{true, false}
 use mathlib.Core.List.{List, [], _∷_}
 use native.Mathlib.Omega.{arith}
 use Rattle.values.specs.declared.Labelled.{Labelled}
 use Rattle.wire.specs.Bytes.{byte, two}
 use Rattle.rules.specs.Outcome.{Outcome, done}
 use Rattle.rules.specs.Format.{allowed}
-use Rattle.rules.specs.State.{Scope, topScope, Base, State, Context, Known, upward, scopesTried}
+use Rattle.rules.specs.State.{Known, upward, scopesTried}
 use Rattle.rules.specs.Evaluate.{readIn, ofConstant, evaluate}
 use Rattle.rules.specs.declared.Kind.the-variants.{Expression as ExpressionKind, Constant as ConstantKind}
 use Rattle.places.specs.At.{constantAt, expressionAt, Stands, StandsAs}
@@ -18,6 +18,8 @@ use Rattle.places.proofs.Expressions.{constant-opens, variable-opens, top-varia
 use Rattle.cells.specs.Scopes.{scopeOf}
 use Rattle.cells.specs.Memory.{cellsOf, classesOf, baseFor, stateOf}
 use Rattle.cells.proofs.Scopes.{top-scope}
+use Rattle.memory.specs.declared.Scope.{Scope}
+use Rattle.memory.specs.Contexts.{contextIn}
 use Rattle.evaluator.specs.declared.Evaluated.the-variants.{Value as Yields}
 use Rattle.evaluator.specs.Answers.{evaluated}
 use Rattle.evaluator.specs.Known.{KnownIn, Tells, classRead}
@@ -51,9 +53,9 @@ selector-last t negationTag l n3 n4 n5 n6 n7 n8 = absurd (n7 refl)
 selector-last t attributeReadTag l n3 n4 n5 n6 n7 n8 = absurd (n8 refl)
 selector-last t selectorTag l n3 n4 n5 n6 n7 n8 = refl
 
-module _ (m w out : List ℕ) (fill scope : ℕ) (node : Bool) (d p : ℕ) where
+module _ (m w out : List ℕ) (fill : ℕ) (scope : Scope) (d p : ℕ) where
   abbrev Said : Outcome Labelled → Type 0
-  Said a = Tells m w out fill scope node a (λ k c st. evaluate k c st (expressionAt m d p))
+  Said a = Tells m w out fill scope a (λ k c st. evaluate k c st (expressionAt m d p))
 
   -- no field has no level
   pub no-level : {a : Outcome Labelled} → d ≡ 0 → StandsAs m d ExpressionKind p → Said a
@@ -64,44 +66,44 @@ module _ (m w out : List ℕ) (fill scope : ℕ) (node : Bool) (d p : ℕ) where
     unfolding evaluate evaluated
     says-constant l e s =
         let tree = constant-opens (record { stands = s .stands; kind = constant-below (byte m p) (expression-tag (byte m p) (s .kind)) (omega (arith, tag)) }) in
-        record { says = λ k c es n r h sc b. ap done e ∙ sym (ap (evaluate k c (stateOf w es n r)) tree) }
+        record { says = λ k path es n r h. ap done e ∙ sym (ap (evaluate k (contextIn scope path) (stateOf w es n r)) tree) }
 
-    pub says-variable : {n : ℕ} {a : Outcome Labelled} → t ≡ 0x13 → n ≡ two m (p + 3) → a ≡ readIn p (cellsOf w) n (upward 1026 (classesOf w) (baseFor node) (scopeOf scope)) → StandsAs m d ExpressionKind p → Said a
+    pub says-variable : {n : ℕ} {a : Outcome Labelled} → t ≡ 0x13 → n ≡ two m (p + 3) → a ≡ readIn p (cellsOf w) n (upward 1026 (classesOf w) (baseFor (scope .«base_is_node»)) (scopeOf (scope .number))) → StandsAs m d ExpressionKind p → Said a
     unfolding evaluate scopesTried stateOf
     says-variable is name e s = record {
-      says = λ k c es n r h sc b.
-          e ∙ (λ i. readIn p (cellsOf w) (name i) (upward 1026 (classesOf w) (sym b i) (sym sc i))) ∙ sym (ap (evaluate k c (stateOf w es n r)) (variable-opens (s .stands) (sym tag ∙ is)));
+      says = λ k path es n r h.
+          e ∙ (λ i. readIn p (cellsOf w) (name i) (upward 1026 (classesOf w) (baseFor (scope .«base_is_node»)) (scopeOf (scope .number)))) ∙ sym (ap (evaluate k (contextIn scope path) (stateOf w es n r)) (variable-opens (s .stands) (sym tag ∙ is)));
     }
 
-    pub says-top : {n : ℕ} {a : Outcome Labelled} → t ≡ 0x14 → n ≡ two m (p + 3) → a ≡ readIn p (cellsOf w) n (upward 1 (classesOf w) (baseFor node) (scopeOf 0)) → StandsAs m d ExpressionKind p → Said a
+    pub says-top : {n : ℕ} {a : Outcome Labelled} → t ≡ 0x14 → n ≡ two m (p + 3) → a ≡ readIn p (cellsOf w) n (upward 1 (classesOf w) (baseFor false) (scopeOf 0)) → StandsAs m d ExpressionKind p → Said a
     unfolding evaluate stateOf
     says-top {n} is name e s = record {
-      says = λ k c es n′ r h sc b.
-          e ∙ read-one p (cellsOf w) n (classesOf w) (baseFor node) (scopeOf 0) ∙ (λ i. readIn p (cellsOf w) (name i) (top-scope i ∷ [])) ∙ sym (ap (evaluate k c (stateOf w es n′ r)) (top-variable-opens (s .stands) (sym tag ∙ is)));
+      says = λ k path es n′ r h.
+          e ∙ read-one p (cellsOf w) n (classesOf w) (baseFor false) (scopeOf 0) ∙ (λ i. readIn p (cellsOf w) (name i) (top-scope i ∷ [])) ∙ sym (ap (evaluate k (contextIn scope path) (stateOf w es n′ r)) (top-variable-opens (s .stands) (sym tag ∙ is)));
     }
 
     pub says-class : {q n : ℕ} {a : Outcome Labelled} → t ≡ 0x15 → q ≡ two m (p + 3) → n ≡ two m (p + 5) → ((k : Known) → KnownIn m w k → a ≡ classRead k p (cellsOf w) q n) → StandsAs m d ExpressionKind p → Said a
     unfolding evaluate stateOf classRead
     says-class is class name e s = record {
-      says = λ k c es n r h sc b.
-          e k (h .known) ∙ (λ i. classRead k p (cellsOf w) (class i) (name i)) ∙ sym (ap (evaluate k c (stateOf w es n r)) (class-variable-opens (s .stands) (sym tag ∙ is)));
+      says = λ k path es n r h.
+          e k (h .known) ∙ (λ i. classRead k p (cellsOf w) (class i) (name i)) ∙ sym (ap (evaluate k (contextIn scope path) (stateOf w es n r)) (class-variable-opens (s .stands) (sym tag ∙ is)));
     }
 
     module _ (some : d ≡ 0 → ⊥) where
       one-more : d ≡ suc (d - 1)
       one-more = omega arith
 
-      pub says-operation : {a : Outcome Labelled} → t ≡ 0x16 → ((e : ℕ) → OperationAt m e (d - 1) p → Tells m w out fill scope node a (λ k c st. evaluate k c st (expressionAt m e p))) → StandsAs m d ExpressionKind p → Said a
+      pub says-operation : {a : Outcome Labelled} → t ≡ 0x16 → ((e : ℕ) → OperationAt m e (d - 1) p → Tells m w out fill scope a (λ k c st. evaluate k c st (expressionAt m e p))) → StandsAs m d ExpressionKind p → Said a
       says-operation is e s = e d (operation-opens (s .stands) one-more (sym tag ∙ is))
 
-      pub says-negation : {a : Outcome Labelled} → t ≡ 0x17 → ((e : ℕ) → NegationAt m e (d - 1) p → Tells m w out fill scope node a (λ k c st. evaluate k c st (expressionAt m e p))) → StandsAs m d ExpressionKind p → Said a
+      pub says-negation : {a : Outcome Labelled} → t ≡ 0x17 → ((e : ℕ) → NegationAt m e (d - 1) p → Tells m w out fill scope a (λ k c st. evaluate k c st (expressionAt m e p))) → StandsAs m d ExpressionKind p → Said a
       says-negation is e s = e d (negation-opens (s .stands) one-more (sym tag ∙ is))
 
-      pub says-attribute : {a : Outcome Labelled} → t ≡ 0x18 → ((e : ℕ) → AttributeReadAt m e (d - 1) p → Tells m w out fill scope node a (λ k c st. evaluate k c st (expressionAt m e p))) → StandsAs m d ExpressionKind p → Said a
+      pub says-attribute : {a : Outcome Labelled} → t ≡ 0x18 → ((e : ℕ) → AttributeReadAt m e (d - 1) p → Tells m w out fill scope a (λ k c st. evaluate k c st (expressionAt m e p))) → StandsAs m d ExpressionKind p → Said a
       says-attribute is e s = e d (attribute-read-opens (s .stands) one-more (sym tag ∙ is))
 
       pub says-selector : {a : Outcome Labelled} → 0x13 ≤ t → (t ≡ 0x13 → ⊥) → (t ≡ 0x14 → ⊥) → (t ≡ 0x15 → ⊥) → (t ≡ 0x16 → ⊥) → (t ≡ 0x17 → ⊥) → (t ≡ 0x18 → ⊥)
-          → ((e : ℕ) → SelectorAt m e (d - 1) p → Tells m w out fill scope node a (λ k c st. evaluate k c st (expressionAt m e p))) → StandsAs m d ExpressionKind p → Said a
+          → ((e : ℕ) → SelectorAt m e (d - 1) p → Tells m w out fill scope a (λ k c st. evaluate k c st (expressionAt m e p))) → StandsAs m d ExpressionKind p → Said a
       says-selector l n3 n4 n5 n6 n7 n8 e s =
           let is = selector-last t (subst IsExpressionTag (sym tag) (expression-tag (byte m p) (s .kind))) l n3 n4 n5 n6 n7 n8 in
           e d (selector-opens (s .stands) one-more (sym tag ∙ is))

@@ -20,11 +20,12 @@ use Rattle.values.specs.Integers.{fits64, isZero, floorDivide}
 use Rattle.values.specs.Computed.{computed}
 use Rattle.values.proofs.Value.{the-type}
 use Rattle.wire.specs.Bytes.{pick}
-use Rattle.rules.specs.Outcome.{Outcome, refused, done, _>>=_, Result, fails, gives, at, plain, joining, _▷_}
+use Rattle.rules.specs.Outcome.{Outcome, refused, done, _>>=_, Result, fails, gives, at, plain, joining}
+use Rattle.evaluator.proofs.Outcomes.{_▷_}
 use Rattle.rules.specs.Arithmetic.{integerIn, stringIn, booleanIn, inRange, sum, difference, quotient, isGreater, sameValue}
 use Rattle.rules.specs.Tree.{Operator, plus, minus, divide, greater, equal, and, or}
 use Rattle.rules.specs.Read.{entryFor, operators, operatorFrom}
-use Rattle.rules.specs.Evaluate.{integers, booleans, operate}
+use Rattle.rules.specs.Evaluate.{integers, booleans, equality, operate}
 use Rattle.evaluator.specs.declared.Begun.{Begun}
 use Rattle.evaluator.specs.declared.Begun.the-variants.{WrongKind, Decided, Open}
 use Rattle.evaluator.specs.Operators.{beginInteger, beginBoolean, begin, afterLeft, arithmetic, bothIntegers, rightBoolean, combine, resultOf, computedAt, negation}
@@ -210,7 +211,7 @@ negates l x h e = rw h e
 -- ---- The two steps are the definition's operators
 
 pub operate-steps : (o : Operator) (p l r : ℕ) (x : Value) (right : Outcome Labelled) → afterLeft (begin o x) l x (right ▷ λ y. combine o p r x y) ≡ operate o p l r x right
-unfolding begin beginInteger beginBoolean afterLeft combine bothIntegers rightBoolean arithmetic operate integers booleans integerIn booleanIn at _>>=_ _▷_
+unfolding begin beginInteger beginBoolean afterLeft combine bothIntegers rightBoolean arithmetic operate integers booleans equality integerIn booleanIn at _>>=_ _▷_
 operate-steps plus p l r (Integer i) right = refl
 operate-steps plus p l r (String n) right = refl
 operate-steps plus p l r (Boolean b) right = refl

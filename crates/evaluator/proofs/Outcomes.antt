@@ -8,12 +8,14 @@ use denote.Enum.Declared.{tagOf}
 use Rattle.labels.specs.declared.Labels.{Labels}
 use Rattle.labels.specs.Sets.{noLabels, _∪_}
 use Rattle.values.specs.declared.Reason.{Reason}
+use Rattle.values.specs.declared.Refusal.{Refusal}
+use Rattle.values.specs.Refusals.{refusalAt}
 use Rattle.values.specs.declared.Value.{Value}
 use Rattle.values.specs.declared.Labelled.{Labelled}
-use Rattle.rules.specs.Outcome.{Outcome, refused, done, _>>=_, joining, _▷_}
+use Rattle.rules.specs.Outcome.{Outcome, refused, done, _>>=_, joining, under}
 use Rattle.evaluator.specs.declared.Evaluated.{Evaluated}
 use Rattle.evaluator.specs.declared.Evaluated.the-variants.{Value as Yields, Refused}
-use Rattle.evaluator.specs.Answers.{evaluated}
+use Rattle.evaluator.specs.Answers.{refusedBy, evaluated}
 
 -- ---- Unions: the general laws about bits belong beside `lib.Bits`
 
@@ -75,6 +77,11 @@ union-none a = λ i. record { w0 = or-zero-l (a .w0) i; w1 = or-zero-l (a .w1) i
 
 -- ---- Sets joined
 
+-- an operand, then the rest with its value under the operand's set
+infixl 10 _▷_
+unfoldable pub _▷_ : Outcome Labelled → (Value → Outcome Labelled) → Outcome Labelled
+_▷_ m f = m >>= λ x. joining (x .labels) (f (x .value))
+
 pub joining-none : (o : Outcome Labelled) → joining noLabels o ≡ o
 unfolding joining _>>=_
 joining-none (refused r p) = refl
@@ -87,16 +94,20 @@ joining-both a b (done x) = ap (λ (k : Labels). done (record { value = x .value
 
 -- ---- Answers
 
-pub answer-joined : (k : Labels) {e : Evaluated} (x : Labelled) {u : Labels} → e ≡ Yields x → u ≡ k ∪ x .labels → evaluated (Yields (record { value = x .value; labels = u })) ≡ joining k (evaluated e)
+pub refusal-is : {why : Refusal} {r : Reason} {p : ℕ} → why ≡ refusalAt r p → evaluated (Refused why) ≡ refused r p
+unfolding evaluated
+refusal-is e = ap refusedBy e
+
+pub answer-joined : (k : Labels) {e : Evaluated} (x : Labelled) {y : Labelled} → e ≡ Yields x → y ≡ under k x → evaluated (Yields y) ≡ joining k (evaluated e)
 unfolding evaluated joining _>>=_
 answer-joined k x p q = rw (p, q)
 
-pub answer-kept : (k : Labels) {e : Evaluated} {r : Reason} {p : ℕ} → e ≡ Refused r p → evaluated (Refused r p) ≡ joining k (evaluated e)
+pub answer-kept : (k : Labels) {e : Evaluated} {why : Refusal} → e ≡ Refused why → evaluated (Refused why) ≡ joining k (evaluated e)
 unfolding evaluated joining _>>=_
 answer-kept k p = rw p
 
 -- a refused operand ends it; the value of one goes on
-pub stops : {e : Evaluated} {o : Outcome Labelled} (f : Value → Outcome Labelled) {r : Reason} {p : ℕ} → evaluated e ≡ o → e ≡ Refused r p → evaluated (Refused r p) ≡ o ▷ f
+pub stops : {e : Evaluated} {o : Outcome Labelled} (f : Value → Outcome Labelled) {why : Refusal} → evaluated e ≡ o → e ≡ Refused why → evaluated (Refused why) ≡ o ▷ f
 unfolding evaluated _▷_ _>>=_
 stops f a b = rw (sym a, b)
 

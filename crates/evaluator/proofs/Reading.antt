@@ -21,10 +21,11 @@ use Rattle.rules.specs.State.{Scope, topScope, classScope, Base, DeclaredClass,
 use Rattle.rules.specs.Evaluate.{isType, isClass, orElse, readIn, readAttribute}
 use Rattle.rules.specs.Compile.{onto}
 use Rattle.cells.specs.declared.Seen.{Seen}
-use Rattle.cells.specs.declared.Held.{Held}
-use Rattle.cells.specs.declared.Held.the-variants.{Empty, Holds}
+use Rattle.records.specs.declared.Held.{Held}
+use Rattle.records.specs.declared.Held.the-variants.{Empty, Holds}
 use Rattle.cells.specs.Scopes.{scopeOf}
-use Rattle.cells.specs.Memory.{heldOf, seenOf, cellsOf, classesOf, baseFor}
+use Rattle.records.specs.Record.{heldOf}
+use Rattle.cells.specs.Memory.{seenOf, cellsOf, classesOf, baseFor}
 use Rattle.cells.proofs.Scopes.{class-scope}
 use Rattle.memory.specs.declared.Above.{Above}
 use Rattle.memory.specs.declared.Above.the-variants.{At, Nothing}

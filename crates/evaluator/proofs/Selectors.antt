@@ -11,10 +11,10 @@ use Rattle.labels.specs.declared.Labels.{Labels}
 use Rattle.labels.specs.Sets.{noLabels, oneLabel, _∪_}
 use Rattle.values.specs.declared.Value.{Value}
 use Rattle.values.specs.declared.Labelled.{Labelled}
-use Rattle.values.specs.declared.Reason.{Reason}
+use Rattle.values.specs.declared.Refusal.{Refusal}
 use Rattle.values.specs.declared.Reason.the-variants.{NoMatch}
 use Rattle.wire.specs.Bytes.{pick, byte, endOf, fieldsIn}
-use Rattle.rules.specs.Outcome.{Outcome, refused, done, _>>=_, joining, _▷_}
+use Rattle.rules.specs.Outcome.{Outcome, refused, done, _>>=_, joining}
 use Rattle.rules.specs.Arithmetic.{sameValue}
 use Rattle.rules.specs.Tree.{Arms, noArm, arm, defaultArm}
 use Rattle.rules.specs.State.{State, Context, Known}
@@ -26,12 +26,14 @@ use Rattle.places.proofs.Parts.{FirstSibling, first-sibling, no-sibling}
 use Rattle.places.proofs.Expressions.{arm-opens, SelectorAt}
 use Rattle.places.proofs.Open.{level}
 use Rattle.cells.specs.Memory.{stateOf}
+use Rattle.memory.specs.declared.Scope.{Scope}
+use Rattle.memory.specs.Contexts.{contextIn}
 use Rattle.evaluator.specs.declared.Tried.{Tried}
 use Rattle.evaluator.specs.declared.Evaluated.{Evaluated}
 use Rattle.evaluator.specs.declared.Evaluated.the-variants.{Value as Yields, Refused}
 use Rattle.evaluator.specs.Answers.{evaluated}
 use Rattle.evaluator.specs.Known.{Tells, triedAt}
-use Rattle.evaluator.proofs.Outcomes.{joining-none, joining-both}
+use Rattle.evaluator.proofs.Outcomes.{_▷_, joining-none, joining-both}
 use Rattle.evaluator.proofs.Expressions.{Run, Small, operand-told, then-stops, then-goes-on}
 
 -- ---- The ways of `try_pattern`
@@ -106,22 +108,22 @@ module _ {m : List ℕ} {d first end p : ℕ} {x : Value} {tried : Labels} {q : 
     pub choosing-on : {r : ℕ} → t .matches ≡ false → r ≡ endOf m q → Choosing m d first end p x u r
     choosing-on {r} misses next = subst (λ (n : ℕ). Choosing m d first end p x u n) (sym next) (record { arms = here .after; rest = λ k c st. rw misses at (tried-here k c st) })
 
-    pub choosing-ends : (w out : List ℕ) (fill scope : ℕ) (node : Bool) (b : ℕ) {e r : ℕ} {g i : Outcome Labelled} → d ≡ suc b → length m ≤ 65535 → t .matches ≡ true → e ≡ endOf m (q + 3) → Small r e
-        → (StandsAs m b ExpressionKind r → Tells m w out fill scope node g (λ k c st. evaluate k c st (expressionAt m b r))) → i ≡ joining u g → Tells m w out fill scope node i (λ k c st. select k c st (armsAt m d (fieldsIn m first end)) p x)
-    choosing-ends w out fill scope node b {e} {r} above short hits end-is small told joins =
+    pub choosing-ends : (w out : List ℕ) (fill : ℕ) (scope : Scope) (b : ℕ) {e r : ℕ} {g i : Outcome Labelled} → d ≡ suc b → length m ≤ 65535 → t .matches ≡ true → e ≡ endOf m (q + 3) → Small r e
+        → (StandsAs m b ExpressionKind r → Tells m w out fill scope g (λ k c st. evaluate k c st (expressionAt m b r))) → i ≡ joining u g → Tells m w out fill scope i (λ k c st. select k c st (armsAt m d (fieldsIn m first end)) p x)
+    choosing-ends w out fill scope b {e} {r} above short hits end-is small told joins =
         let a = arm-opens (here .here) above in
         let below : b ≡ d - 1 = omega arith in
         let near : Small r (endOf m (q + 3)) = (small .0, λ l. small .1 (omega arith) ∙ end-is) in
-        let t′ = operand-told m w out fill scope node b (endOf m (q + 3)) short (a .expression) near told in
+        let t′ = operand-told m w out fill scope b (endOf m (q + 3)) short (a .expression) near told in
         record {
-          says = λ k c es n v h s o.
-              joins ∙ ap (joining u) (t′ .says k c es n v h s o ∙ ap (λ (j : ℕ). evaluate k c (stateOf w es n v) (expressionAt m j (endOf m (q + 3)))) below) ∙ (rw hits at (tried-here k c (stateOf w es n v)));
+          says = λ k path es n v h.
+              joins ∙ ap (joining u) (t′ .says k path es n v h ∙ ap (λ (j : ℕ). evaluate k (contextIn scope path) (stateOf w es n v) (expressionAt m j (endOf m (q + 3)))) below) ∙ (rw hits at (tried-here k (contextIn scope path) (stateOf w es n v)));
         }
 
-  pub choosing-fails : (w out : List ℕ) (fill scope : ℕ) (node : Bool) {i : Outcome Labelled} → end ≤ q → i ≡ refused NoMatch p → Tells m w out fill scope node i (λ k c st. select k c st (armsAt m d (fieldsIn m first end)) p x)
+  pub choosing-fails : (w out : List ℕ) (fill : ℕ) (scope : Scope) {i : Outcome Labelled} → end ≤ q → i ≡ refused NoMatch p → Tells m w out fill scope i (λ k c st. select k c st (armsAt m d (fieldsIn m first end)) p x)
   unfolding armsAt select joining _>>=_
-  choosing-fails w out fill scope node over e =
-      record { says = λ k c es n v h s o. e ∙ ap (λ (qs : List ℕ). joining tried (select k c (stateOf w es n v) (armsAt m d qs) p x)) (sym (no-sibling (so-far .arms) over .places)) ∙ so-far .rest k c (stateOf w es n v) }
+  choosing-fails w out fill scope over e =
+      record { says = λ k path es n v h. e ∙ ap (λ (qs : List ℕ). joining tried (select k (contextIn scope path) (stateOf w es n v) (armsAt m d qs) p x)) (sym (no-sibling (so-far .arms) over .places)) ∙ so-far .rest k (contextIn scope path) (stateOf w es n v) }
 
 -- ---- Selectors
 
@@ -134,23 +136,23 @@ siblings-within ended l = absurd (omega arith)
 siblings-within (sibling l s ended) h = s .stands .ends
 siblings-within (sibling l s (sibling l′ s′ r)) h = siblings-within (sibling l′ s′ r) l′
 
-module _ (m w out : List ℕ) (fill scope : ℕ) (node : Bool) {d b p : ℕ} (o : SelectorAt m d b p) (short : length m ≤ 65535) where
+module _ (m w out : List ℕ) (fill : ℕ) (scope : Scope) {d b p : ℕ} (o : SelectorAt m d b p) (short : length m ≤ 65535) where
   abbrev chosenHere : Value → Run
   chosenHere x k c st = select k c st (armsAt m b (fieldsIn m (endOf m (p + 3)) (endOf m p))) p x
 
   selector-means : (k : Known) (c : Context) (st : State) → (evaluate k c st (expressionAt m b (p + 3)) ▷ λ x. chosenHere x k c st) ≡ evaluate k c st (expressionAt m d p)
-  unfolding evaluate
+  unfolding evaluate _▷_
   selector-means k c st = sym (ap (evaluate k c st) (o .tree))
 
-  module _ {q : ℕ} {a : Evaluated} (small : Small q (p + 3)) (told : StandsAs m b ExpressionKind q → Tells m w out fill scope node (evaluated a) (λ k c st. evaluate k c st (expressionAt m b q))) where
-    pub selector-stops : {r : Reason} {l : ℕ} → a ≡ Refused r l → Tells m w out fill scope node (evaluated (Refused r l)) (λ k c st. evaluate k c st (expressionAt m d p))
-    selector-stops is = then-stops m w out fill scope node (λ k c st x. chosenHere x k c st) selector-means (operand-told m w out fill scope node b (p + 3) short (o .scrutinee) small told) is
+  module _ {q : ℕ} {a : Evaluated} (small : Small q (p + 3)) (told : StandsAs m b ExpressionKind q → Tells m w out fill scope (evaluated a) (λ k c st. evaluate k c st (expressionAt m b q))) where
+    pub selector-stops : {why : Refusal} → a ≡ Refused why → Tells m w out fill scope (evaluated (Refused why)) (λ k c st. evaluate k c st (expressionAt m d p))
+    selector-stops is = then-stops m w out fill scope (λ k c st x. chosenHere x k c st) selector-means (operand-told m w out fill scope b (p + 3) short (o .scrutinee) small told) is
 
     pub selector-goes-on : (x : Labelled) {f e r : ℕ} {g i : Outcome Labelled} → (b ≡ 0 → ⊥) → a ≡ Yields x → f ≡ endOf m (p + 3) → e ≡ endOf m p → Small r e
-        → ((n : ℕ) → n ≡ suc (b - 1) → Siblings m n Arm f r → Tells m w out fill scope node g (λ k c st. select k c st (armsAt m n (fieldsIn m f r)) p (x .value))) → i ≡ joining (x .labels) g
-        → Tells m w out fill scope node i (λ k c st. evaluate k c st (expressionAt m d p))
+        → ((n : ℕ) → n ≡ suc (b - 1) → Siblings m n Arm f r → Tells m w out fill scope g (λ k c st. select k c st (armsAt m n (fieldsIn m f r)) p (x .value))) → i ≡ joining (x .labels) g
+        → Tells m w out fill scope i (λ k c st. evaluate k c st (expressionAt m d p))
     selector-goes-on x {f} {e} {r} {g} deep is first-is end-is near chosen joined =
         let same : r ≡ endOf m p = near .1 (omega (arith, siblings-within (o .arms) (o .some))) ∙ end-is in
-        then-goes-on m w out fill scope node (λ k c st x. chosenHere x k c st) selector-means x (operand-told m w out fill scope node b (p + 3) short (o .scrutinee) small told) is
-        (subst (λ (n : ℕ). Siblings m b Arm n (endOf m p) → Tells m w out fill scope node g (λ k c st. select k c st (armsAt m b (fieldsIn m n (endOf m p))) p (x .value))) first-is
-        (subst (λ (n : ℕ). Siblings m b Arm f n → Tells m w out fill scope node g (λ k c st. select k c st (armsAt m b (fieldsIn m f n)) p (x .value))) same (chosen b (omega arith))) (o .arms)) joined
+        then-goes-on m w out fill scope (λ k c st x. chosenHere x k c st) selector-means x (operand-told m w out fill scope b (p + 3) short (o .scrutinee) small told) is
+        (subst (λ (n : ℕ). Siblings m b Arm n (endOf m p) → Tells m w out fill scope g (λ k c st. select k c st (armsAt m b (fieldsIn m n (endOf m p))) p (x .value))) first-is
+        (subst (λ (n : ℕ). Siblings m b Arm f n → Tells m w out fill scope g (λ k c st. select k c st (armsAt m b (fieldsIn m f n)) p (x .value))) same (chosen b (omega arith))) (o .arms)) joined

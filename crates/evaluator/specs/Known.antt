@@ -19,10 +19,11 @@ use Rattle.rules.specs.State.{Entry, State, Context, Known, Cells, classScope}
 use Rattle.rules.specs.Evaluate.{findType, findClass, isType, isClass, readIn, readAttribute}
 use Rattle.rules.specs.Compile.{onto}
 use Rattle.rules.specs.declared.Kind.the-variants.{Item}
-use Rattle.rules.proofs.Unique.{UniqueEntries}
+use Rattle.rules.specs.Once.{UniqueEntries}
 use Rattle.places.specs.At.{constantAt, itemAt, StandsAs}
-use Rattle.cells.specs.Scopes.{scopeOf}
-use Rattle.cells.specs.Memory.{baseFor, definitionOf, builtInOf, stateOf}
+use Rattle.cells.specs.Memory.{definitionOf, builtInOf, stateOf}
+use Rattle.memory.specs.declared.Scope.{Scope}
+use Rattle.memory.specs.Contexts.{contextIn}
 use Rattle.catalog.specs.Finding.{Written}
 use Rattle.evaluator.specs.declared.Tried.{Tried}
 
@@ -43,9 +44,9 @@ pub record Ready (m w out : List ℕ) (fill : ℕ) (k : Known) (es : List Entry)
   pub unique : UniqueEntries es
   pub known : KnownIn m w k
 
--- an answer is what the definition gives, in every state that the bytes stand for
-pub record Tells (m w out : List ℕ) (fill scope : ℕ) (node : Bool) (answer : Outcome Labelled) (run : Known → Context → State → Outcome Labelled) : Type 0 where
-  pub says : (k : Known) (c : Context) (es : List Entry) (n r : ℕ) → Ready m w out fill k es → c .scope ≡ scopeOf scope → c .base ≡ baseFor node → answer ≡ run k c (stateOf w es n r)
+-- an answer is what the definition gives on every path, which no expression sees, and in every state that the bytes stand for
+pub record Tells {A : Type 0} (m w out : List ℕ) (fill : ℕ) (scope : Scope) (answer : Outcome A) (run : Known → Context → State → Outcome A) : Type 0 where
+  pub says : (k : Known) (path : Labels) (es : List Entry) (n r : ℕ) → Ready m w out fill k es → answer ≡ run k (contextIn scope path) (stateOf w es n r)
 
 -- the tag of a name's definition, 0 if there is none
 unfoldable pub definedTag : (m w : List ℕ) → (name : ℕ) → ℕ

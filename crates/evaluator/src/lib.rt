@@ -12,7 +12,7 @@ ghost use Rattle.rules.specs.Evaluate.{isType, isClass, readIn, operate, ofCons
 ghost use Rattle.rules.specs.Evaluate as rules;
 ghost use Rattle.rules.specs.declared.Kind.the-variants.{Expression, Arm};
 ghost use Rattle.places.specs.At.{valueAt, constantAt, expressionAt, armsAt, StandsAs, Siblings};
-ghost use Rattle.places.proofs.Expressions.{OperationAt, NegationAt, AttributeReadAt, SelectorAt};
+ghost use Rattle.places.specs.Parts.{OperationAt, NegationAt, AttributeReadAt, SelectorAt};
 ghost use Rattle.cells.specs.Scopes.{scopeOf};
 ghost use Rattle.cells.specs.Memory.{cellsOf, classesOf, baseFor};
 ghost use Rattle.evaluator.specs.Answers.{evaluated};
@@ -20,14 +20,17 @@ ghost use Rattle.evaluator.specs.Operators.{beginInteger, beginBoolean, 
 ghost use Rattle.evaluator.specs.Operators as operators;
 ghost use Rattle.evaluator.specs.Known.{KnownIn, Ready, Tells, Sized, definedTag, triedAt, classRead, attributeOf};
 use labels::Labels;
+use memory::Scope;
 use values::Computed;
 use values::Labelled;
 use values::Reason;
+use values::Refusal;
 use values::Value;
+use values::place;
 
 pub enum Evaluated {
     Value(Labelled),
-    Refused { reason: Reason, place: u16 },
+    Refused(Refusal),
 }
 
 // What the left value says of an operator: not of its kind, the result already, or that the right value counts.
@@ -45,23 +48,6 @@ struct Tried {
 
 // ---- Answers
 
-// A place that a refusal can name: others do not occur.
-fn place(q: usize) -> usize
-    ensures { λ r. ⌜ (r ≤ 65535) × (q ≤ 65535 → r ≡ q) ⌝ }
-{
-    if q <= 65535 { q } else { 65535 }
-}
-
-fn refusal(reason: Reason, p: usize) -> Evaluated
-    requires { ⌜ p ≤ 65535 ⌝ }
-    ensures { λ r. ⌜ evaluated r ≡ refused reason p ⌝ }
-{
-    Evaluated::Refused {
-        reason,
-        place: p as u16,
-    }
-}
-
 // A value that no label decides by itself.
 fn plain_value(value: Value) -> Evaluated
     ensures { λ r. ⌜ evaluated r ≡ plain value ⌝ }
@@ -76,15 +62,8 @@ fn joined(set: Labels, e: Evaluated) -> Evaluated
     ensures { λ r. ⌜ evaluated r ≡ joining set (evaluated e) ⌝ }
 {
     match e {
-        Evaluated::Refused { reason, place } => Evaluated::Refused { reason, place },
-        Evaluated::Value(x) => {
-            let value = x.value;
-            let labels = x.labels;
-            Evaluated::Value(Labelled {
-                value,
-                labels: set.union(labels),
-            })
-        }
+        Evaluated::Refused(refusal) => Evaluated::Refused(refusal),
+        Evaluated::Value(x) => Evaluated::Value(x.under(set)),
     }
 }
 
@@ -166,8 +145,8 @@ fn computed_at(p: usize, c: Computed) -> Evaluated
 {
     match c {
         Computed::Integer(z) => plain_value(Value::Integer(z)),
-        Computed::Overflow => refusal(Reason::Overflow, p),
-        Computed::DivisionByZero => refusal(Reason::DivisionByZero, p),
+        Computed::Overflow => Evaluated::Refused(Refusal::at(Reason::Overflow, p)),
+        Computed::DivisionByZero => Evaluated::Refused(Refusal::at(Reason::DivisionByZero, p)),
     }
 }
 
@@ -176,10 +155,10 @@ fn both_integers(op: u8, p: usize, right: usize, x: Value, y: Value) -> Evaluate
     ensures { λ r. ⌜ evaluated r ≡ bothIntegers (operatorFrom op) p right x y ⌝ }
 {
     let Value::Integer(i) = x else {
-        return refusal(Reason::WrongKind, right);
+        return Evaluated::Refused(Refusal::at(Reason::WrongKind, right));
     };
     let Value::Integer(j) = y else {
-        return refusal(Reason::WrongKind, right);
+        return Evaluated::Refused(Refusal::at(Reason::WrongKind, right));
     };
     if op == 3 {
         return plain_value(Value::Boolean(values::integers::is_greater(i, j)));
@@ -192,7 +171,7 @@ fn right_boolean(right: usize, y: Value) -> Evaluated
     ensures { λ r. ⌜ evaluated r ≡ rightBoolean right y ⌝ }
 {
     let Value::Boolean(_) = y else {
-        return refusal(Reason::WrongKind, right);
+        return Evaluated::Refused(Refusal::at(Reason::WrongKind, right));
     };
     plain_value(y)
 }
@@ -215,7 +194,7 @@ fn negated(operand: usize, x: Value) -> Evaluated
     ensures { λ r. ⌜ evaluated r ≡ operators.negation operand x ⌝ }
 {
     let Value::Boolean(b) = x else {
-        return refusal(Reason::WrongKind, operand);
+        return Evaluated::Refused(Refusal::at(Reason::WrongKind, operand));
     };
     plain_value(Value::Boolean(!b))
 }
@@ -223,19 +202,12 @@ fn negated(operand: usize, x: Value) -> Evaluated
 // ---- Reads
 
 // A variable in a scope, or else in those above it: at most so many are tried.
-fn read_up(
-    work: &[u8],
-    p: usize,
-    scope: u16,
-    name: u16,
-    base_is_node: bool,
-    tries: u16,
-) -> Evaluated
+fn read_up(work: &[u8], p: usize, scope: Scope, name: u16, tries: u16) -> Evaluated
     requires { ⌜ (65536 ≤ length (now work)) × (p ≤ 65535) ⌝ }
-    ensures { λ r. ⌜ evaluated r ≡ readIn p (cellsOf (now (work .entry))) name (upward tries (classesOf (now (work .entry))) (baseFor «base_is_node») (scopeOf scope)) ⌝ }
+    ensures { λ r. ⌜ evaluated r ≡ readIn p (cellsOf (now (work .entry))) name (upward tries (classesOf (now (work .entry))) (baseFor (scope .«base_is_node»)) (scopeOf (scope .number))) ⌝ }
 {
     let mut marks = Labels::EMPTY;
-    let mut at = scope;
+    let mut at = scope.number;
     let mut left = tries;
     while 0 < left {
         let seen = cells::read_cell(work, at, name);
@@ -243,18 +215,18 @@ fn read_up(
         marks = marks.union(mark);
         let held = seen.held;
         match held {
-            cells::Held::Holds(x) => {
+            records::Held::Holds(x) => {
                 return joined(marks, Evaluated::Value(x));
             }
-            cells::Held::Empty => {}
+            records::Held::Empty => {}
         }
-        let memory::Above::At(q) = memory::parent_of(work, base_is_node, at) else {
-            return refusal(Reason::NoValue, p);
+        let memory::Above::At(q) = memory::parent_of(work, scope.base_is_node, at) else {
+            return Evaluated::Refused(Refusal::at(Reason::NoValue, p));
         };
         at = q;
         left -= 1;
     }
-    refusal(Reason::NoValue, p)
+    Evaluated::Refused(Refusal::at(Reason::NoValue, p))
 }
 
 fn defined_tag(m: &[u8], work: &[u8], name: u16) -> u8
@@ -296,9 +268,14 @@ fn read_class(m: &[u8], work: &[u8], p: usize, class: u16, name: u16) -> Evaluat
     ensures { λ r. ⌜ ((k : Known) → KnownIn (now (m .entry)) (now (work .entry)) k → evaluated r ≡ classRead k p (cellsOf (now (work .entry))) class name) ⌝ }
 {
     if !is_class(m, work, class) {
-        return refusal(Reason::Unknown, p);
+        return Evaluated::Refused(Refusal::at(Reason::Unknown, p));
     }
-    read_up(work, p, 2 + class, name, false, 1)
+    let number = 2 + class;
+    let scope = Scope {
+        number,
+        base_is_node: false,
+    };
+    read_up(work, p, scope, name, 1)
 }
 
 // The attribute that the field at p names, of the resource with this title, which stands at `title_place`.
@@ -315,16 +292,16 @@ fn attribute_of(
     ensures { λ r. ⌜ ((k : Known) (es : List Entry) → Ready (now (m .entry)) (now (work .entry)) (now (out .entry)) fill k es → evaluated r ≡ attributeOf k es p «title_place» (two (now (m .entry)) (p + 3)) (two (now (m .entry)) (p + 5)) title) ⌝ }
 {
     let Value::String(s) = title else {
-        return refusal(Reason::WrongKind, title_place);
+        return Evaluated::Refused(Refusal::at(Reason::WrongKind, title_place));
     };
     let kind = wire::two_at(m, p + 3);
     if !is_type(m, work, kind) {
-        return refusal(Reason::Unknown, p);
+        return Evaluated::Refused(Refusal::at(Reason::Unknown, p));
     }
     let found = catalog::read(out, fill, kind, s, wire::two_at(m, p + 5));
     match found {
         catalog::Found::Content(x) => Evaluated::Value(x),
-        catalog::Found::Nothing => refusal(Reason::NotInCatalog, p),
+        catalog::Found::Nothing => Evaluated::Refused(Refusal::at(Reason::NotInCatalog, p)),
     }
 }
 
@@ -356,22 +333,21 @@ fn right_operand(
     work: &[u8],
     out: &[u8],
     fill: usize,
-    scope: u16,
-    base_is_node: bool,
+    scope: Scope,
 ) -> Evaluated
     requires { ⌜ Sized (now m) (now work) (now out) fill p ⌝ }
-    ensures { λ r. ⌜ ((d : ℕ) → OperationAt (now (m .entry)) d below p → Tells (now (m .entry)) (now (work .entry)) (now (out .entry)) fill scope «base_is_node» (evaluated r) (λ k c st. operate (operatorFrom (byte (now (m .entry)) (p + 3))) p (p + 4) (endOf (now (m .entry)) (p + 4)) x (rules.evaluate k c st (expressionAt (now (m .entry)) below (endOf (now (m .entry)) (p + 4)))))) ⌝ }
+    ensures { λ r. ⌜ ((d : ℕ) → OperationAt (now (m .entry)) d below p → Tells (now (m .entry)) (now (work .entry)) (now (out .entry)) fill scope (evaluated r) (λ k c st. operate (operatorFrom (byte (now (m .entry)) (p + 3))) p (p + 4) (endOf (now (m .entry)) (p + 4)) x (rules.evaluate k c st (expressionAt (now (m .entry)) below (endOf (now (m .entry)) (p + 4)))))) ⌝ }
 {
     let op = wire::byte_at(m, p + 3);
     let begun = begin(op, x);
     match begun {
-        Begun::WrongKind => refusal(Reason::WrongKind, place(p + 4)),
+        Begun::WrongKind => Evaluated::Refused(Refusal::at(Reason::WrongKind, place(p + 4))),
         Begun::Decided => plain_value(x),
         Begun::Open => {
             let right = place(wire::end_of(m, p + 4));
-            let b = evaluate(m, below, right, work, out, fill, scope, base_is_node);
+            let b = evaluate(m, below, right, work, out, fill, scope);
             match b {
-                Evaluated::Refused { reason, place } => Evaluated::Refused { reason, place },
+                Evaluated::Refused(refusal) => Evaluated::Refused(refusal),
                 Evaluated::Value(y) => {
                     let value = y.value;
                     let labels = y.labels;
@@ -389,21 +365,20 @@ fn operation(
     work: &[u8],
     out: &[u8],
     fill: usize,
-    scope: u16,
-    base_is_node: bool,
+    scope: Scope,
 ) -> Evaluated
     requires { ⌜ Sized (now m) (now work) (now out) fill p ⌝ }
-    ensures { λ r. ⌜ ((d : ℕ) → OperationAt (now (m .entry)) d below p → Tells (now (m .entry)) (now (work .entry)) (now (out .entry)) fill scope «base_is_node» (evaluated r) (λ k c st. rules.evaluate k c st (expressionAt (now (m .entry)) d p))) ⌝ }
+    ensures { λ r. ⌜ ((d : ℕ) → OperationAt (now (m .entry)) d below p → Tells (now (m .entry)) (now (work .entry)) (now (out .entry)) fill scope (evaluated r) (λ k c st. rules.evaluate k c st (expressionAt (now (m .entry)) d p))) ⌝ }
 {
-    let a = evaluate(m, below, place(p + 4), work, out, fill, scope, base_is_node);
+    let a = evaluate(m, below, place(p + 4), work, out, fill, scope);
     match a {
-        Evaluated::Refused { reason, place } => Evaluated::Refused { reason, place },
+        Evaluated::Refused(refusal) => Evaluated::Refused(refusal),
         Evaluated::Value(x) => {
             let value = x.value;
             let labels = x.labels;
             joined(
                 labels,
-                right_operand(m, below, p, value, work, out, fill, scope, base_is_node),
+                right_operand(m, below, p, value, work, out, fill, scope),
             )
         }
     }
@@ -416,16 +391,15 @@ fn negation(
     work: &[u8],
     out: &[u8],
     fill: usize,
-    scope: u16,
-    base_is_node: bool,
+    scope: Scope,
 ) -> Evaluated
     requires { ⌜ Sized (now m) (now work) (now out) fill p ⌝ }
-    ensures { λ r. ⌜ ((d : ℕ) → NegationAt (now (m .entry)) d below p → Tells (now (m .entry)) (now (work .entry)) (now (out .entry)) fill scope «base_is_node» (evaluated r) (λ k c st. rules.evaluate k c st (expressionAt (now (m .entry)) d p))) ⌝ }
+    ensures { λ r. ⌜ ((d : ℕ) → NegationAt (now (m .entry)) d below p → Tells (now (m .entry)) (now (work .entry)) (now (out .entry)) fill scope (evaluated r) (λ k c st. rules.evaluate k c st (expressionAt (now (m .entry)) d p))) ⌝ }
 {
     let operand = place(p + 3);
-    let a = evaluate(m, below, operand, work, out, fill, scope, base_is_node);
+    let a = evaluate(m, below, operand, work, out, fill, scope);
     match a {
-        Evaluated::Refused { reason, place } => Evaluated::Refused { reason, place },
+        Evaluated::Refused(refusal) => Evaluated::Refused(refusal),
         Evaluated::Value(x) => {
             let value = x.value;
             let labels = x.labels;
@@ -441,16 +415,15 @@ fn attribute_read(
     work: &[u8],
     out: &[u8],
     fill: usize,
-    scope: u16,
-    base_is_node: bool,
+    scope: Scope,
 ) -> Evaluated
     requires { ⌜ Sized (now m) (now work) (now out) fill p ⌝ }
-    ensures { λ r. ⌜ ((d : ℕ) → AttributeReadAt (now (m .entry)) d below p → Tells (now (m .entry)) (now (work .entry)) (now (out .entry)) fill scope «base_is_node» (evaluated r) (λ k c st. rules.evaluate k c st (expressionAt (now (m .entry)) d p))) ⌝ }
+    ensures { λ r. ⌜ ((d : ℕ) → AttributeReadAt (now (m .entry)) d below p → Tells (now (m .entry)) (now (work .entry)) (now (out .entry)) fill scope (evaluated r) (λ k c st. rules.evaluate k c st (expressionAt (now (m .entry)) d p))) ⌝ }
 {
     let title = place(p + 7);
-    let a = evaluate(m, below, title, work, out, fill, scope, base_is_node);
+    let a = evaluate(m, below, title, work, out, fill, scope);
     match a {
-        Evaluated::Refused { reason, place } => Evaluated::Refused { reason, place },
+        Evaluated::Refused(refusal) => Evaluated::Refused(refusal),
         Evaluated::Value(x) => {
             let value = x.value;
             let labels = x.labels;
@@ -470,11 +443,10 @@ fn choose(
     work: &[u8],
     out: &[u8],
     fill: usize,
-    scope: u16,
-    base_is_node: bool,
+    scope: Scope,
 ) -> Evaluated
     requires { ⌜ (Sized (now m) (now work) (now out) fill p) × (end ≤ 65535) ⌝ }
-    ensures { λ r. ⌜ ((d : ℕ) → d ≡ suc inner → Siblings (now (m .entry)) d Arm first end → Tells (now (m .entry)) (now (work .entry)) (now (out .entry)) fill scope «base_is_node» (evaluated r) (λ k c st. rules.select k c st (armsAt (now (m .entry)) d (fieldsIn (now (m .entry)) first end)) p x)) ⌝ }
+    ensures { λ r. ⌜ ((d : ℕ) → d ≡ suc inner → Siblings (now (m .entry)) d Arm first end → Tells (now (m .entry)) (now (work .entry)) (now (out .entry)) fill scope (evaluated r) (λ k c st. rules.select k c st (armsAt (now (m .entry)) d (fieldsIn (now (m .entry)) first end)) p x)) ⌝ }
 {
     let mut tried = Labels::EMPTY;
     let mut q = first;
@@ -484,12 +456,12 @@ fn choose(
         tried = tried.union(labels);
         if arm.matches {
             let chosen = place(wire::end_of(m, q + 3));
-            let e = evaluate(m, inner, chosen, work, out, fill, scope, base_is_node);
+            let e = evaluate(m, inner, chosen, work, out, fill, scope);
             return joined(tried, e);
         }
         q = wire::end_of(m, q);
     }
-    refusal(Reason::NoMatch, p)
+    Evaluated::Refused(Refusal::at(Reason::NoMatch, p))
 }
 
 fn selector(
@@ -499,18 +471,17 @@ fn selector(
     work: &[u8],
     out: &[u8],
     fill: usize,
-    scope: u16,
-    base_is_node: bool,
+    scope: Scope,
 ) -> Evaluated
     requires { ⌜ Sized (now m) (now work) (now out) fill p ⌝ }
-    ensures { λ r. ⌜ ((d : ℕ) → SelectorAt (now (m .entry)) d below p → Tells (now (m .entry)) (now (work .entry)) (now (out .entry)) fill scope «base_is_node» (evaluated r) (λ k c st. rules.evaluate k c st (expressionAt (now (m .entry)) d p))) ⌝ }
+    ensures { λ r. ⌜ ((d : ℕ) → SelectorAt (now (m .entry)) d below p → Tells (now (m .entry)) (now (work .entry)) (now (out .entry)) fill scope (evaluated r) (λ k c st. rules.evaluate k c st (expressionAt (now (m .entry)) d p))) ⌝ }
 {
     if below == 0 {
-        return refusal(Reason::Malformed, p);
+        return Evaluated::Refused(Refusal::at(Reason::Malformed, p));
     }
-    let a = evaluate(m, below, place(p + 3), work, out, fill, scope, base_is_node);
+    let a = evaluate(m, below, place(p + 3), work, out, fill, scope);
     match a {
-        Evaluated::Refused { reason, place } => Evaluated::Refused { reason, place },
+        Evaluated::Refused(refusal) => Evaluated::Refused(refusal),
         Evaluated::Value(x) => {
             let value = x.value;
             let labels = x.labels;
@@ -518,19 +489,7 @@ fn selector(
             let end = place(wire::end_of(m, p));
             joined(
                 labels,
-                choose(
-                    m,
-                    below - 1,
-                    first,
-                    end,
-                    p,
-                    value,
-                    work,
-                    out,
-                    fill,
-                    scope,
-                    base_is_node,
-                ),
+                choose(m, below - 1, first, end, p, value, work, out, fill, scope),
             )
         }
     }
@@ -544,14 +503,13 @@ pub fn evaluate(
     work: &[u8],
     out: &[u8],
     fill: usize,
-    scope: u16,
-    base_is_node: bool,
+    scope: Scope,
 ) -> Evaluated
     requires { ⌜ Sized (now m) (now work) (now out) fill p ⌝ }
-    ensures { λ r. ⌜ (StandsAs (now (m .entry)) depth Expression p → Tells (now (m .entry)) (now (work .entry)) (now (out .entry)) fill scope «base_is_node» (evaluated r) (λ k c st. rules.evaluate k c st (expressionAt (now (m .entry)) depth p))) ⌝ }
+    ensures { λ r. ⌜ (StandsAs (now (m .entry)) depth Expression p → Tells (now (m .entry)) (now (work .entry)) (now (out .entry)) fill scope (evaluated r) (λ k c st. rules.evaluate k c st (expressionAt (now (m .entry)) depth p))) ⌝ }
 {
     if depth == 0 {
-        return refusal(Reason::Malformed, p);
+        return Evaluated::Refused(Refusal::at(Reason::Malformed, p));
     }
     let below = depth - 1;
     let tag = wire::byte_at(m, p);
@@ -559,12 +517,12 @@ pub fn evaluate(
         return Evaluated::Value(constant_at(m, p));
     }
     match tag {
-        0x13 => read_up(work, p, scope, wire::two_at(m, p + 3), base_is_node, 1026),
-        0x14 => read_up(work, p, 0, wire::two_at(m, p + 3), base_is_node, 1),
+        0x13 => read_up(work, p, scope, wire::two_at(m, p + 3), 1026),
+        0x14 => read_up(work, p, memory::TOP, wire::two_at(m, p + 3), 1),
         0x15 => read_class(m, work, p, wire::two_at(m, p + 3), wire::two_at(m, p + 5)),
-        0x16 => operation(m, below, p, work, out, fill, scope, base_is_node),
-        0x17 => negation(m, below, p, work, out, fill, scope, base_is_node),
-        0x18 => attribute_read(m, below, p, work, out, fill, scope, base_is_node),
-        _ => selector(m, below, p, work, out, fill, scope, base_is_node),
+        0x16 => operation(m, below, p, work, out, fill, scope),
+        0x17 => negation(m, below, p, work, out, fill, scope),
+        0x18 => attribute_read(m, below, p, work, out, fill, scope),
+        _ => selector(m, below, p, work, out, fill, scope),
     }
 }

@@ -5,7 +5,7 @@ use mathlib.Core.List.{List}
 use native.Mathlib.Omega.{arith}
 use lib.ListN.{length}
 use borrow.Author.Tests.{eqb-true}
-use Rattle.values.specs.declared.Reason.{Reason}
+use Rattle.values.specs.declared.Refusal.{Refusal}
 use Rattle.wire.specs.Bytes.{byte, endOf, fieldsIn}
 use Rattle.rules.specs.Outcome.{Outcome, refused, done, _>>=_}
 use Rattle.rules.specs.Format.{allowed, forms, formIn, formOf, size, headSize}
@@ -17,8 +17,8 @@ use Rattle.places.specs.At.{statementAt, blockAt, statementsAt, StandsAs, Sibli
 use Rattle.places.proofs.Parts.{first-sibling, no-sibling}
 use Rattle.places.proofs.Statements.{statement-place, block-opens}
 use Rattle.branches.proofs.Standing.{has-level, block-statements, sibling-here, siblings-after}
-use Rattle.resources.specs.declared.Ran.{Ran}
-use Rattle.resources.specs.declared.Ran.the-variants.{Done, Refused}
+use Rattle.resources.specs.declared.Filled.{Filled}
+use Rattle.resources.specs.declared.Filled.the-variants.{Done, Refused}
 use Rattle.declarations.specs.Standing.{NamesKnown}
 use Rattle.execution.specs.Executed.{Able, stateWith, Executes, begun}
 use Rattle.execution.proofs.Ends.{stops, executes-as, then-runs, never-runs, able-after}
@@ -28,14 +28,14 @@ use Rattle.execution.proofs.Names.{known-in, known-past}
 abbrev pub runFrom : List ℕ → (d n q e : ℕ) → Known → Context → State → Outcome State
 runFrom m d n q e k = runBlock k (declaration k n) (statementsAt m d (fieldsIn m q e))
 
-pub record ToRun (m : List ℕ) (d n q e : ℕ) (w₀ w out₀ out : List ℕ) (fill₀ fill left₀ left : ℕ) (In : Context → Type 0) (whole : Known → Context → State → Outcome State) : Type 0 where
+pub record ToRun (m : List ℕ) (d n q e : ℕ) (w₀ w out₀ out : List ℕ) (fill₀ fill left₀ left : ℕ) (c : Context) (whole : Known → Context → State → Outcome State) : Type 0 where
   pub siblings : Siblings m d StatementKind q e
   pub names : NamesKnown m q
   pub able : Able m w out fill
   pub size : length w ≡ length w₀
   pub long : length out ≡ length out₀
   pub steps : left ≤ left₀
-  pub closes : {a : Ran} {w′ out′ : List ℕ} {left′ : ℕ} → Executes m w w′ out out′ fill left left′ In a (runFrom m d n q e) → Executes m w₀ w′ out₀ out′ fill₀ left₀ left′ In a whole
+  pub closes : {a : Filled} {w′ out′ : List ℕ} {left′ : ℕ} → Executes m w w′ out out′ fill left left′ c a (runFrom m d n q e) → Executes m w₀ w′ out₀ out′ fill₀ left₀ left′ c a whole
 
 -- the statements of a block
 pub block-known : {m : List ℕ} {d p : ℕ} → StandsAs m d BlockKind p → NamesKnown m p → NamesKnown m (p + 3)
@@ -45,15 +45,15 @@ block-known {m} {p = p} s k =
     let same : p + 3 + 0 ≡ p + 3 = omega arith in
     subst (NamesKnown m) same inner
 
-pub block-begins : {m w out : List ℕ} {d p e fill left : ℕ} (n : ℕ) (In : Context → Type 0) → Able m w out fill → StandsAs m d BlockKind p → NamesKnown m p → e ≡ endOf m p → ToRun m (d - 1) n (p + 3) e w w out out fill fill left left In (λ k. runBlock k (declaration k n) (blockAt m d p))
-block-begins {m} {d = d} {p = p} n In able s k ends = record {
+pub block-begins : {m w out : List ℕ} {d p e fill left : ℕ} (n : ℕ) (c : Context) → Able m w out fill → StandsAs m d BlockKind p → NamesKnown m p → e ≡ endOf m p → ToRun m (d - 1) n (p + 3) e w w out out fill fill left left c (λ k. runBlock k (declaration k n) (blockAt m d p))
+block-begins {m} {d = d} {p = p} n c able s k ends = record {
   siblings = block-statements s ends;
   names = block-known s k;
   able = able;
   size = refl;
   long = refl;
   steps = omega arith;
-  closes = λ x. executes-as (λ c i. i) (λ k c st. ap (λ (b : Block). runBlock k (declaration k n) b c st) (block-opens s (has-level s) .tree ∙ ap (λ (y : ℕ). statementsAt m (d - 1) (fieldsIn m (p + 3) y)) (sym ends))) x;
+  closes = λ x. executes-as (λ k st. ap (λ (b : Block). runBlock k (declaration k n) b c st) (block-opens s (has-level s) .tree ∙ ap (λ (y : ℕ). statementsAt m (d - 1) (fieldsIn m (p + 3) y)) (sym ends))) x;
 }
 
 -- the first of the statements, and then those from r on
@@ -65,16 +65,16 @@ first-runs {m} {d} {q} {e} {r} n s l h k c st = ap (λ (ps : List ℕ). runBlock
     go (refused x y) = refl
     go (done x) = refl
 
-module _ {m w₀ w out₀ out : List ℕ} {d n q e fill₀ fill left₀ left : ℕ} {In : Context → Type 0} {whole : Known → Context → State → Outcome State} (i : ToRun m d n q e w₀ w out₀ out fill₀ fill left₀ left In whole) where
-  pub block-ends : e ≤ q → Executes m w₀ w out₀ out fill₀ left₀ left In (Done fill) whole
+module _ {m w₀ w out₀ out : List ℕ} {d n q e fill₀ fill left₀ left : ℕ} {c : Context} {whole : Known → Context → State → Outcome State} (i : ToRun m d n q e w₀ w out₀ out fill₀ fill left₀ left c whole) where
+  pub block-ends : e ≤ q → Executes m w₀ w out₀ out fill₀ left₀ left c (Done fill) whole
   unfolding run statementsAt
-  block-ends l = i .closes (stops (i .able) (omega arith) λ k c es s h. record { entries = es; same = ap (λ (ps : List ℕ). runBlock k (declaration k n) (statementsAt m d ps) c (stateWith w out fill left es)) (no-sibling (i .siblings) l .places); stage = s })
+  block-ends l = i .closes (stops (i .able) (omega arith) λ k es s. record { entries = es; same = ap (λ (ps : List ℕ). runBlock k (declaration k n) (statementsAt m d ps) c (stateWith w out fill left es)) (no-sibling (i .siblings) l .places); stage = s })
 
-  module _ (l : q < e) {a : Ran} {w′ out′ : List ℕ} {left′ : ℕ} (runs : Executes m w w′ out out′ fill left left′ In a (begun n q (statementAt m d q))) where
-    pub block-stops : {r : Reason} {p : ℕ} → a ≡ Refused r p → Executes m w₀ w′ out₀ out′ fill₀ left₀ left′ In a whole
+  module _ (l : q < e) {a : Filled} {w′ out′ : List ℕ} {left′ : ℕ} (runs : Executes m w w′ out out′ fill left left′ c a (begun n q (statementAt m d q))) where
+    pub block-stops : {why : Refusal} → a ≡ Refused why → Executes m w₀ w′ out₀ out′ fill₀ left₀ left′ c a whole
     block-stops e = i .closes (never-runs (runFrom m d n (endOf m q) _) (first-runs n (i .siblings) l refl) runs e)
 
-    pub block-goes-on : {more r : ℕ} → a ≡ Done more → length w′ ≡ length w → length out′ ≡ length out → r ≡ endOf m q → ToRun m d n r e w₀ w′ out₀ out′ fill₀ more left₀ left′ In whole
+    pub block-goes-on : {more r : ℕ} → a ≡ Done more → length w′ ≡ length w → length out′ ≡ length out → r ≡ endOf m q → ToRun m d n r e w₀ w′ out₀ out′ fill₀ more left₀ left′ c whole
     block-goes-on {more} {r} is size long next =
         let s = sibling-here (i .siblings) l in
         let fewer = runs .steps in

@@ -8,7 +8,8 @@ use native.Mathlib.Omega.{arith}
 use lib.ListN.{length}
 use borrow.Author.Tests.{eq-eqb, ne-eqb}
 use Rattle.labels.specs.declared.Labels.{Labels}
-use Rattle.values.specs.declared.Reason.{Reason}
+use Rattle.values.specs.declared.Refusal.{Refusal}
+use Rattle.values.specs.Refusals.{refusalAt}
 use Rattle.values.specs.declared.Reason.the-variants.{StepLimit, LevelLimit, Unknown, DeclaredAgain}
 use Rattle.wire.specs.Bytes.{pick, byte, two, endOf, fieldsIn}
 use Rattle.wire.proofs.Fields.{no-fields}
@@ -23,9 +24,11 @@ use Rattle.places.specs.At.{attributesAt, statementAt, blockAt, itemAt, parentA
 use Rattle.places.proofs.Open.{level, header-within}
 use Rattle.places.proofs.Statements.{class-opens}
 use Rattle.places.proofs.Items.{class-definition-opens, parent-given, parent-none}
-use Rattle.cells.specs.Scopes.{scopeOf}
 use Rattle.cells.specs.Memory.{stateOf}
-use Rattle.cells.proofs.Scopes.{class-scope}
+use Rattle.memory.specs.declared.Scope.{Scope}
+use Rattle.memory.specs.declared.Context.{Context as Here}
+use Rattle.memory.specs.Contexts.{contextIn, contextOf}
+use Rattle.evaluator.specs.Answers.{refusedBy}
 use Rattle.attributes.specs.declared.Gathered.{Gathered}
 use Rattle.attributes.specs.declared.Gathered.the-variants.{Done as AllGiven, Refused as NotGiven}
 use Rattle.attributes.specs.Names.{Alike, alikeNone}
@@ -34,17 +37,17 @@ use Rattle.attributes.specs.Evaluated.{GivenIn, notGiven, given}
 use Rattle.attributes.proofs.Table.{gives-none}
 use Rattle.parameters.specs.Checked.{checkGiven}
 use Rattle.parameters.proofs.Laws.{checked-values}
-use Rattle.resources.specs.declared.Ran.{Ran}
-use Rattle.resources.specs.declared.Ran.the-variants.{Done, Refused}
+use Rattle.resources.specs.declared.Filled.{Filled}
+use Rattle.resources.specs.declared.Filled.the-variants.{Done, Refused}
 use Rattle.declarations.specs.declared.Class.{Class}
 use Rattle.declarations.specs.declared.Class.the-variants.{At, Refused as NotFound}
 use Rattle.declarations.specs.declared.StartedClass.{StartedClass}
 use Rattle.declarations.specs.declared.StartedClass.the-variants.{Body, Refused as NotStarted}
 use Rattle.declarations.specs.Standing.{NamesKnown, Set}
-use Rattle.declarations.specs.Classes.{Checked, checkClass, ClassStands, FoundStands, FoundAs, refusedSo as notFound, foundSo, ChecksClass, Entered, classContext, startedAs, BodyStands, StartsClass}
+use Rattle.declarations.specs.Classes.{Checked, checkClass, ClassStands, FoundStands, FoundAs, refusedSo as notFound, foundSo, ChecksClass, Entered, startedAs, BodyStands, StartsClass}
 use Rattle.declarations.proofs.Laws.{class-runs, include-runs, class-enters}
-use Rattle.execution.specs.Executed.{Able, Stage, stateWith, Here, Under, Ends, refusedSo, doneSo, AbleAfter, Executes, Enters, asked}
-use Rattle.execution.proofs.Ends.{ended-done, ended-refused, ends-same, stage-kept, refuses, stops, goes-on, able-after, under-here}
+use Rattle.execution.specs.Executed.{Able, Stage, stateWith, Ends, refusedSo, doneSo, AbleAfter, Executes, Enters, asked}
+use Rattle.execution.proofs.Ends.{ended-done, ended-refused, ends-same, stage-kept, refuses, stops, goes-on, able-after}
 use Rattle.execution.proofs.Names.{known-in, name-small}
 use Rattle.execution.proofs.Types.{too-deep}
 
@@ -80,41 +83,39 @@ module _ {m : List ℕ} {d p : ℕ} (s : StandsAs m d StatementKind p) (tag : by
   unfolding run
   class-statement-runs k declare c st = ap (λ (t : Statement). run k declare t c st) (class-opens (s .stands) (level (s .stands)) tag .tree)
 
-  module _ (levels : ℕ) {w out t : List ℕ} {fill scope end : ℕ} {node : Bool} {g : Gathered} (at-end : end ≡ endOf m p) (told : GivenIn m w out fill scope node (d - 1) (p + 5) end t g) where
-    given-here : {a : Gathered} → g ≡ a → GivenIn m w out fill scope node (d - 1) (p + 5) (endOf m p) t a
-    given-here {a} is = subst (λ (e : ℕ). GivenIn m w out fill scope node (d - 1) (p + 5) e t a) at-end (subst (GivenIn m w out fill scope node (d - 1) (p + 5) end t) is told)
+  module _ (levels : ℕ) {w out t : List ℕ} {fill end : ℕ} {scope : Scope} {g : Gathered} (at-end : end ≡ endOf m p) (told : GivenIn m w out fill scope (d - 1) (p + 5) end t g) where
+    given-here : {a : Gathered} → g ≡ a → GivenIn m w out fill scope (d - 1) (p + 5) (endOf m p) t a
+    given-here {a} is = subst (λ (e : ℕ). GivenIn m w out fill scope (d - 1) (p + 5) e t a) at-end (subst (GivenIn m w out fill scope (d - 1) (p + 5) end t) is told)
 
-    pub class-refused : {left q : ℕ} {path : Labels} {r : Reason} → g ≡ NotGiven r q → Executes m w w out out fill left left (Here scope node path) (Refused r q) (λ k. run k (declaration k levels) (statementAt m d p))
+    pub class-refused : {left : ℕ} {path : Labels} {why : Refusal} → g ≡ NotGiven why → Executes m w w out out fill left left (contextIn scope path) (Refused why) (λ k. run k (declaration k levels) (statementAt m d p))
     unfolding _>>=_
-    class-refused {left} {q} {path} {r} is = go (given-here is)
+    class-refused {left} {path} {why} is = go (given-here is)
       where
-        go : GivenIn m w out fill scope node (d - 1) (p + 5) (endOf m p) t (NotGiven r q) → Executes m w w out out fill left left (Here scope node path) (Refused r q) (λ k. run k (declaration k levels) (statementAt m d p))
-        go (notGiven tells) = refuses r q (omega arith) (λ k c es i h. class-statement-runs k (declaration k levels) c _ ∙ ap (λ (o : Outcome (List Given)). o >>= λ gs. declaration k levels (ofClass p (two m (p + 3)) gs) c (stateWith w out fill left es)) (sym (tells .says k c es _ _ (i .ready) (h .scope) (h .base))))
+        go : GivenIn m w out fill scope (d - 1) (p + 5) (endOf m p) t (NotGiven why) → Executes m w w out out fill left left (contextIn scope path) (Refused why) (λ k. run k (declaration k levels) (statementAt m d p))
+        go (notGiven tells) = refuses why (omega arith) (λ k es i. class-statement-runs k (declaration k levels) (contextIn scope path) _ ∙ ap (λ (o : Outcome (List Given)). o >>= λ gs. declaration k levels (ofClass p (two m (p + 3)) gs) (contextIn scope path) (stateWith w out fill left es)) (sym (tells .says k path es _ _ (i .ready))))
 
-    pub class-declares : {name left left′ : ℕ} {w′ out′ : List ℕ} {path : Labels} {a : Ran} → g ≡ AllGiven → name ≡ two m (p + 3)
-        → ((gs : List Given) → Gives t gs → Alike m gs (fieldsIn m (p + 5) end) → (true ≡ false → gs ≡ []) → Executes m w w′ out out′ fill left left′ (Under node path) a (λ k. declaration k levels (asked true p name gs)))
-        → Executes m w w′ out out′ fill left left′ (Here scope node path) a (λ k. run k (declaration k levels) (statementAt m d p))
+    pub class-declares : {name left left′ : ℕ} {w′ out′ : List ℕ} {path : Labels} {a : Filled} → g ≡ AllGiven → name ≡ two m (p + 3)
+        → ((gs : List Given) → Gives t gs → Alike m gs (fieldsIn m (p + 5) end) → (true ≡ false → gs ≡ []) → Executes m w w′ out out′ fill left left′ (contextIn scope path) a (λ k. declaration k levels (asked true p name gs)))
+        → Executes m w w′ out out′ fill left left′ (contextIn scope path) a (λ k. run k (declaration k levels) (statementAt m d p))
     unfolding _>>=_ asked
     class-declares {name} {left} {left′} {w′} {out′} {path} {a} is by-name then = go (given-here is)
       where
-        go : GivenIn m w out fill scope node (d - 1) (p + 5) (endOf m p) t AllGiven → Executes m w w′ out out′ fill left left′ (Here scope node path) a (λ k. run k (declaration k levels) (statementAt m d p))
+        go : GivenIn m w out fill scope (d - 1) (p + 5) (endOf m p) t AllGiven → Executes m w w′ out out′ fill left left′ (contextIn scope path) a (λ k. run k (declaration k levels) (statementAt m d p))
         go (given gs gives alikes tells) =
-            goes-on (omega arith) (λ k c es i h. record {
-              context = c;
+            goes-on (omega arith) (λ k es i. record {
               entries = es;
-              here = under-here h;
               stage = i;
-              same = class-statement-runs k (declaration k levels) c _
-                  ∙ ap (λ (o : Outcome (List Given)). o >>= λ gs. declaration k levels (ofClass p (two m (p + 3)) gs) c (stateWith w out fill left es)) (sym (tells .says k c es _ _ (i .ready) (h .scope) (h .base)))
-                  ∙ ap (λ (n : ℕ). declaration k levels (ofClass p n gs) c (stateWith w out fill left es)) (sym by-name);
+              same = class-statement-runs k (declaration k levels) (contextIn scope path) _
+                  ∙ ap (λ (o : Outcome (List Given)). o >>= λ gs. declaration k levels (ofClass p (two m (p + 3)) gs) (contextIn scope path) (stateWith w out fill left es)) (sym (tells .says k path es _ _ (i .ready)))
+                  ∙ ap (λ (n : ℕ). declaration k levels (ofClass p n gs) (contextIn scope path) (stateWith w out fill left es)) (sym by-name);
             }) (then gs gives (rw at-end alikes) (λ e. let z : _≡_ {A = ℕ} 0 1 = cc in absurd (omega arith)))
 
 -- ---- What a 29 or a child's definition gives
 
 -- what is asked for gives nothing
-pub nothing-given : (levels p name : ℕ) {m t w w′ out out′ : List ℕ} {fill left left′ : ℕ} {node : Bool} {path : Labels} {a : Ran} → length t ≡ 0
-    → ((gs : List Given) → Gives t gs → Alike m gs (fieldsIn m 0 0) → (false ≡ false → gs ≡ []) → Executes m w w′ out out′ fill left left′ (Under node path) a (λ k. declaration k levels (asked false p name gs)))
-    → Executes m w w′ out out′ fill left left′ (Under node path) a (λ k. declaration k levels (included p name))
+pub nothing-given : (levels p name : ℕ) {m t w w′ out out′ : List ℕ} {fill left left′ : ℕ} {c : Context} {a : Filled} → length t ≡ 0
+    → ((gs : List Given) → Gives t gs → Alike m gs (fieldsIn m 0 0) → (false ≡ false → gs ≡ []) → Executes m w w′ out out′ fill left left′ c a (λ k. declaration k levels (asked false p name gs)))
+    → Executes m w w′ out out′ fill left left′ c a (λ k. declaration k levels (included p name))
 unfolding asked
 nothing-given levels p name {m} {t} e then = then [] (gives-none t (omega arith)) (rw (no-fields m 0 0 (omega arith)) alikeNone) (λ _. refl)
 
@@ -127,15 +128,15 @@ module _ (m w : List ℕ) (levels p : ℕ) {name : ℕ} {b : Bool} (by-name : na
       ap (λ (n : ℕ). run k (declaration k levels) (include p n) c (stateWith w out fill left es)) (sym by-name)
       ∙ ap (λ (y : Bool). elim y [ true ↦ done (stateWith w out fill left es) | false ↦ declaration k levels (included p name) c (stateWith w out fill left es) ]) (sym (told es _ _) ∙ is)
 
-  pub include-declared : {out : List ℕ} {fill left : ℕ} {node : Bool} {path : Labels} → Able m w out fill → b ≡ true → Executes m w w out out fill left left (Under node path) (Done fill) (λ k. run k (declaration k levels) (include p (two m (p + 3))))
-  include-declared {out} {fill} {left} able is = stops able (omega arith) (λ k c es g h. record { entries = es; same = include-told out fill left k c es is; stage = g })
+  pub include-declared : {out : List ℕ} {fill left : ℕ} {c : Context} → Able m w out fill → b ≡ true → Executes m w w out out fill left left c (Done fill) (λ k. run k (declaration k levels) (include p (two m (p + 3))))
+  include-declared {out} {fill} {left} {c} able is = stops able (omega arith) (λ k es g. record { entries = es; same = include-told out fill left k c es is; stage = g })
 
-  pub include-declares : {w′ out out′ : List ℕ} {fill left left′ : ℕ} {node : Bool} {path : Labels} {a : Ran} → b ≡ false → Executes m w w′ out out′ fill left left′ (Under node path) a (λ k. declaration k levels (included p name)) → Executes m w w′ out out′ fill left left′ (Under node path) a (λ k. run k (declaration k levels) (include p (two m (p + 3))))
-  include-declares {out = out} {fill = fill} {left = left} is then = goes-on (omega arith) (λ k c es g h. record { context = c; entries = es; here = h; stage = g; same = include-told out fill left k c es is }) then
+  pub include-declares : {w′ out out′ : List ℕ} {fill left left′ : ℕ} {c : Context} {a : Filled} → b ≡ false → Executes m w w′ out out′ fill left left′ c a (λ k. declaration k levels (included p name)) → Executes m w w′ out out′ fill left left′ c a (λ k. run k (declaration k levels) (include p (two m (p + 3))))
+  include-declares {out = out} {fill = fill} {left = left} {c = c} is then = goes-on (omega arith) (λ k es g. record { entries = es; stage = g; same = include-told out fill left k c es is }) then
 
 -- ---- The ways of `declare_class`
 
-pub class-too-deep : (again : Bool) {m w out : List ℕ} {fill left levels : ℕ} {In : Context → Type 0} {a : Ran} (p q : ℕ) (gs : List Given) → levels ≡ 0 → a ≡ Refused LevelLimit p → Executes m w w out out fill left left In a (λ k. declaration k levels (asked again p q gs))
+pub class-too-deep : (again : Bool) {m w out : List ℕ} {fill left levels : ℕ} {c : Context} {a : Filled} (p q : ℕ) (gs : List Given) → levels ≡ 0 → a ≡ Refused (refusalAt LevelLimit p) → Executes m w w out out fill left left c a (λ k. declaration k levels (asked again p q gs))
 unfolding asked declarationPlace
 class-too-deep true p q gs z e = too-deep (ofClass p q gs) z e
 class-too-deep false p q gs z e = too-deep (included p q) z e
@@ -156,12 +157,12 @@ looked-new k true n p q x c st e = rw e refl
 looked-new k false n p q x c st e = rw (e, looked) refl
 
 -- a class that is declared meanwhile
-meanwhile-able : (again : Bool) (p : ℕ) {m w out : List ℕ} {fill : ℕ} {answer : Ran} → answer ≡ pick again (Refused DeclaredAgain p) (Done fill) → Able m w out fill → AbleAfter m w out answer
+meanwhile-able : (again : Bool) (p : ℕ) {m w out : List ℕ} {fill : ℕ} {answer : Filled} → answer ≡ pick again (Refused (refusalAt DeclaredAgain p)) (Done fill) → Able m w out fill → AbleAfter m w out answer
 unfolding AbleAfter
 meanwhile-able true p {m} {w} {out} e a = subst (AbleAfter m w out) (sym e) tt
 meanwhile-able false p {m} {w} {out} e a = subst (AbleAfter m w out) (sym e) a
 
-meanwhile-ends : (k : Known) (again : Bool) (n p q : ℕ) (x : Checked) (c : Context) {m w out : List ℕ} {fill left : ℕ} {es : List Entry} {answer : Ran} → isDeclared q (stateWith w out fill left es) ≡ true → answer ≡ pick again (Refused DeclaredAgain p) (Done fill) → Stage m w out fill k es → Ends m w out left k (looked again k n p q x c (stateWith w out fill left es)) answer
+meanwhile-ends : (k : Known) (again : Bool) (n p q : ℕ) (x : Checked) (c : Context) {m w out : List ℕ} {fill left : ℕ} {es : List Entry} {answer : Filled} → isDeclared q (stateWith w out fill left es) ≡ true → answer ≡ pick again (Refused (refusalAt DeclaredAgain p)) (Done fill) → Stage m w out fill k es → Ends m w out left k (looked again k n p q x c (stateWith w out fill left es)) answer
 unfolding looked refuseIf _>>=_
 meanwhile-ends k true n p q x c {m} {w} {out} {left = left} y e g = subst (Ends m w out left k _) (sym e) (refusedSo (rw (y, looked) refl))
 meanwhile-ends k false n p q x c {m} {w} {out} {left = left} {es = es} y e g = subst (Ends m w out left k _) (sym e) (doneSo es (rw (y, looked) refl) g)
@@ -204,16 +205,16 @@ module _ {m t w : List ℕ} {levels p q first end : ℕ} {again : Bool} {found :
   unfolding FoundStands
   found-stands is = subst (FoundStands m) is (checks .stands)
 
-  pub check-refused : {out : List ℕ} {fill left z : ℕ} {node : Bool} {path : Labels} {r : Reason} → found ≡ NotFound r z
-      → (gs : List Given) → Gives t gs → Alike m gs (fieldsIn m first end) → (again ≡ false → gs ≡ []) → Executes m w w out out fill left left (Under node path) (Refused r z) (λ k. declaration k levels (asked again p q gs))
+  pub check-refused : {out : List ℕ} {fill left : ℕ} {c : Context} {why : Refusal} → found ≡ NotFound why
+      → (gs : List Given) → Gives t gs → Alike m gs (fieldsIn m first end) → (again ≡ false → gs ≡ []) → Executes m w w out out fill left left c (Refused why) (λ k. declaration k levels (asked again p q gs))
   unfolding _>>=_
-  check-refused {out} {fill} {left} {z} {r = r} is gs gives alikes empty = refuses r z (omega arith) (λ k c es g h.
+  check-refused {out} {fill} {left} {c} {why} is gs gives alikes empty = refuses why (omega arith) (λ k es g.
       ap (λ (l : ℕ). declaration k l (asked again p q gs) c (stateWith w out fill left es)) up
       ∙ asked-runs k n p q again gs c (stateWith w out fill left es) empty
       ∙ ap (λ (o : Outcome Checked). o >>= λ x. parentFirst k (declaration k n) (x .definition .parent) c (stateWith w out fill left es) >>= looked again k n p q x c)
       (go (subst (FoundAs m (checkClass k again p q gs (stateWith w out fill left es))) is (checks .says k es _ _ gs (g .ready .known) gives alikes))))
     where
-      go : {o : Outcome Checked} → FoundAs m o (NotFound r z) → o ≡ refused r z
+      go : {o : Outcome Checked} → FoundAs m o (NotFound why) → o ≡ refusedBy why
       go (notFound e) = e
 
   module _ {d : ℕ} (is : found ≡ At d) (gs : List Given) (gives : Gives t gs) (alikes : Alike m gs (fieldsIn m first end)) (empty : again ≡ false → gs ≡ []) where
@@ -231,28 +232,28 @@ module _ {m t w : List ℕ} {levels p q first end : ℕ} {again : Bool} {found :
               ∙ ap (λ (o : Option Parent). parentFirst k (declaration k n) o c (stateWith w out fill left es) >>= looked again k n p q (record { definition = x; values = vs }) c) (class-parent (found-stands is) item);
         }
 
-    module _ {w₁ out out₁ : List ℕ} {fill left left₁ : ℕ} {node : Bool} {path : Labels} {a : Ran} (parent : Executes m w w₁ out out₁ fill left left₁ (Under node path) a (λ k. parentFirst k (declaration k n) (parentAt m (d + 5)))) where
-      pub parent-refused : {r : Reason} {z : ℕ} → a ≡ Refused r z → Executes m w w₁ out out₁ fill left left₁ (Under node path) a (λ k. declaration k levels (asked again p q gs))
+    module _ {w₁ out out₁ : List ℕ} {fill left left₁ : ℕ} {c : Context} {a : Filled} (parent : Executes m w w₁ out out₁ fill left left₁ c a (λ k. parentFirst k (declaration k n) (parentAt m (d + 5)))) where
+      pub parent-refused : {why : Refusal} → a ≡ Refused why → Executes m w w₁ out out₁ fill left left₁ c a (λ k. declaration k levels (asked again p q gs))
       unfolding _>>=_
-      parent-refused {r} {z} e = subst (λ (b : Ran). Executes m w w₁ out out₁ fill left left₁ (Under node path) b (λ k. declaration k levels (asked again p q gs))) (sym e) (refuses r z (parent .steps) (λ k c es g h.
+      parent-refused {why} e = subst (λ (b : Filled). Executes m w w₁ out out₁ fill left left₁ c b (λ k. declaration k levels (asked again p q gs))) (sym e) (refuses why (parent .steps) (λ k es g.
           let f = found-class left c g in
           ap (λ (l : ℕ). declaration k l (asked again p q gs) c (stateWith w out fill left es)) up
           ∙ f .runs
-          ∙ ap (λ (o : Outcome State). o >>= looked again k n p q (f .checked) c) (ended-refused (subst (Ends m w₁ out₁ left₁ k (parentFirst k (declaration k n) (parentAt m (d + 5)) c (stateWith w out fill left es))) e (parent .says k c es g h)))))
+          ∙ ap (λ (o : Outcome State). o >>= looked again k n p q (f .checked) c) (ended-refused (subst (Ends m w₁ out₁ left₁ k (parentFirst k (declaration k n) (parentAt m (d + 5)) c (stateWith w out fill left es))) e (parent .says k es g)))))
 
       -- the parent is declared: the second look
       module _ {fill₁ : ℕ} (e : a ≡ Done fill₁) {b : Bool} (told : (es : List Entry) (n r : ℕ) → b ≡ isDeclared q (stateOf w₁ es n r)) where
-        record After (k : Known) (c : Context) (es : List Entry) : Type 0 where
+        record After (k : Known) (es : List Entry) : Type 0 where
           entries : List Entry
           stage : Stage m w₁ out₁ fill₁ k entries
           class : FoundClass m k n p q d again gs c (stateWith w out fill left es)
           same : declaration k levels (asked again p q gs) c (stateWith w out fill left es) ≡ looked again k n p q (class .checked) c (stateWith w₁ out₁ fill₁ left₁ entries)
 
-        after : (k : Known) (c : Context) (es : List Entry) → Stage m w out fill k es → Under node path c → After k c es
+        after : (k : Known) (es : List Entry) → Stage m w out fill k es → After k es
         unfolding _>>=_
-        after k c es g h =
+        after k es g =
             let f = found-class left c g in
-            let o = ended-done (subst (Ends m w₁ out₁ left₁ k (parentFirst k (declaration k n) (parentAt m (d + 5)) c (stateWith w out fill left es))) e (parent .says k c es g h)) in
+            let o = ended-done (subst (Ends m w₁ out₁ left₁ k (parentFirst k (declaration k n) (parentAt m (d + 5)) c (stateWith w out fill left es))) e (parent .says k es g)) in
             record {
               entries = o .entries;
               stage = o .stage;
@@ -260,22 +261,22 @@ module _ {m t w : List ℕ} {levels p q first end : ℕ} {again : Bool} {found :
               same = ap (λ (l : ℕ). declaration k l (asked again p q gs) c (stateWith w out fill left es)) up ∙ f .runs ∙ ap (λ (o : Outcome State). o >>= looked again k n p q (f .checked) c) (o .same);
             }
 
-        pub class-meanwhile : {answer : Ran} → b ≡ true → answer ≡ pick again (Refused DeclaredAgain p) (Done fill₁) → Executes m w w₁ out out₁ fill left left₁ (Under node path) answer (λ k. declaration k levels (asked again p q gs))
+        pub class-meanwhile : {answer : Filled} → b ≡ true → answer ≡ pick again (Refused (refusalAt DeclaredAgain p)) (Done fill₁) → Executes m w w₁ out out₁ fill left left₁ c answer (λ k. declaration k levels (asked again p q gs))
         class-meanwhile y i = record {
           able = meanwhile-able again p i (able-after e (parent .able));
           steps = parent .steps;
-          says = λ k c es g h.
-              let f = after k c es g h in
+          says = λ k es g.
+              let f = after k es g in
               ends-same (f .same) (meanwhile-ends k again n p q (f .class .checked) c (sym (told (f .entries) _ _) ∙ y) i (f .stage));
         }
 
-        pub class-entered : {w₂ out₂ : List ℕ} {left₂ : ℕ} {answer : Ran} → b ≡ false → Enters m t w₁ w₂ out₁ out₂ fill₁ left₁ left₂ n d node path answer → Executes m w w₂ out out₂ fill left left₂ (Under node path) answer (λ k. declaration k levels (asked again p q gs))
+        pub class-entered : {w₂ out₂ : List ℕ} {left₂ : ℕ} {answer : Filled} → b ≡ false → Enters m t w₁ w₂ out₁ out₂ fill₁ left₁ left₂ n d c answer → Executes m w w₂ out out₂ fill left left₂ c answer (λ k. declaration k levels (asked again p q gs))
         class-entered y enters = record {
           able = enters .able;
           steps = let x = enters .steps in let z = parent .steps in omega arith;
-          says = λ k c es g h.
-              let f = after k c es g h in
-              ends-same (f .same ∙ looked-new k again n p q (f .class .checked) c _ (sym (told (f .entries) _ _) ∙ y)) (enters .says (f .class .checked .definition) gs (f .class .checked .values) (f .class .item) gives (f .class .values) k c (f .entries) (f .stage) h);
+          says = λ k es g.
+              let f = after k es g in
+              ends-same (f .same ∙ looked-new k again n p q (f .class .checked) c _ (sym (told (f .entries) _ _) ∙ y)) (enters .says (f .class .checked .definition) gs (f .class .checked .values) (f .class .item) gives (f .class .values) k (f .entries) (f .stage));
         }
 
 -- ---- The ways of `declare_parent`
@@ -298,9 +299,9 @@ abbrev afterLook : (levels q name : ℕ) → Known → Context → State → Boo
 afterLook levels q name k c st x = elim x [ true ↦ done st | false ↦ takeStep q st >>= λ st′. declaration k levels (included q name) c st′ ]
 
 module _ (m w : List ℕ) (levels d : ℕ) {t : ℕ} (read : t ≡ byte m (d + 5)) where
-  pub no-parent : {out : List ℕ} {fill left : ℕ} {node : Bool} {path : Labels} → Able m w out fill → (t ≡ 0x35 → ⊥) → Executes m w w out out fill left left (Under node path) (Done fill) (λ k. parentFirst k (declaration k levels) (parentAt m (d + 5)))
+  pub no-parent : {out : List ℕ} {fill left : ℕ} {c : Context} → Able m w out fill → (t ≡ 0x35 → ⊥) → Executes m w w out out fill left left c (Done fill) (λ k. parentFirst k (declaration k levels) (parentAt m (d + 5)))
   unfolding parentFirst
-  no-parent {out} {fill} {left} able other = stops able (omega arith) (λ k c es g h. record {
+  no-parent {out} {fill} {left} {c} able other = stops able (omega arith) (λ k es g. record {
     entries = es;
     same = ap (λ (o : Option Parent). parentFirst k (declaration k levels) o c (stateWith w out fill left es)) (parent-none m (d + 5) (ne-eqb (byte m (d + 5)) 0x35 (λ e. other (read ∙ e))));
     stage = g;
@@ -313,52 +314,49 @@ module _ (m w : List ℕ) (levels d : ℕ) {t : ℕ} (read : t ≡ byte m (d + 5
         ap (λ (o : Option Parent). parentFirst k (declaration k levels) o c (stateWith w out fill left es)) (parent-given m (d + 5) (eq-eqb (byte m (d + 5)) 0x35 (sym read ∙ is)) ∙ ap (λ (n : ℕ). some (record { place = d + 5; name = n })) (sym by-name))
         ∙ ap (afterLook levels (d + 5) name k c (stateWith w out fill left es)) (sym (told es _ _) ∙ e)
 
-    pub parent-declared : {out : List ℕ} {fill left : ℕ} {node : Bool} {path : Labels} → Able m w out fill → b ≡ true → Executes m w w out out fill left left (Under node path) (Done fill) (λ k. parentFirst k (declaration k levels) (parentAt m (d + 5)))
-    parent-declared {out} {fill} {left} able y = stops able (omega arith) (λ k c es g h. record { entries = es; same = parent-told out fill left k c es y; stage = g })
+    pub parent-declared : {out : List ℕ} {fill left : ℕ} {c : Context} → Able m w out fill → b ≡ true → Executes m w w out out fill left left c (Done fill) (λ k. parentFirst k (declaration k levels) (parentAt m (d + 5)))
+    parent-declared {out} {fill} {left} {c} able y = stops able (omega arith) (λ k es g. record { entries = es; same = parent-told out fill left k c es y; stage = g })
 
-    pub parent-no-step : {out : List ℕ} {fill left : ℕ} {node : Bool} {path : Labels} {a : Ran} → b ≡ false → left ≡ 0 → a ≡ Refused StepLimit (d + 5) → Executes m w w out out fill left left (Under node path) a (λ k. parentFirst k (declaration k levels) (parentAt m (d + 5)))
+    pub parent-no-step : {out : List ℕ} {fill left : ℕ} {c : Context} {a : Filled} → b ≡ false → left ≡ 0 → a ≡ Refused (refusalAt StepLimit (d + 5)) → Executes m w w out out fill left left c a (λ k. parentFirst k (declaration k levels) (parentAt m (d + 5)))
     unfolding _>>=_
-    parent-no-step {out} {fill} {left} {node} {path} y z e = subst (λ (a : Ran). Executes m w w out out fill left left (Under node path) a (λ k. parentFirst k (declaration k levels) (parentAt m (d + 5)))) (sym e) (refuses StepLimit (d + 5) (omega arith) (λ k c es g h.
+    parent-no-step {out} {fill} {left} {c} y z e = subst (λ (a : Filled). Executes m w w out out fill left left c a (λ k. parentFirst k (declaration k levels) (parentAt m (d + 5)))) (sym e) (refuses (refusalAt StepLimit (d + 5)) (omega arith) (λ k es g.
         parent-told out fill left k c es y ∙ ap (λ (o : Outcome State). o >>= λ st′. declaration k levels (included (d + 5) name) c st′) (no-step (d + 5) w out fill left es z)))
 
-    pub parent-declares : {w′ out out′ : List ℕ} {fill left left′ : ℕ} {node : Bool} {path : Labels} {a : Ran} → b ≡ false → (left ≡ 0 → ⊥) → Executes m w w′ out out′ fill (left - 1) left′ (Under node path) a (λ k. declaration k levels (included (d + 5) name)) → Executes m w w′ out out′ fill left left′ (Under node path) a (λ k. parentFirst k (declaration k levels) (parentAt m (d + 5)))
+    pub parent-declares : {w′ out out′ : List ℕ} {fill left left′ : ℕ} {c : Context} {a : Filled} → b ≡ false → (left ≡ 0 → ⊥) → Executes m w w′ out out′ fill (left - 1) left′ c a (λ k. declaration k levels (included (d + 5) name)) → Executes m w w′ out out′ fill left left′ c a (λ k. parentFirst k (declaration k levels) (parentAt m (d + 5)))
     unfolding _>>=_
-    parent-declares {out = out} {fill = fill} {left = left} y some-left then = goes-on (omega arith) (λ k c es g h. record {
-      context = c;
+    parent-declares {out = out} {fill = fill} {left = left} {c = c} y some-left then = goes-on (omega arith) (λ k es g. record {
       entries = es;
-      here = h;
       stage = g;
       same = parent-told out fill left k c es y ∙ ap (λ (o : Outcome State). o >>= λ st′. declaration k levels (included (d + 5) name) c st′) (step-taken (d + 5) w out fill left es some-left);
     }) then
 
 -- ---- The ways of `enter_class`
 
-module _ {m t w w₁ : List ℕ} {d : ℕ} {node : Bool} {path : Labels} {started : StartedClass} (starts : StartsClass m t w w₁ d node path started) (n : ℕ) where
-  class-started : (out : List ℕ) (fill left : ℕ) {a : StartedClass} → started ≡ a → {x : ClassDefinition} {gs vs : List Given} → itemAt m d ≡ definition (classDefinition x) → Gives t gs → parameterValues (x .parameters) gs ≡ done vs → (k : Known) (c : Context) (es : List Entry) → Under node path c
-      → enterClass k (declaration k n) x vs c (stateWith w out fill left es) ≡ (startedAs m (two m (d + 3)) path a (stateWith w₁ out fill left es) >>= λ e. runBlock k (declaration k n) (e .body) (e .here) (e .state))
-  class-started out fill left is {x} {gs} {vs} item gives values k c es h =
-      class-enters k (declaration k n) x vs c (stateWith w out fill left es)
+module _ {m t w w₁ : List ℕ} {d : ℕ} {here : Here} {started : StartedClass} (starts : StartsClass m t w w₁ d here started) (n : ℕ) where
+  class-started : (out : List ℕ) (fill left : ℕ) {a : StartedClass} → started ≡ a → {x : ClassDefinition} {gs vs : List Given} → itemAt m d ≡ definition (classDefinition x) → Gives t gs → parameterValues (x .parameters) gs ≡ done vs → (k : Known) (es : List Entry)
+      → enterClass k (declaration k n) x vs (contextOf here) (stateWith w out fill left es) ≡ (startedAs m a (stateWith w₁ out fill left es) >>= λ e. runBlock k (declaration k n) (e .body) (e .here) (e .state))
+  class-started out fill left is {x} {gs} {vs} item gives values k es =
+      class-enters k (declaration k n) x vs (contextOf here) (stateWith w out fill left es)
       ∙ ap (λ (o : Outcome Entered). o >>= λ e. runBlock k (declaration k n) (e .body) (e .here) (e .state))
-      (sym (starts .says c es _ _ x gs vs item gives values (h .base) (h .path)) ∙ ap (λ (a : StartedClass). startedAs m (two m (d + 3)) path a (stateWith w₁ out fill left es)) is)
+      (sym (starts .says es _ _ x gs vs item gives values) ∙ ap (λ (a : StartedClass). startedAs m a (stateWith w₁ out fill left es)) is)
 
-  pub enter-refused : {out : List ℕ} {fill left z : ℕ} {r : Reason} → started ≡ NotStarted r z → Enters m t w w₁ out out fill left left n d node path (Refused r z)
+  pub enter-refused : {out : List ℕ} {fill left : ℕ} {why : Refusal} → started ≡ NotStarted why → Enters m t w w₁ out out fill left left n d (contextOf here) (Refused why)
   unfolding AbleAfter startedAs _>>=_
   enter-refused {out} {fill} {left} is = record {
     able = tt;
     steps = omega arith;
-    says = λ x gs vs item gives values k c es g h. refusedSo (class-started out fill left is item gives values k c es h);
+    says = λ x gs vs item gives values k es g. refusedSo (class-started out fill left is item gives values k es);
   }
 
-  pub enter-runs : {w₂ out out₂ : List ℕ} {fill left left₂ b s : ℕ} {base : Bool} {a : Ran} → started ≡ Body b base → s ≡ 2 + two m (d + 3) → two m (d + 3) < 1024 → Executes m w₁ w₂ out out₂ fill left left₂ (Here s base path) a (λ k. runBlock k (declaration k n) (blockAt m 31 b)) → Enters m t w w₂ out out₂ fill left left₂ n d node path a
+  pub enter-runs : {w₂ out out₂ : List ℕ} {fill left left₂ b : ℕ} (inside : Here) {a : Filled} → started ≡ Body b inside → Executes m w₁ w₂ out out₂ fill left left₂ (contextOf inside) a (λ k. runBlock k (declaration k n) (blockAt m 31 b)) → Enters m t w w₂ out out₂ fill left left₂ n d (contextOf here) a
   unfolding startedAs _>>=_
-  enter-runs {out = out} {fill = fill} {left = left} {base = base} is at-scope small body = record {
+  enter-runs {out = out} {fill = fill} {left = left} inside is body = record {
     able = body .able;
     steps = body .steps;
-    says = λ x gs vs item gives values k c es g h.
-        ends-same (class-started out fill left is item gives values k c es h)
-        (body .says k (classContext (two m (d + 3)) base path) es (stage-kept (starts .keeps) g) (record { scope = sym (ap scopeOf at-scope ∙ class-scope (two m (d + 3)) small); base = refl; path = refl }));
+    says = λ x gs vs item gives values k es g. ends-same (class-started out fill left is item gives values k es) (body .says k es (stage-kept (starts .keeps) g));
   }
 
-  pub class-body-stands : {b : ℕ} {base : Bool} → started ≡ Body b base → StandsAs m 31 BlockKind b × NamesKnown m b
-  unfolding BodyStands
-  class-body-stands is = subst (BodyStands m) is (starts .stands)
+-- its block
+pub class-body-stands : {m t w w₁ : List ℕ} {d b : ℕ} {here inside : Here} {started : StartedClass} → StartsClass m t w w₁ d here started → started ≡ Body b inside → StandsAs m 31 BlockKind b × NamesKnown m b
+unfolding BodyStands
+class-body-stands {m} starts is = subst (BodyStands m) is (starts .stands)

@@ -1,23 +1,22 @@
 -- What runs, and then what comes after it: one law for each way in which the code goes on, its premises as the callees ensure them.
 use Prim.Native.Nat.{ℕ, _≤_}
 use mathlib.Core.Path.{_≡_, sym, ap, _∙_, subst}
-use mathlib.Core.Bool.{Bool}
 use mathlib.Core.List.{List}
 use native.Mathlib.Omega.{arith}
 use lib.ListN.{length}
-use Rattle.labels.specs.declared.Labels.{Labels}
-use Rattle.values.specs.declared.Reason.{Reason}
-use Rattle.rules.specs.Outcome.{Outcome, refused, done, _>>=_}
+use Rattle.values.specs.declared.Refusal.{Refusal}
+use Rattle.rules.specs.Outcome.{Outcome, done, _>>=_}
 use Rattle.rules.specs.State.{Entry, State, Context, Known}
 use Rattle.rules.specs.Evaluate.{findType, findClass}
 use Rattle.cells.specs.Memory.{Names, namesOf}
 use Rattle.memory.proofs.Titles.{title-kept}
+use Rattle.evaluator.specs.Answers.{refusedBy}
 use Rattle.evaluator.specs.Known.{DefinedAt, KnownIn}
 use Rattle.statements.specs.Answers.{Keeps}
-use Rattle.resources.specs.declared.Ran.{Ran}
-use Rattle.resources.specs.declared.Ran.the-variants.{Done, Refused}
+use Rattle.resources.specs.declared.Filled.{Filled}
+use Rattle.resources.specs.declared.Filled.the-variants.{Done, Refused}
 use Rattle.declarations.proofs.Laws.{set-kept}
-use Rattle.execution.specs.Executed.{Able, Stage, stateWith, Here, Under, Ends, refusedSo, doneSo, AbleAfter, Executes}
+use Rattle.execution.specs.Executed.{Able, Stage, stateWith, Ends, refusedSo, doneSo, AbleAfter, Executes}
 
 -- ---- What an answer tells
 
@@ -30,11 +29,11 @@ pub record DoneAs (m w out : List ℕ) (fill left : ℕ) (k : Known) (o : Outcom
 pub ended-done : {m w out : List ℕ} {left f : ℕ} {k : Known} {o : Outcome State} → Ends m w out left k o (Done f) → DoneAs m w out f left k o
 ended-done (doneSo es e s) = record { entries = es; same = e; stage = s }
 
-pub ended-refused : {m w out : List ℕ} {left p : ℕ} {r : Reason} {k : Known} {o : Outcome State} → Ends m w out left k o (Refused r p) → o ≡ refused r p
+pub ended-refused : {m w out : List ℕ} {left : ℕ} {why : Refusal} {k : Known} {o : Outcome State} → Ends m w out left k o (Refused why) → o ≡ refusedBy why
 ended-refused (refusedSo e) = e
 
 -- the same outcome, the same end
-pub ends-same : {m w out : List ℕ} {left : ℕ} {k : Known} {o o′ : Outcome State} {a : Ran} → o ≡ o′ → Ends m w out left k o′ a → Ends m w out left k o a
+pub ends-same : {m w out : List ℕ} {left : ℕ} {k : Known} {o o′ : Outcome State} {a : Filled} → o ≡ o′ → Ends m w out left k o′ a → Ends m w out left k o a
 ends-same e i = rw e i
 
 -- ---- What stays
@@ -58,63 +57,57 @@ module _ {m w w′ : List ℕ} (kept : Keeps w w′) where
 
 -- ---- Ways
 
-module _ {m w out : List ℕ} {fill left : ℕ} {In : Context → Type 0} {f : Known → Context → State → Outcome State} where
+module _ {m w out : List ℕ} {fill left : ℕ} {c : Context} {f : Known → Context → State → Outcome State} where
   -- a refusal
-  pub refuses : {w′ out′ : List ℕ} {left′ : ℕ} (r : Reason) (p : ℕ) → left′ ≤ left → ((k : Known) (c : Context) (es : List Entry) → Stage m w out fill k es → In c → f k c (stateWith w out fill left es) ≡ refused r p) → Executes m w w′ out out′ fill left left′ In (Refused r p) f
+  pub refuses : {w′ out′ : List ℕ} {left′ : ℕ} (why : Refusal) → left′ ≤ left → ((k : Known) (es : List Entry) → Stage m w out fill k es → f k c (stateWith w out fill left es) ≡ refusedBy why) → Executes m w w′ out out′ fill left left′ c (Refused why) f
   unfolding AbleAfter
-  refuses r p l h = record { able = tt; steps = l; says = λ k c es s i. refusedSo (h k c es s i) }
+  refuses why l h = record { able = tt; steps = l; says = λ k es s. refusedSo (h k es s) }
 
   -- the end at a state that the bytes stand for
-  pub stops : {w′ out′ : List ℕ} {fill′ left′ : ℕ} → Able m w′ out′ fill′ → left′ ≤ left → ((k : Known) (c : Context) (es : List Entry) → Stage m w out fill k es → In c → DoneAs m w′ out′ fill′ left′ k (f k c (stateWith w out fill left es))) → Executes m w w′ out out′ fill left left′ In (Done fill′) f
+  pub stops : {w′ out′ : List ℕ} {fill′ left′ : ℕ} → Able m w′ out′ fill′ → left′ ≤ left → ((k : Known) (es : List Entry) → Stage m w out fill k es → DoneAs m w′ out′ fill′ left′ k (f k c (stateWith w out fill left es))) → Executes m w w′ out out′ fill left left′ c (Done fill′) f
   unfolding AbleAfter
-  stops a l h = record { able = a; steps = l; says = λ k c es s i. let d = h k c es s i in doneSo (d .entries) (d .same) (d .stage) }
+  stops a l h = record { able = a; steps = l; says = λ k es s. let d = h k es s in doneSo (d .entries) (d .same) (d .stage) }
 
--- from the context c and the outcome o the run goes on with g
-pub record GoesOn (m w out : List ℕ) (fill left : ℕ) (k : Known) (In : Context → Type 0) (g : Known → Context → State → Outcome State) (o : Outcome State) : Type 0 where
-  pub context : Context
+-- from the outcome o the run goes on with g in the context c
+pub record GoesOn (m w out : List ℕ) (fill left : ℕ) (k : Known) (c : Context) (g : Known → Context → State → Outcome State) (o : Outcome State) : Type 0 where
   pub entries : List Entry
-  pub here : In context
   pub stage : Stage m w out fill k entries
-  pub same : o ≡ g k context (stateWith w out fill left entries)
+  pub same : o ≡ g k c (stateWith w out fill left entries)
 
 -- what a callee runs is all that is left
-pub goes-on : {m w w₁ w′ out out₁ out′ : List ℕ} {fill fill₁ left left₁ left′ : ℕ} {In In₁ : Context → Type 0} {a : Ran} {f g : Known → Context → State → Outcome State} → left₁ ≤ left → ((k : Known) (c : Context) (es : List Entry) → Stage m w out fill k es → In c → GoesOn m w₁ out₁ fill₁ left₁ k In₁ g (f k c (stateWith w out fill left es))) → Executes m w₁ w′ out₁ out′ fill₁ left₁ left′ In₁ a g → Executes m w w′ out out′ fill left left′ In a f
+pub goes-on : {m w w₁ w′ out out₁ out′ : List ℕ} {fill fill₁ left left₁ left′ : ℕ} {c c₁ : Context} {a : Filled} {f g : Known → Context → State → Outcome State} → left₁ ≤ left → ((k : Known) (es : List Entry) → Stage m w out fill k es → GoesOn m w₁ out₁ fill₁ left₁ k c₁ g (f k c (stateWith w out fill left es))) → Executes m w₁ w′ out₁ out′ fill₁ left₁ left′ c₁ a g → Executes m w w′ out out′ fill left left′ c a f
 goes-on l h e = record {
   able = e .able;
   steps = let s = e .steps in omega arith;
-  says = λ k c es s i. let o = h k c es s i in ends-same (o .same) (e .says k (o .context) (o .entries) (o .stage) (o .here));
+  says = λ k es s. let o = h k es s in ends-same (o .same) (e .says k (o .entries) (o .stage));
 }
 
 -- the same run by another name
-pub executes-as : {m w w′ out out′ : List ℕ} {fill left left′ : ℕ} {In In₁ : Context → Type 0} {a : Ran} {f g : Known → Context → State → Outcome State} → ((c : Context) → In c → In₁ c) → ((k : Known) (c : Context) (st : State) → f k c st ≡ g k c st) → Executes m w w′ out out′ fill left left′ In₁ a g → Executes m w w′ out out′ fill left left′ In a f
-executes-as into same e = record { able = e .able; steps = e .steps; says = λ k c es s i. ends-same (same k c _) (e .says k c es s (into c i)) }
+pub executes-as : {m w w′ out out′ : List ℕ} {fill left left′ : ℕ} {c : Context} {a : Filled} {f g : Known → Context → State → Outcome State} → ((k : Known) (st : State) → f k c st ≡ g k c st) → Executes m w w′ out out′ fill left left′ c a g → Executes m w w′ out out′ fill left left′ c a f
+executes-as same e = record { able = e .able; steps = e .steps; says = λ k es s. ends-same (same k _) (e .says k es s) }
 
 -- ---- One run, and then another: f is g and then h
 
-module _ {m w w₁ out out₁ : List ℕ} {fill left left₁ : ℕ} {In : Context → Type 0} {a : Ran} {f g : Known → Context → State → Outcome State} (h : Known → Context → State → Outcome State) (both : (k : Known) (c : Context) (st : State) → f k c st ≡ (g k c st >>= h k c)) (first : Executes m w w₁ out out₁ fill left left₁ In a g) where
+module _ {m w w₁ out out₁ : List ℕ} {fill left left₁ : ℕ} {c : Context} {a : Filled} {f g : Known → Context → State → Outcome State} (h : Known → Context → State → Outcome State) (both : (k : Known) (c : Context) (st : State) → f k c st ≡ (g k c st >>= h k c)) (first : Executes m w w₁ out out₁ fill left left₁ c a g) where
   -- the first is done, and the second runs from there
-  pub then-runs : {w′ out′ : List ℕ} {fill₁ left′ : ℕ} {b : Ran} → a ≡ Done fill₁ → Executes m w₁ w′ out₁ out′ fill₁ left₁ left′ In b h → Executes m w w′ out out′ fill left left′ In b f
+  pub then-runs : {w′ out′ : List ℕ} {fill₁ left′ : ℕ} {b : Filled} → a ≡ Done fill₁ → Executes m w₁ w′ out₁ out′ fill₁ left₁ left′ c b h → Executes m w w′ out out′ fill left left′ c b f
   unfolding _>>=_
   then-runs {fill₁ = fill₁} d e = record {
     able = e .able;
     steps = let s = e .steps in let t = first .steps in omega arith;
-    says = λ k c es s i.
-        let o = ended-done (subst (Ends m w₁ out₁ left₁ k (g k c (stateWith w out fill left es))) d (first .says k c es s i)) in
-        ends-same (both k c (stateWith w out fill left es) ∙ ap (λ (x : Outcome State). x >>= h k c) (o .same)) (e .says k c (o .entries) (o .stage) i);
+    says = λ k es s.
+        let o = ended-done (subst (Ends m w₁ out₁ left₁ k (g k c (stateWith w out fill left es))) d (first .says k es s)) in
+        ends-same (both k c (stateWith w out fill left es) ∙ ap (λ (x : Outcome State). x >>= h k c) (o .same)) (e .says k (o .entries) (o .stage));
   }
 
   -- the first is refused
-  pub never-runs : {r : Reason} {p : ℕ} → a ≡ Refused r p → Executes m w w₁ out out₁ fill left left₁ In a f
+  pub never-runs : {why : Refusal} → a ≡ Refused why → Executes m w w₁ out out₁ fill left left₁ c a f
   unfolding _>>=_
-  never-runs {r} {p} e =
-      let e′ : Executes m w w₁ out out₁ fill left left₁ In (Refused r p) g = rw e at first in
-      rw e (refuses r p (e′ .steps) (λ k c es s i. both k c (stateWith w out fill left es) ∙ ap (λ (x : Outcome State). x >>= h k c) (ended-refused (e′ .says k c es s i))))
+  never-runs {why} e =
+      let e′ : Executes m w w₁ out out₁ fill left left₁ c (Refused why) g = rw e at first in
+      rw e (refuses why (e′ .steps) (λ k es s. both k c (stateWith w out fill left es) ∙ ap (λ (x : Outcome State). x >>= h k c) (ended-refused (e′ .says k es s))))
 
 -- what can run after an answer that is done
-pub able-after : {m w out : List ℕ} {f : ℕ} {a : Ran} → a ≡ Done f → AbleAfter m w out a → Able m w out f
+pub able-after : {m w out : List ℕ} {f : ℕ} {a : Filled} → a ≡ Done f → AbleAfter m w out a → Able m w out f
 unfolding AbleAfter
 able-after {m} {w} {out} e i = subst (AbleAfter m w out) e i
-
--- the context of a declaration is that of the statement which declares
-pub under-here : {s : ℕ} {node : Bool} {set : Labels} {c : Context} → Here s node set c → Under node set c
-under-here h = record { base = h .base; path = h .path }

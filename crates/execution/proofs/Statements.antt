@@ -7,7 +7,8 @@ use native.Mathlib.Omega.{arith}
 use lib.ListN.{length}
 use Rattle.labels.specs.declared.Labels.{Labels}
 use Rattle.labels.specs.Sets.{_∪_}
-use Rattle.values.specs.declared.Reason.{Reason}
+use Rattle.values.specs.declared.Refusal.{Refusal}
+use Rattle.values.specs.Refusals.{refusalAt}
 use Rattle.values.specs.declared.Reason.the-variants.{StepLimit}
 use Rattle.wire.specs.Bytes.{pick, byte, two, endOf}
 use Rattle.rules.specs.Outcome.{Outcome, done, _>>=_}
@@ -22,8 +23,9 @@ use Rattle.places.specs.At.{expressionAt, statementAt, blockAt, StandsAs}
 use Rattle.places.proofs.Tags.{IsStatementTag, assignmentTag, conditionalTag, choiceTag, resourceTag, definedTag, classTag, includeTag, statement-tag}
 use Rattle.places.proofs.Open.{opened-leaf}
 use Rattle.places.proofs.Statements.{ConditionalAt, conditional-opens, choice-opens, include-opens}
-use Rattle.cells.specs.Layout.{trailOf}
 use Rattle.cells.specs.Memory.{builtInOf, stateOf}
+use Rattle.memory.specs.declared.Context.{Context as Here}
+use Rattle.memory.specs.Contexts.{contextIn, contextOf}
 use Rattle.evaluator.specs.Known.{Sized}
 use Rattle.branches.proofs.Standing.{has-level, has-header}
 use Rattle.statements.specs.declared.Ran as assigned
@@ -37,14 +39,14 @@ use Rattle.statements.specs.Tests.{Passed, testIfAt, testedAs, Tests}
 use Rattle.statements.specs.Cases.{testCaseAt, caseAs, blockStands}
 use Rattle.statements.proofs.Conditions.{if-runs}
 use Rattle.statements.proofs.Cases.{case-refuses, case-goes-on, case-ends}
-use Rattle.resources.specs.declared.Ran.{Ran}
-use Rattle.resources.specs.declared.Ran.the-variants.{Done, Refused}
+use Rattle.resources.specs.declared.Filled.{Filled}
+use Rattle.resources.specs.declared.Filled.the-variants.{Done, Refused}
 use Rattle.resources.specs.Entries.{Within, Means, refusedSo as refusedThere, doneSo as doneThere}
 use Rattle.resources.specs.Entries as resources
 use Rattle.declarations.specs.Standing.{NamesKnown}
-use Rattle.execution.specs.Executed.{Able, Stage, stateWith, Here, Under, Ends, refusedSo, doneSo, AbleAfter, Executes, begun}
+use Rattle.execution.specs.Executed.{Able, Stage, stateWith, Ends, refusedSo, doneSo, AbleAfter, Executes, begun}
 use Rattle.execution.proofs.Names.{name-small, known-condition, known-branches, known-chosen}
-use Rattle.execution.proofs.Ends.{refuses, stops, goes-on, executes-as, stage-kept, able-kept, under-here}
+use Rattle.execution.proofs.Ends.{refuses, stops, goes-on, executes-as, stage-kept, able-kept}
 
 -- ---- Before a part is evaluated
 
@@ -62,23 +64,23 @@ sized {out = out} a s =
 
 -- ---- Assignments
 
-module _ {m w w′ out : List ℕ} {fill scope : ℕ} {node : Bool} {path : Labels} (d p : ℕ) (answer : assigned.Ran) (runs : Runs m w w′ out fill scope node path answer (statementAt m d p)) (n levels : ℕ) where
-  pub assignment-done : Able m w out fill → length w′ ≡ length w → answer ≡ Assigned → Executes m w w′ out out fill n n (Here scope node path) (Done fill) (λ k. run k (declaration k levels) (statementAt m d p))
+module _ {m w w′ out : List ℕ} {fill : ℕ} {here : Here} (d p : ℕ) (answer : assigned.Ran) (runs : Runs m w w′ out fill here answer (statementAt m d p)) (n levels : ℕ) where
+  pub assignment-done : Able m w out fill → length w′ ≡ length w → answer ≡ Assigned → Executes m w w′ out out fill n n (contextOf here) (Done fill) (λ k. run k (declaration k levels) (statementAt m d p))
   unfolding ranAs
-  assignment-done able size e = stops (able-kept (runs .keeps) size able) (omega arith) λ k c es s i. record {
+  assignment-done able size e = stops (able-kept (runs .keeps) size able) (omega arith) λ k es s. record {
     entries = es;
-    same = sym (runs .says k (declaration k levels) c es n _ (s .ready) (i .scope) (i .base) (i .path)) ∙ ap (λ (a : assigned.Ran). ranAs a (stateWith w′ out fill n es)) e;
+    same = sym (runs .says k (declaration k levels) es n _ (s .ready)) ∙ ap (λ (a : assigned.Ran). ranAs a (stateWith w′ out fill n es)) e;
     stage = stage-kept (runs .keeps) s;
   }
 
-  pub assignment-refused : (r : Reason) (q : ℕ) → answer ≡ NotAssigned r q → Executes m w w′ out out fill n n (Here scope node path) (Refused r q) (λ k. run k (declaration k levels) (statementAt m d p))
+  pub assignment-refused : (why : Refusal) → answer ≡ NotAssigned why → Executes m w w′ out out fill n n (contextOf here) (Refused why) (λ k. run k (declaration k levels) (statementAt m d p))
   unfolding ranAs
-  assignment-refused r q e = refuses r q (omega arith) λ k c es s i. sym (runs .says k (declaration k levels) c es n _ (s .ready) (i .scope) (i .base) (i .path)) ∙ ap (λ (a : assigned.Ran). ranAs a (stateWith w′ out fill n es)) e
+  assignment-refused why e = refuses why (omega arith) λ k es s. sym (runs .says k (declaration k levels) es n _ (s .ready)) ∙ ap (λ (a : assigned.Ran). ranAs a (stateWith w′ out fill n es)) e
 
 -- ---- Resources
 
-module _ {m w out out′ : List ℕ} {d p fill room scope : ℕ} {node built : Bool} {path trail : Labels} {name : ℕ} (a : Ran) (able : Able m w out fill) (s : StandsAs m d StatementKind p) (tag : byte m p ≡ 0x25) (named : name ≡ two m (p + 3)) (isBuilt : built ≡ builtInOf w name) (isTrail : trail ≡ trailOf w) (isRoom : room ≡ roomIn (length out) - fill) (runs : resources.Runs m w out out′ fill room scope node d p built path trail a) where
-  means-ends : (k : Known) (es : List Entry) (n : ℕ) (o : Outcome State) (a : Ran) → Stage m w out fill k es → Within fill room a → Means w out′ fill room n es o a → Ends m w out′ n k o a
+module _ {m w out out′ : List ℕ} {d p fill room : ℕ} {here : Here} {built : Bool} {name : ℕ} (a : Filled) (able : Able m w out fill) (s : StandsAs m d StatementKind p) (tag : byte m p ≡ 0x25) (named : name ≡ two m (p + 3)) (isBuilt : built ≡ builtInOf w name) (isRoom : room ≡ roomIn (length out) - fill) (runs : resources.Runs m w out out′ fill room here d p built a) where
+  means-ends : (k : Known) (es : List Entry) (n : ℕ) (o : Outcome State) (a : Filled) → Stage m w out fill k es → Within fill room a → Means w out′ fill room n es o a → Ends m w out′ n k o a
   unfolding Within
   means-ends k es n o a s within (refusedThere e) = refusedSo e
   means-ends k es n o a s within (doneThere {f} x e written once) =
@@ -86,30 +88,30 @@ module _ {m w out out′ : List ℕ} {d p fill room scope : ℕ} {node built : B
       let left : room - (f - fill) ≡ roomIn (length out′) - f = rw long (omega (arith, within .0, isRoom)) in
       doneSo (x ∷ es) (e ∙ ap (λ (r : ℕ). done (stateOf w (x ∷ es) n r)) left) (record { ready = record { catalog = written; unique = once; known = s .ready .known }; title = s .title })
 
-  able-then : (a : Ran) → Within fill room a → AbleAfter m w out′ a
+  able-then : (a : Filled) → Within fill room a → AbleAfter m w out′ a
   unfolding Within AbleAfter
   able-then (Done f) within = record { set = able .set; fine = able .fine; filled = rw (runs .kept .long) (omega (arith, within .1, isRoom, able .filled)) }
-  able-then (Refused r q) within = tt
+  able-then (Refused why) within = tt
 
-  pub resource-runs : (n levels : ℕ) → Executes m w w out out′ fill n n (Here scope node path) a (λ k. run k (declaration k levels) (statementAt m d p))
+  pub resource-runs : (n levels : ℕ) → Executes m w w out out′ fill n n (contextOf here) a (λ k. run k (declaration k levels) (statementAt m d p))
   resource-runs n levels = record {
     able = able-then a (runs .within);
     steps = omega arith;
-    says = λ k c es stage i. means-ends k es n (run k (declaration k levels) (statementAt m d p) c (stateWith w out fill n es)) a stage (runs .within) (rw (sym isRoom) (runs .says (s .stands) tag (rw (sym named) isBuilt) isTrail k (declaration k levels) c es n (stage .ready) (i .scope) (i .base) (i .path)));
+    says = λ k es stage. means-ends k es n (run k (declaration k levels) (statementAt m d p) (contextOf here) (stateWith w out fill n es)) a stage (runs .within) (rw (sym isRoom) (runs .says (s .stands) tag (rw (sym named) isBuilt) k (declaration k levels) es n (stage .ready)));
   }
 
 -- ---- Steps
 
-module _ {m w out : List ℕ} {fill left : ℕ} {In : Context → Type 0} (levels p : ℕ) (s : Statement) where
-  pub no-step : {a : Ran} → left ≡ 0 → a ≡ Refused StepLimit p → Executes m w w out out fill left left In a (begun levels p s)
+module _ {m w out : List ℕ} {fill left : ℕ} {c : Context} (levels p : ℕ) (s : Statement) where
+  pub no-step : {a : Filled} → left ≡ 0 → a ≡ Refused (refusalAt StepLimit p) → Executes m w w out out fill left left c a (begun levels p s)
   unfolding begun takeStep stateOf _>>=_
-  no-step none e = rw e (refuses StepLimit p (omega arith) λ k c es st i. rw none refl)
+  no-step none e = rw e (refuses (refusalAt StepLimit p) (omega arith) λ k es st. rw none refl)
 
-  pub step-taken : {w′ out′ : List ℕ} {left′ : ℕ} {a : Ran} → (left ≡ 0 → ⊥) → Executes m w w′ out out′ fill (left - 1) left′ In a (λ k. run k (declaration k levels) s) → Executes m w w′ out out′ fill left left′ In a (begun levels p s)
+  pub step-taken : {w′ out′ : List ℕ} {left′ : ℕ} {a : Filled} → (left ≡ 0 → ⊥) → Executes m w w′ out out′ fill (left - 1) left′ c a (λ k. run k (declaration k levels) s) → Executes m w w′ out out′ fill left left′ c a (begun levels p s)
   unfolding begun takeStep stateOf _>>=_
   step-taken some e =
       let one : left ≡ suc (left - 1) = omega (arith, some) in
-      goes-on (omega arith) (λ k c es st i. record { context = c; entries = es; here = i; stage = st; same = ap (λ (n : ℕ). takeStep p (stateWith w out fill n es) >>= λ x. run k (declaration k levels) s c x) one }) e
+      goes-on (omega arith) (λ k es st. record { entries = es; stage = st; same = ap (λ (n : ℕ). takeStep p (stateWith w out fill n es) >>= λ x. run k (declaration k levels) s c x) one }) e
 
 -- ---- Includes
 
@@ -133,16 +135,17 @@ include-known {m} {p = p} able s k tag =
     let o = opened-leaf {h = 2} (s .stands) tag (record { head = refl; rest = refl }) in
     (omega (arith, o .ends, s .stands .ends, able .set .manifest), name-small (s .stands) tag refl (able .set .strings) k)
 
-pub include-runs-here : {m w w′ out out′ : List ℕ} {fill left left′ d p scope : ℕ} {node : Bool} {path : Labels} {a : Ran} (levels : ℕ) → StandsAs m d StatementKind p → byte m p ≡ 0x29 → Executes m w w′ out out′ fill left left′ (Under node path) a (λ k. run k (declaration k levels) (include p (two m (p + 3)))) → Executes m w w′ out out′ fill left left′ (Here scope node path) a (λ k. run k (declaration k levels) (statementAt m d p))
-include-runs-here levels s tag e = executes-as (λ c i. under-here i) (λ k c st. ap (λ (x : Statement). run k (declaration k levels) x c st) (include-opens (s .stands) tag)) e
+pub include-runs-here : {m w w′ out out′ : List ℕ} {fill left left′ d p : ℕ} {c : Context} {a : Filled} (levels : ℕ) → StandsAs m d StatementKind p → byte m p ≡ 0x29 → Executes m w w′ out out′ fill left left′ c a (λ k. run k (declaration k levels) (include p (two m (p + 3)))) → Executes m w w′ out out′ fill left left′ c a (λ k. run k (declaration k levels) (statementAt m d p))
+include-runs-here {c = c} levels s tag e = executes-as (λ k st. ap (λ (x : Statement). run k (declaration k levels) x c st) (include-opens (s .stands) tag)) e
 
 -- ---- Ifs
 
-in-branch : {scope : ℕ} {node : Bool} {path path′ : Labels} {c : Context} (set : Labels) → path′ ≡ set ∪ path → Here scope node path c → Here scope node path′ (inBranch set c)
+-- the context of a branch
+pub in-branch : (here : Here) (set : Labels) {path : Labels} → path ≡ set ∪ here .path → contextIn (here .scope) path ≡ inBranch set (contextOf here)
 unfolding inBranch
-in-branch set e i = record { scope = i .scope; base = i .base; path = ap (λ (k : Labels). set ∪ k) (i .path) ∙ sym e }
+in-branch here set e = ap (contextIn (here .scope)) e
 
-module _ {m w w′ out : List ℕ} {d p fill scope : ℕ} {node : Bool} {path : Labels} (levels : ℕ) (s : StandsAs m d StatementKind p) (tag : byte m p ≡ 0x22) (t : Tested) (tests : Tests m w w′ out fill scope node path (testedAs t) (testIfAt m (d - 1) p)) where
+module _ {m w w′ out : List ℕ} {d p fill : ℕ} {here : Here} (levels : ℕ) (s : StandsAs m d StatementKind p) (tag : byte m p ≡ 0x22) (t : Tested) (tests : Tests m w w′ out fill here (testedAs t) (testIfAt m (d - 1) p)) where
   -- where the block that runs is
   abbrev pub blockIf : Bool → ℕ
   blockIf b = pick b (endOf m (p + 3)) (endOf m (endOf m (p + 3)))
@@ -151,28 +154,26 @@ module _ {m w w′ out : List ℕ} {d p fill scope : ℕ} {node : Bool} {path : 
   pick-block true = refl
   pick-block false = refl
 
-  into : Known → Context → Passed Bool → Outcome State
-  into k c x = runBlock k (declaration k levels) (pick (x .chosen) (blockAt m (d - 1) (endOf m (p + 3))) (blockAt m (d - 1) (endOf m (endOf m (p + 3))))) (inBranch (x .set) c) (x .state)
+  into : Known → Passed Bool → Outcome State
+  into k x = runBlock k (declaration k levels) (pick (x .chosen) (blockAt m (d - 1) (endOf m (p + 3))) (blockAt m (d - 1) (endOf m (endOf m (p + 3))))) (inBranch (x .set) (contextOf here)) (x .state)
 
-  if-tested : {u : Tested} (k : Known) (c : Context) (es : List Entry) (n : ℕ) → t ≡ u → Stage m w out fill k es → Here scope node path c → run k (declaration k levels) (statementAt m d p) c (stateWith w out fill n es) ≡ (testedAs u (stateWith w′ out fill n es) >>= into k c)
+  if-tested : {u : Tested} (k : Known) (es : List Entry) (n : ℕ) → t ≡ u → Stage m w out fill k es → run k (declaration k levels) (statementAt m d p) (contextOf here) (stateWith w out fill n es) ≡ (testedAs u (stateWith w′ out fill n es) >>= into k)
   unfolding testIfAt into
-  if-tested k c es n e stage i =
-      ap (λ (x : Statement). run k (declaration k levels) x c (stateWith w out fill n es)) (conditional-opens (s .stands) (has-level s) tag .tree)
-      ∙ if-runs k (declaration k levels) p (expressionAt m (d - 1) (p + 3)) (blockAt m (d - 1) (endOf m (p + 3))) (blockAt m (d - 1) (endOf m (endOf m (p + 3)))) c (stateWith w out fill n es)
-      ∙ ap (λ (o : Outcome (Passed Bool)). o >>= into k c) (sym (tests .says k c es n _ (stage .ready) (i .scope) (i .base) (i .path)) ∙ ap (λ (u : Tested). testedAs u (stateWith w′ out fill n es)) e)
+  if-tested k es n e stage =
+      ap (λ (x : Statement). run k (declaration k levels) x (contextOf here) (stateWith w out fill n es)) (conditional-opens (s .stands) (has-level s) tag .tree)
+      ∙ if-runs k (declaration k levels) p (expressionAt m (d - 1) (p + 3)) (blockAt m (d - 1) (endOf m (p + 3))) (blockAt m (d - 1) (endOf m (endOf m (p + 3)))) (contextOf here) (stateWith w out fill n es)
+      ∙ ap (λ (o : Outcome (Passed Bool)). o >>= into k) (sym (tests .says k es n _ (stage .ready)) ∙ ap (λ (u : Tested). testedAs u (stateWith w′ out fill n es)) e)
 
-  pub if-refused : (r : Reason) (q n : ℕ) → t ≡ NotTested r q → Executes m w w′ out out fill n n (Here scope node path) (Refused r q) (λ k. run k (declaration k levels) (statementAt m d p))
+  pub if-refused : (why : Refusal) (n : ℕ) → t ≡ NotTested why → Executes m w w′ out out fill n n (contextOf here) (Refused why) (λ k. run k (declaration k levels) (statementAt m d p))
   unfolding testedAs _>>=_
-  if-refused r q n e = refuses r q (omega arith) λ k c es stage i. if-tested k c es n e stage i
+  if-refused why n e = refuses why (omega arith) λ k es stage. if-tested k es n e stage
 
-  pub if-goes-on : {b : Bool} {set path′ : Labels} {q n n′ : ℕ} {w″ out′ : List ℕ} {a : Ran} → t ≡ Branch b set → q ≡ blockIf b → path′ ≡ set ∪ path → Executes m w′ w″ out out′ fill n n′ (Here scope node path′) a (λ k. runBlock k (declaration k levels) (blockAt m (d - 1) q)) → Executes m w w″ out out′ fill n n′ (Here scope node path) a (λ k. run k (declaration k levels) (statementAt m d p))
+  pub if-goes-on : {b : Bool} {set : Labels} {inside : Context} {q n n′ : ℕ} {w″ out′ : List ℕ} {a : Filled} → t ≡ Branch b set → q ≡ blockIf b → inside ≡ inBranch set (contextOf here) → Executes m w′ w″ out out′ fill n n′ inside a (λ k. runBlock k (declaration k levels) (blockAt m (d - 1) q)) → Executes m w w″ out out′ fill n n′ (contextOf here) a (λ k. run k (declaration k levels) (statementAt m d p))
   unfolding testedAs _>>=_ into
-  if-goes-on {b} {set} {n = n} e at joined runs = goes-on (omega arith) (λ k c es stage i. record {
-    context = inBranch set c;
+  if-goes-on {b} {set} {q = q} {n = n} e at joined runs = goes-on (omega arith) (λ k es stage. record {
     entries = es;
-    here = in-branch set joined i;
     stage = stage-kept (tests .keeps) stage;
-    same = if-tested k c es n e stage i ∙ ap (λ (x : Block). runBlock k (declaration k levels) x (inBranch set c) (stateWith w′ out fill n es)) (pick-block b ∙ ap (blockAt m (d - 1)) (sym at));
+    same = if-tested k es n e stage ∙ ap (λ (x : Block). runBlock k (declaration k levels) x (inBranch set (contextOf here)) (stateWith w′ out fill n es)) (pick-block b ∙ ap (blockAt m (d - 1)) (sym at)) ∙ ap (λ (h : Context). runBlock k (declaration k levels) (blockAt m (d - 1) q) h (stateWith w′ out fill n es)) (sym joined);
   }) runs
 
 -- the blocks of an if
@@ -201,24 +202,22 @@ case-block {m} {d} {p} {q} s k tag e stands =
     let same : d - 1 - 1 ≡ d - 2 = omega arith in
     (omega (arith, has-level (i .0)), (subst (λ (b : ℕ). StandsAs m b BlockKind q) same (i .0), known-chosen (choice-opens (s .stands) (has-level s) tag .branches) (known-branches s tag k) (i .1)))
 
-module _ {m w w′ out : List ℕ} {d p fill scope : ℕ} {node : Bool} {path : Labels} (levels : ℕ) (s : StandsAs m d StatementKind p) (tag : byte m p ≡ 0x23) (t : TestedCase) (tests : Tests m w w′ out fill scope node path (caseAs m (d - 1 - 1) t) (testCaseAt m (d - 1) p)) where
-  pub case-refused : (r : Reason) (q n : ℕ) → t ≡ NotMatched r q → Executes m w w′ out out fill n n (Here scope node path) (Refused r q) (λ k. run k (declaration k levels) (statementAt m d p))
-  case-refused r q n e = refuses r q (omega arith) λ k c es stage i. case-refuses s tag k (declaration k levels) t tests c es n _ (stage .ready) (i .scope) (i .base) (i .path) r q e
+module _ {m w w′ out : List ℕ} {d p fill : ℕ} {here : Here} (levels : ℕ) (s : StandsAs m d StatementKind p) (tag : byte m p ≡ 0x23) (t : TestedCase) (tests : Tests m w w′ out fill here (caseAs m (d - 1 - 1) t) (testCaseAt m (d - 1) p)) where
+  pub case-refused : (why : Refusal) (n : ℕ) → t ≡ NotMatched why → Executes m w w′ out out fill n n (contextOf here) (Refused why) (λ k. run k (declaration k levels) (statementAt m d p))
+  case-refused why n e = refuses why (omega arith) λ k es stage. case-refuses s tag k (declaration k levels) t tests es n _ (stage .ready) why e
 
-  pub case-passed : (set : Labels) (n : ℕ) → Able m w out fill → length w′ ≡ length w → t ≡ Nothing set → Executes m w w′ out out fill n n (Here scope node path) (Done fill) (λ k. run k (declaration k levels) (statementAt m d p))
-  case-passed set n able size e = stops (able-kept (tests .keeps) size able) (omega arith) λ k c es stage i. record {
+  pub case-passed : (set : Labels) (n : ℕ) → Able m w out fill → length w′ ≡ length w → t ≡ Nothing set → Executes m w w′ out out fill n n (contextOf here) (Done fill) (λ k. run k (declaration k levels) (statementAt m d p))
+  case-passed set n able size e = stops (able-kept (tests .keeps) size able) (omega arith) λ k es stage. record {
     entries = es;
-    same = case-ends s tag k (declaration k levels) t tests c es n _ (stage .ready) (i .scope) (i .base) (i .path) set e;
+    same = case-ends s tag k (declaration k levels) t tests es n _ (stage .ready) set e;
     stage = stage-kept (tests .keeps) stage;
   }
 
-  pub case-chosen : {set path′ : Labels} {q b n n′ : ℕ} {w″ out′ : List ℕ} {a : Ran} → t ≡ Chosen q set → b ≡ d - 2 → path′ ≡ set ∪ path → Executes m w′ w″ out out′ fill n n′ (Here scope node path′) a (λ k. runBlock k (declaration k levels) (blockAt m b q)) → Executes m w w″ out out′ fill n n′ (Here scope node path) a (λ k. run k (declaration k levels) (statementAt m d p))
+  pub case-chosen : {set : Labels} {inside : Context} {q b n n′ : ℕ} {w″ out′ : List ℕ} {a : Filled} → t ≡ Chosen q set → b ≡ d - 2 → inside ≡ inBranch set (contextOf here) → Executes m w′ w″ out out′ fill n n′ inside a (λ k. runBlock k (declaration k levels) (blockAt m b q)) → Executes m w w″ out out′ fill n n′ (contextOf here) a (λ k. run k (declaration k levels) (statementAt m d p))
   case-chosen {set} {q = q} {b = b} {n = n} e below joined runs =
       let same : d - 1 - 1 ≡ b = omega arith in
-      goes-on (omega arith) (λ k c es stage i. record {
-        context = inBranch set c;
+      goes-on (omega arith) (λ k es stage. record {
         entries = es;
-        here = in-branch set joined i;
         stage = stage-kept (tests .keeps) stage;
-        same = case-goes-on s tag k (declaration k levels) t tests c es n _ (stage .ready) (i .scope) (i .base) (i .path) q set e ∙ ap (λ (x : ℕ). runBlock k (declaration k levels) (blockAt m x q) (inBranch set c) (stateWith w′ out fill n es)) same;
+        same = case-goes-on s tag k (declaration k levels) t tests es n _ (stage .ready) q set e ∙ ap (λ (x : ℕ). runBlock k (declaration k levels) (blockAt m x q) (inBranch set (contextOf here)) (stateWith w′ out fill n es)) same ∙ ap (λ (h : Context). runBlock k (declaration k levels) (blockAt m b q) h (stateWith w′ out fill n es)) (sym joined);
       }) runs

@@ -4,22 +4,21 @@ use mathlib.Core.Path.{_≡_}
 use mathlib.Core.Bool.{Bool, true, false}
 use mathlib.Core.List.{List}
 use lib.ListN.{length}
-use Rattle.labels.specs.declared.Labels.{Labels}
-use Rattle.values.specs.declared.Reason.{Reason}
+use Rattle.values.specs.declared.Refusal.{Refusal}
 use Rattle.wire.specs.Bytes.{byte, endOf, fieldsIn}
-use Rattle.rules.specs.Outcome.{Outcome, refused, done, _>>=_}
+use Rattle.rules.specs.Outcome.{Outcome, done, _>>=_}
 use Rattle.rules.specs.Tree.{Statement, Block, ClassDefinition, classDefinition, definition}
-use Rattle.rules.specs.State.{Entry, State, Context, Known, bodyScope, takeStep, free}
-use Rattle.rules.specs.Run.{Given, Declaration, ofClass, included, run, runBlock, inBody, declaration, parameterValues, enterClass}
+use Rattle.rules.specs.State.{Entry, State, Context, Known, takeStep, free}
+use Rattle.rules.specs.Run.{Given, Declaration, ofClass, included, run, runBlock, declaration, parameterValues, enterClass}
 use Rattle.rules.specs.Compile.{roomIn}
 use Rattle.places.specs.At.{itemAt}
-use Rattle.cells.specs.Scopes.{scopeOf}
-use Rattle.cells.specs.Memory.{baseFor, stateOf, Fine}
+use Rattle.cells.specs.Memory.{stateOf, Fine}
 use Rattle.memory.specs.Names.{titleOf}
+use Rattle.evaluator.specs.Answers.{refusedBy}
 use Rattle.evaluator.specs.Known.{Ready}
 use Rattle.attributes.specs.Table.{Gives, Fresh}
-use Rattle.resources.specs.declared.Ran.{Ran}
-use Rattle.resources.specs.declared.Ran.the-variants.{Done, Refused}
+use Rattle.resources.specs.declared.Filled.{Filled}
+use Rattle.resources.specs.declared.Filled.the-variants.{Done, Refused}
 use Rattle.declarations.specs.Standing.{Set}
 
 -- ---- Before
@@ -39,16 +38,6 @@ pub record Stage (m w out : List ℕ) (fill : ℕ) (k : Known) (es : List Entry)
 abbrev pub stateWith : (w out : List ℕ) → (fill left : ℕ) → List Entry → State
 stateWith w out fill left es = stateOf w es left (roomIn (length out) - fill)
 
--- the context of a statement, and of a declaration, which runs in no scope of its own
-pub record Here (s : ℕ) (node : Bool) (set : Labels) (c : Context) : Type 0 where
-  pub scope : c .scope ≡ scopeOf s
-  pub base : c .base ≡ baseFor node
-  pub path : c .path ≡ set
-
-pub record Under (node : Bool) (set : Labels) (c : Context) : Type 0 where
-  pub base : c .base ≡ baseFor node
-  pub path : c .path ≡ set
-
 -- the 26s of the 27 or 28 at p begin at `first`: after the title, or after the name
 pub data GivenFrom (m : List ℕ) (p first : ℕ) : Type 0 where
   afterTitle : byte m p ≡ 0x27 → first ≡ endOf m (p + 5) → GivenFrom m p first
@@ -63,20 +52,20 @@ pub record FreshFor (m t : List ℕ) (p : ℕ) : Type 0 where
 -- ---- After
 
 -- the answer means the outcome o: its refusal; or the bytes lent stand for its state
-pub data Ends (m w out : List ℕ) (left : ℕ) (k : Known) (o : Outcome State) : Ran → Type 0 where
-  refusedSo : {r : Reason} {p : ℕ} → o ≡ refused r p → Ends m w out left k o (Refused r p)
+pub data Ends (m w out : List ℕ) (left : ℕ) (k : Known) (o : Outcome State) : Filled → Type 0 where
+  refusedSo : {why : Refusal} → o ≡ refusedBy why → Ends m w out left k o (Refused why)
   doneSo : {f : ℕ} (es : List Entry) → o ≡ done (stateWith w out f left es) → Stage m w out f k es → Ends m w out left k o (Done f)
 
 -- something else can run after it
-unfoldable pub AbleAfter : (m w out : List ℕ) → Ran → Type 0
+unfoldable pub AbleAfter : (m w out : List ℕ) → Filled → Type 0
 AbleAfter m w out (Done f) = Able m w out f
-AbleAfter m w out (Refused r p) = Unit {0}
+AbleAfter m w out (Refused why) = Unit {0}
 
--- in every context of a sort, and in every state that the bytes stand for, the answer is what f gives
-pub record Executes (m w w′ out out′ : List ℕ) (fill left left′ : ℕ) (In : Context → Type 0) (answer : Ran) (f : Known → Context → State → Outcome State) : Type 0 where
+-- in the context c, and in every state that the bytes stand for, the answer is what f gives
+pub record Executes (m w w′ out out′ : List ℕ) (fill left left′ : ℕ) (c : Context) (answer : Filled) (f : Known → Context → State → Outcome State) : Type 0 where
   pub able : AbleAfter m w′ out′ answer
   pub steps : left′ ≤ left
-  pub says : (k : Known) (c : Context) (es : List Entry) → Stage m w out fill k es → In c → Ends m w′ out′ left′ k (f k c (stateWith w out fill left es)) answer
+  pub says : (k : Known) (es : List Entry) → Stage m w out fill k es → Ends m w′ out′ left′ k (f k c (stateWith w out fill left es)) answer
 
 -- ---- What runs
 
@@ -84,9 +73,9 @@ pub record Executes (m w w′ out out′ : List ℕ) (fill left left′ : ℕ) (
 unfoldable pub begun : (n p : ℕ) → Statement → Known → Context → State → Outcome State
 begun n p s k c st = takeStep p st >>= λ st′. run k (declaration k n) s c st′
 
--- a type's body with n levels left: "runs the body and frees that scope"
+-- a type's body in its context, with n levels left: "runs the body and frees that scope"
 unfoldable pub bodyRun : (n : ℕ) → Block → Known → Context → State → Outcome State
-bodyRun n b k c st = runBlock k (declaration k n) b (inBody n c) st >>= λ st′. done (free (bodyScope n) st′)
+bodyRun n b k c st = runBlock k (declaration k n) b c st >>= λ st′. done (free (c .scope) st′)
 
 -- a class that a 28 asks for, or else a 29 or a child's definition
 unfoldable pub asked : (again : Bool) → (place class : ℕ) → List Given → Declaration
@@ -96,8 +85,8 @@ asked false p q gs = included p q
 -- ---- Classes
 
 -- the class whose 34 is at p, with n levels left for what it declares: what its definition and the table t give decides what the answer means
-pub record Enters (m t w w′ out out′ : List ℕ) (fill left left′ n p : ℕ) (node : Bool) (set : Labels) (answer : Ran) : Type 0 where
+pub record Enters (m t w w′ out out′ : List ℕ) (fill left left′ n p : ℕ) (c : Context) (answer : Filled) : Type 0 where
   pub able : AbleAfter m w′ out′ answer
   pub steps : left′ ≤ left
-  pub says : (d : ClassDefinition) (gs vs : List Given) → itemAt m p ≡ definition (classDefinition d) → Gives t gs → parameterValues (d .parameters) gs ≡ done vs → (k : Known) (c : Context) (es : List Entry) → Stage m w out fill k es → Under node set c
+  pub says : (d : ClassDefinition) (gs vs : List Given) → itemAt m p ≡ definition (classDefinition d) → Gives t gs → parameterValues (d .parameters) gs ≡ done vs → (k : Known) (es : List Entry) → Stage m w out fill k es
       → Ends m w′ out′ left′ k (enterClass k (declaration k n) d vs c (stateWith w out fill left es)) answer

@@ -4,42 +4,43 @@ ghost use mathlib.Core.Bool.{false};
 ghost use mathlib.Core.List.{List, []};
 ghost use Prim.Native.Nat.{ℕ, _+_, _-_, _≤_, _<_};
 ghost use Rattle.values.specs.declared.Reason.the-variants.{DeclaredAgain};
+ghost use Rattle.values.specs.Refusals.{refusalAt};
 ghost use Rattle.wire.specs.Bytes.{pick, byte, two, endOf, fieldsIn};
 ghost use Rattle.rules.specs.Tree.{include};
-ghost use Rattle.rules.specs.Run.{Given, run, runBlock, ofType, declaration, parentFirst};
+ghost use Rattle.rules.specs.Run.{Given, run, runBlock, ofType, inBranch, inBody, declaration, parentFirst};
 ghost use Rattle.rules.specs.Compile.{roomIn};
 ghost use Rattle.rules.specs.declared.Kind.the-variants.{Statement, Block};
 ghost use Rattle.places.specs.At.{statementAt, blockAt, parentAt, StandsAs};
+ghost use Rattle.memory.specs.Contexts.{contextOf};
 ghost use Rattle.attributes.specs.Names.{Alike};
 ghost use Rattle.attributes.specs.Table.{Gives};
-ghost use Rattle.resources.specs.declared.Ran.the-variants.{Done, Refused};
+ghost use Rattle.resources.specs.declared.Filled.the-variants.{Done, Refused};
 ghost use Rattle.declarations.specs.Standing.{NamesKnown};
 ghost use Rattle.declarations.specs.Classes.{ClassStands};
-ghost use Rattle.execution.specs.Executed.{Able, Here, Under, GivenFrom, FreshFor, Executes, Enters, begun, bodyRun, asked};
+ghost use Rattle.execution.specs.Executed.{Able, GivenFrom, FreshFor, Executes, Enters, begun, bodyRun, asked};
 use attributes::Gathered;
 use attributes::SMALL_NAMES;
 use attributes::SMALL_TABLE;
+use attributes::Span;
 use attributes::TABLE;
+use attributes::evaluate_attributes;
 use declarations::Class;
+use declarations::Request;
 use declarations::Started;
 use declarations::StartedClass;
 use evaluator::Evaluated;
 use labels::Labels;
-use resources::Ran;
+use memory::Context;
+use memory::Scope;
+use resources::Filled;
 use statements::Tested;
 use statements::TestedCase;
 use values::Labelled;
 use values::Reason;
+use values::Refusal;
 
-fn refusal(reason: Reason, p: usize) -> Ran
-    requires { ⌜ p ≤ 65535 ⌝ }
-    ensures { λ r. ⌜ r ≡ Refused reason p ⌝ }
-{
-    Ran::Refused {
-        reason,
-        place: p as u16,
-    }
-}
+// What a 29 or a 35 gives to the class that it declares.
+const NONE_GIVEN: Span = Span { first: 0, end: 0 };
 
 // ---- Blocks and statements
 
@@ -53,37 +54,23 @@ pub fn run_block(
     fill: usize,
     left: &mut u16,
     levels: u8,
-    scope: u16,
-    base_is_node: bool,
-    path: Labels,
-) -> Ran
+    here: Context,
+) -> Filled
     requires { ⌜ Able (now m) (now work) (now out) fill × (StandsAs (now m) depth Block p × NamesKnown (now m) p) ⌝ }
-    ensures { λ r. ⌜ Executes (now (m .entry)) (now (work .entry)) (now (work .exit)) (now (out .entry)) (now (out .exit)) fill (now (left .entry)) (now (left .exit)) (Here scope «base_is_node» path) r (λ k. runBlock k (declaration k levels) (blockAt (now (m .entry)) depth p)) ⌝ }
+    ensures { λ r. ⌜ Executes (now (m .entry)) (now (work .entry)) (now (work .exit)) (now (out .entry)) (now (out .exit)) fill (now (left .entry)) (now (left .exit)) (contextOf here) r (λ k. runBlock k (declaration k levels) (blockAt (now (m .entry)) depth p)) ⌝ }
 {
     let end = wire::end_of(m, p);
     let mut q = p + 3;
     let mut filled = fill;
     while q < end {
-        let r = run_statement(
-            m,
-            depth - 1,
-            q,
-            work,
-            out,
-            filled,
-            left,
-            levels,
-            scope,
-            base_is_node,
-            path,
-        );
-        let Ran::Done(more) = r else {
+        let r = run_statement(m, depth - 1, q, work, out, filled, left, levels, here);
+        let Filled::Done(more) = r else {
             return r;
         };
         filled = more;
         q = wire::end_of(m, q);
     }
-    Ran::Done(filled)
+    Filled::Done(filled)
 }
 
 // The statement at p: "each statement begun counts one".
@@ -96,31 +83,17 @@ pub fn run_statement(
     fill: usize,
     left: &mut u16,
     levels: u8,
-    scope: u16,
-    base_is_node: bool,
-    path: Labels,
-) -> Ran
+    here: Context,
+) -> Filled
     requires { ⌜ Able (now m) (now work) (now out) fill × (StandsAs (now m) depth Statement p × NamesKnown (now m) p) ⌝ }
-    ensures { λ r. ⌜ Executes (now (m .entry)) (now (work .entry)) (now (work .exit)) (now (out .entry)) (now (out .exit)) fill (now (left .entry)) (now (left .exit)) (Here scope «base_is_node» path) r (begun levels p (statementAt (now (m .entry)) depth p)) ⌝ }
+    ensures { λ r. ⌜ Executes (now (m .entry)) (now (work .entry)) (now (work .exit)) (now (out .entry)) (now (out .exit)) fill (now (left .entry)) (now (left .exit)) (contextOf here) r (begun levels p (statementAt (now (m .entry)) depth p)) ⌝ }
 {
     let steps = *left;
     if steps == 0 {
-        return refusal(Reason::StepLimit, p);
+        return Filled::Refused(Refusal::at(Reason::StepLimit, p));
     }
     *left = steps - 1;
-    run_begun(
-        m,
-        depth,
-        p,
-        work,
-        out,
-        fill,
-        left,
-        levels,
-        scope,
-        base_is_node,
-        path,
-    )
+    run_begun(m, depth, p, work, out, fill, left, levels, here)
 }
 
 // A statement after its step, by its tag.
@@ -133,42 +106,16 @@ fn run_begun(
     fill: usize,
     left: &mut u16,
     levels: u8,
-    scope: u16,
-    base_is_node: bool,
-    path: Labels,
-) -> Ran
+    here: Context,
+) -> Filled
     requires { ⌜ Able (now m) (now work) (now out) fill × (StandsAs (now m) depth Statement p × NamesKnown (now m) p) ⌝ }
-    ensures { λ r. ⌜ Executes (now (m .entry)) (now (work .entry)) (now (work .exit)) (now (out .entry)) (now (out .exit)) fill (now (left .entry)) (now (left .exit)) (Here scope «base_is_node» path) r (λ k. run k (declaration k levels) (statementAt (now (m .entry)) depth p)) ⌝ }
+    ensures { λ r. ⌜ Executes (now (m .entry)) (now (work .entry)) (now (work .exit)) (now (out .entry)) (now (out .exit)) fill (now (left .entry)) (now (left .exit)) (contextOf here) r (λ k. run k (declaration k levels) (statementAt (now (m .entry)) depth p)) ⌝ }
 {
     match wire::byte_at(m, p) {
-        0x21 => run_assignment(m, depth, p, work, out, fill, scope, base_is_node, path),
-        0x22 => run_if(
-            m,
-            depth,
-            p,
-            work,
-            out,
-            fill,
-            left,
-            levels,
-            scope,
-            base_is_node,
-            path,
-        ),
-        0x23 => run_case(
-            m,
-            depth,
-            p,
-            work,
-            out,
-            fill,
-            left,
-            levels,
-            scope,
-            base_is_node,
-            path,
-        ),
-        0x25 => run_resource(m, depth, p, work, out, fill, scope, base_is_node, path),
+        0x21 => run_assignment(m, depth, p, work, out, fill, here),
+        0x22 => run_if(m, depth, p, work, out, fill, left, levels, here),
+        0x23 => run_case(m, depth, p, work, out, fill, left, levels, here),
+        0x25 => run_resource(m, depth, p, work, out, fill, here),
         0x27 => run_given(
             m,
             depth,
@@ -179,25 +126,10 @@ fn run_begun(
             fill,
             left,
             levels,
-            scope,
-            base_is_node,
-            path,
+            here,
         ),
-        0x28 => run_given(
-            m,
-            depth,
-            p,
-            p + 5,
-            work,
-            out,
-            fill,
-            left,
-            levels,
-            scope,
-            base_is_node,
-            path,
-        ),
-        _ => run_include(m, p, work, out, fill, left, levels, base_is_node, path),
+        0x28 => run_given(m, depth, p, p + 5, work, out, fill, left, levels, here),
+        _ => run_include(m, p, work, out, fill, left, levels, here),
     }
 }
 
@@ -211,17 +143,15 @@ fn run_assignment(
     work: &mut [u8],
     out: &[u8],
     fill: usize,
-    scope: u16,
-    base_is_node: bool,
-    path: Labels,
-) -> Ran
+    here: Context,
+) -> Filled
     requires { ⌜ (Able (now m) (now work) (now out) fill × (StandsAs (now m) depth Statement p × NamesKnown (now m) p)) × (byte (now m) p ≡ 0x21) ⌝ }
-    ensures { λ r. ⌜ ((n levels : ℕ) → Executes (now (m .entry)) (now (work .entry)) (now (work .exit)) (now (out .entry)) (now (out .entry)) fill n n (Here scope «base_is_node» path) r (λ k. run k (declaration k levels) (statementAt (now (m .entry)) depth p))) ⌝ }
+    ensures { λ r. ⌜ ((n levels : ℕ) → Executes (now (m .entry)) (now (work .entry)) (now (work .exit)) (now (out .entry)) (now (out .entry)) fill n n (contextOf here) r (λ k. run k (declaration k levels) (statementAt (now (m .entry)) depth p))) ⌝ }
 {
-    let r = statements::assign(m, depth, p, work, out, fill, scope, base_is_node, path);
+    let r = statements::assign(m, depth, p, work, out, fill, here);
     match r {
-        statements::Ran::Refused { reason, place } => Ran::Refused { reason, place },
-        statements::Ran::Done => Ran::Done(fill),
+        statements::Ran::Refused(refusal) => Filled::Refused(refusal),
+        statements::Ran::Done => Filled::Done(fill),
     }
 }
 
@@ -240,30 +170,14 @@ fn run_resource(
     work: &[u8],
     out: &mut [u8],
     fill: usize,
-    scope: u16,
-    base_is_node: bool,
-    path: Labels,
-) -> Ran
+    here: Context,
+) -> Filled
     requires { ⌜ (Able (now m) (now work) (now out) fill × (StandsAs (now m) depth Statement p × NamesKnown (now m) p)) × (byte (now m) p ≡ 0x25) ⌝ }
-    ensures { λ r. ⌜ ((n levels : ℕ) → Executes (now (m .entry)) (now (work .entry)) (now (work .entry)) (now (out .entry)) (now (out .exit)) fill n n (Here scope «base_is_node» path) r (λ k. run k (declaration k levels) (statementAt (now (m .entry)) depth p))) ⌝ }
+    ensures { λ r. ⌜ ((n levels : ℕ) → Executes (now (m .entry)) (now (work .entry)) (now (work .entry)) (now (out .entry)) (now (out .exit)) fill n n (contextOf here) r (λ k. run k (declaration k levels) (statementAt (now (m .entry)) depth p))) ⌝ }
 {
     let built_in = memory::built_in(work, wire::two_at(m, p + 3));
-    let trail = memory::trail(work);
     let room = room_in(out.len()) - fill;
-    resources::add_resource(
-        m,
-        depth,
-        p,
-        work,
-        out,
-        fill,
-        room,
-        scope,
-        base_is_node,
-        built_in,
-        path,
-        trail,
-    )
+    resources::add_resource(m, depth, p, work, out, fill, room, here, built_in)
 }
 
 // ---- Conditions
@@ -277,6 +191,16 @@ fn chosen_block(m: &[u8], p: usize, yes: bool) -> usize
     if yes { first } else { wire::end_of(m, first) }
 }
 
+// Where the block of a condition runs: its set is added to the path.
+fn branch_context(here: Context, set: Labels) -> Context
+    ensures { λ r. ⌜ contextOf r ≡ inBranch set (contextOf here) ⌝ }
+{
+    let scope = here.scope;
+    let outer = here.path;
+    let path = set.union(outer);
+    Context { scope, path }
+}
+
 // The 22 at p.
 fn run_if(
     m: &[u8],
@@ -287,29 +211,19 @@ fn run_if(
     fill: usize,
     left: &mut u16,
     levels: u8,
-    scope: u16,
-    base_is_node: bool,
-    path: Labels,
-) -> Ran
+    here: Context,
+) -> Filled
     requires { ⌜ (Able (now m) (now work) (now out) fill × (StandsAs (now m) depth Statement p × NamesKnown (now m) p)) × (byte (now m) p ≡ 0x22) ⌝ }
-    ensures { λ r. ⌜ Executes (now (m .entry)) (now (work .entry)) (now (work .exit)) (now (out .entry)) (now (out .exit)) fill (now (left .entry)) (now (left .exit)) (Here scope «base_is_node» path) r (λ k. run k (declaration k levels) (statementAt (now (m .entry)) depth p)) ⌝ }
+    ensures { λ r. ⌜ Executes (now (m .entry)) (now (work .entry)) (now (work .exit)) (now (out .entry)) (now (out .exit)) fill (now (left .entry)) (now (left .exit)) (contextOf here) r (λ k. run k (declaration k levels) (statementAt (now (m .entry)) depth p)) ⌝ }
 {
-    let t = statements::test_if(m, depth, p, work, out, fill, scope, base_is_node, path);
+    let t = statements::test_if(m, depth, p, work, out, fill, here);
     match t {
-        Tested::Refused { reason, place } => Ran::Refused { reason, place },
-        Tested::Branch { yes, set } => run_block(
-            m,
-            depth - 1,
-            chosen_block(m, p, yes),
-            work,
-            out,
-            fill,
-            left,
-            levels,
-            scope,
-            base_is_node,
-            set.union(path),
-        ),
+        Tested::Refused(refusal) => Filled::Refused(refusal),
+        Tested::Branch { yes, set } => {
+            let block = chosen_block(m, p, yes);
+            let inside = branch_context(here, set);
+            run_block(m, depth - 1, block, work, out, fill, left, levels, inside)
+        }
     }
 }
 
@@ -323,33 +237,19 @@ fn run_case(
     fill: usize,
     left: &mut u16,
     levels: u8,
-    scope: u16,
-    base_is_node: bool,
-    path: Labels,
-) -> Ran
+    here: Context,
+) -> Filled
     requires { ⌜ (Able (now m) (now work) (now out) fill × (StandsAs (now m) depth Statement p × NamesKnown (now m) p)) × (byte (now m) p ≡ 0x23) ⌝ }
-    ensures { λ r. ⌜ Executes (now (m .entry)) (now (work .entry)) (now (work .exit)) (now (out .entry)) (now (out .exit)) fill (now (left .entry)) (now (left .exit)) (Here scope «base_is_node» path) r (λ k. run k (declaration k levels) (statementAt (now (m .entry)) depth p)) ⌝ }
+    ensures { λ r. ⌜ Executes (now (m .entry)) (now (work .entry)) (now (work .exit)) (now (out .entry)) (now (out .exit)) fill (now (left .entry)) (now (left .exit)) (contextOf here) r (λ k. run k (declaration k levels) (statementAt (now (m .entry)) depth p)) ⌝ }
 {
-    let t = statements::test_case(m, depth, p, work, out, fill, scope, base_is_node, path);
+    let t = statements::test_case(m, depth, p, work, out, fill, here);
     match t {
-        TestedCase::Refused { reason, place } => Ran::Refused { reason, place },
-        TestedCase::Nothing { set: _ } => Ran::Done(fill),
-        TestedCase::Branch {
-            block,
-            set: condition,
-        } => run_block(
-            m,
-            depth - 2,
-            block,
-            work,
-            out,
-            fill,
-            left,
-            levels,
-            scope,
-            base_is_node,
-            condition.union(path),
-        ),
+        TestedCase::Refused(refusal) => Filled::Refused(refusal),
+        TestedCase::Nothing { set: _ } => Filled::Done(fill),
+        TestedCase::Branch { block, set } => {
+            let inside = branch_context(here, set);
+            run_block(m, depth - 2, block, work, out, fill, left, levels, inside)
+        }
     }
 }
 
@@ -367,46 +267,18 @@ fn run_given(
     fill: usize,
     left: &mut u16,
     levels: u8,
-    scope: u16,
-    base_is_node: bool,
-    path: Labels,
-) -> Ran
+    here: Context,
+) -> Filled
     requires { ⌜ (Able (now m) (now work) (now out) fill × (StandsAs (now m) depth Statement p × NamesKnown (now m) p)) × GivenFrom (now m) p first ⌝ }
-    ensures { λ r. ⌜ Executes (now (m .entry)) (now (work .entry)) (now (work .exit)) (now (out .entry)) (now (out .exit)) fill (now (left .entry)) (now (left .exit)) (Here scope «base_is_node» path) r (λ k. run k (declaration k levels) (statementAt (now (m .entry)) depth p)) ⌝ }
+    ensures { λ r. ⌜ Executes (now (m .entry)) (now (work .entry)) (now (work .exit)) (now (out .entry)) (now (out .exit)) fill (now (left .entry)) (now (left .exit)) (contextOf here) r (λ k. run k (declaration k levels) (statementAt (now (m .entry)) depth p)) ⌝ }
 {
     let end = wire::end_of(m, p);
     if attributes::has_name_from(m, first, end, SMALL_NAMES) {
         let mut table = [0u8; TABLE];
-        return run_tabled(
-            m,
-            depth,
-            p,
-            work,
-            out,
-            fill,
-            left,
-            levels,
-            scope,
-            base_is_node,
-            path,
-            &mut table,
-        );
+        return run_tabled(m, depth, p, work, out, fill, left, levels, here, &mut table);
     }
     let mut table = [0u8; SMALL_TABLE];
-    run_tabled(
-        m,
-        depth,
-        p,
-        work,
-        out,
-        fill,
-        left,
-        levels,
-        scope,
-        base_is_node,
-        path,
-        &mut table,
-    )
+    run_tabled(m, depth, p, work, out, fill, left, levels, here, &mut table)
 }
 
 // The same, with a table for its attributes.
@@ -419,44 +291,16 @@ fn run_tabled(
     fill: usize,
     left: &mut u16,
     levels: u8,
-    scope: u16,
-    base_is_node: bool,
-    path: Labels,
+    here: Context,
     table: &mut [u8],
-) -> Ran
+) -> Filled
     requires { ⌜ (Able (now m) (now work) (now out) fill × (StandsAs (now m) depth Statement p × NamesKnown (now m) p)) × FreshFor (now m) (now table) p ⌝ }
-    ensures { λ r. ⌜ Executes (now (m .entry)) (now (work .entry)) (now (work .exit)) (now (out .entry)) (now (out .exit)) fill (now (left .entry)) (now (left .exit)) (Here scope «base_is_node» path) r (λ k. run k (declaration k levels) (statementAt (now (m .entry)) depth p)) ⌝ }
+    ensures { λ r. ⌜ Executes (now (m .entry)) (now (work .entry)) (now (work .exit)) (now (out .entry)) (now (out .exit)) fill (now (left .entry)) (now (left .exit)) (contextOf here) r (λ k. run k (declaration k levels) (statementAt (now (m .entry)) depth p)) ⌝ }
 {
     if wire::byte_at(m, p) == 0x28 {
-        return run_class(
-            m,
-            depth,
-            p,
-            work,
-            out,
-            fill,
-            left,
-            levels,
-            scope,
-            base_is_node,
-            path,
-            table,
-        );
+        return run_class(m, depth, p, work, out, fill, left, levels, here, table);
     }
-    run_defined(
-        m,
-        depth,
-        p,
-        work,
-        out,
-        fill,
-        left,
-        levels,
-        scope,
-        base_is_node,
-        path,
-        table,
-    )
+    run_defined(m, depth, p, work, out, fill, left, levels, here, table)
 }
 
 // ---- Types
@@ -471,41 +315,39 @@ fn run_defined(
     fill: usize,
     left: &mut u16,
     levels: u8,
-    scope: u16,
-    base_is_node: bool,
-    path: Labels,
+    here: Context,
     table: &mut [u8],
-) -> Ran
+) -> Filled
     requires { ⌜ (Able (now m) (now work) (now out) fill × (StandsAs (now m) depth Statement p × NamesKnown (now m) p)) × ((byte (now m) p ≡ 0x27) × FreshFor (now m) (now table) p) ⌝ }
-    ensures { λ r. ⌜ Executes (now (m .entry)) (now (work .entry)) (now (work .exit)) (now (out .entry)) (now (out .exit)) fill (now (left .entry)) (now (left .exit)) (Here scope «base_is_node» path) r (λ k. run k (declaration k levels) (statementAt (now (m .entry)) depth p)) ⌝ }
+    ensures { λ r. ⌜ Executes (now (m .entry)) (now (work .entry)) (now (work .exit)) (now (out .entry)) (now (out .exit)) fill (now (left .entry)) (now (left .exit)) (contextOf here) r (λ k. run k (declaration k levels) (statementAt (now (m .entry)) depth p)) ⌝ }
 {
-    let t = attributes::evaluate_titled(m, depth, p, work, out, fill, scope, base_is_node, table);
+    let scope = here.scope;
+    let t = attributes::evaluate_titled(m, depth, p, work, out, fill, scope, table);
     match t {
-        Evaluated::Refused { reason, place } => Ran::Refused { reason, place },
-        Evaluated::Value(x) => declare_type(
-            m,
-            p,
-            wire::end_of(m, p + 5),
-            wire::end_of(m, p),
-            table,
-            x,
-            work,
-            out,
-            fill,
-            left,
-            levels,
-            base_is_node,
-            path,
-        ),
+        Evaluated::Refused(refusal) => Filled::Refused(refusal),
+        Evaluated::Value(x) => declare_type(m, p, table, x, work, out, fill, left, levels, here),
     }
 }
 
-// The declaration of a type by the 27 at p, whose title is x and whose attributes, from `first` to `end`, are in the table.
+// Where the body of a type runs, with `levels` levels left for what it declares: in a scope of its own, on the base and the path of its declarer.
+fn body_context(here: Context, levels: u8) -> Context
+    ensures { λ r. ⌜ contextOf r ≡ inBody levels (contextOf here) ⌝ }
+{
+    let number = 1026 + levels as u16;
+    let path = here.path;
+    Context {
+        scope: Scope {
+            number,
+            base_is_node: here.scope.base_is_node,
+        },
+        path,
+    }
+}
+
+// The declaration of a type by the 27 at p, whose title is x and whose attributes are in the table.
 fn declare_type(
     m: &[u8],
     p: usize,
-    first: usize,
-    end: usize,
     table: &[u8],
     x: Labelled,
     work: &mut [u8],
@@ -513,34 +355,28 @@ fn declare_type(
     fill: usize,
     left: &mut u16,
     levels: u8,
-    base_is_node: bool,
-    path: Labels,
-) -> Ran
-    requires { ⌜ Able (now m) (now work) (now out) fill × (((p ≤ 65535) × (end ≤ 65535)) × (two (now m) (p + 3) < 1024)) ⌝ }
-    ensures { λ r. ⌜ ((gs : List Given) → Gives (now (table .entry)) gs → Alike (now (m .entry)) gs (fieldsIn (now (m .entry)) first end) → Executes (now (m .entry)) (now (work .entry)) (now (work .exit)) (now (out .entry)) (now (out .exit)) fill (now (left .entry)) (now (left .exit)) (Under «base_is_node» path) r (λ k. declaration k levels (ofType p (two (now (m .entry)) (p + 3)) x gs))) ⌝ }
+    here: Context,
+) -> Filled
+    requires { ⌜ Able (now m) (now work) (now out) fill × (((p ≤ 65535) × (endOf (now m) p ≤ 65535)) × (two (now m) (p + 3) < 1024)) ⌝ }
+    ensures { λ r. ⌜ ((gs : List Given) → Gives (now (table .entry)) gs → Alike (now (m .entry)) gs (fieldsIn (now (m .entry)) (endOf (now (m .entry)) (p + 5)) (endOf (now (m .entry)) p)) → Executes (now (m .entry)) (now (work .entry)) (now (work .exit)) (now (out .entry)) (now (out .exit)) fill (now (left .entry)) (now (left .exit)) (contextOf here) r (λ k. declaration k levels (ofType p (two (now (m .entry)) (p + 3)) x gs))) ⌝ }
 {
     if levels < 1 {
-        return refusal(Reason::LevelLimit, p);
+        return Filled::Refused(Refusal::at(Reason::LevelLimit, p));
     }
     let below = levels - 1;
-    let s = declarations::start_type(m, p, first, end, table, x, work, below, path);
+    let given = Span {
+        first: wire::end_of(m, p + 5),
+        end: wire::end_of(m, p),
+    };
+    let inside = body_context(here, below);
+    let s = declarations::start_type(m, p, given, table, x, work, inside);
     match s {
-        Started::Refused { reason, place } => Ran::Refused { reason, place },
-        Started::Body(block) => run_body(
-            m,
-            block,
-            work,
-            out,
-            fill,
-            left,
-            below,
-            base_is_node,
-            path,
-        ),
+        Started::Refused(refusal) => Filled::Refused(refusal),
+        Started::Body(block) => run_body(m, block, work, out, fill, left, below, inside),
     }
 }
 
-// The body of a type, whose block is at p, in a scope that is freed after it.
+// The body of a type, whose block is at p, and whose scope is freed after it.
 fn run_body(
     m: &[u8],
     p: usize,
@@ -549,31 +385,17 @@ fn run_body(
     fill: usize,
     left: &mut u16,
     levels: u8,
-    base_is_node: bool,
-    path: Labels,
-) -> Ran
+    here: Context,
+) -> Filled
     requires { ⌜ Able (now m) (now work) (now out) fill × (StandsAs (now m) 31 Block p × NamesKnown (now m) p) ⌝ }
-    ensures { λ r. ⌜ Executes (now (m .entry)) (now (work .entry)) (now (work .exit)) (now (out .entry)) (now (out .exit)) fill (now (left .entry)) (now (left .exit)) (Under «base_is_node» path) r (bodyRun levels (blockAt (now (m .entry)) 31 p)) ⌝ }
+    ensures { λ r. ⌜ Executes (now (m .entry)) (now (work .entry)) (now (work .exit)) (now (out .entry)) (now (out .exit)) fill (now (left .entry)) (now (left .exit)) (contextOf here) r (bodyRun levels (blockAt (now (m .entry)) 31 p)) ⌝ }
 {
-    let scope = 1026 + levels as u16;
-    let r = run_block(
-        m,
-        31,
-        p,
-        work,
-        out,
-        fill,
-        left,
-        levels,
-        scope,
-        base_is_node,
-        path,
-    );
+    let r = run_block(m, 31, p, work, out, fill, left, levels, here);
     match r {
-        Ran::Refused { reason, place } => Ran::Refused { reason, place },
-        Ran::Done(filled) => {
-            cells::free_scope(work, scope);
-            Ran::Done(filled)
+        Filled::Refused(refusal) => Filled::Refused(refusal),
+        Filled::Done(filled) => {
+            cells::free_scope(work, here.scope.number);
+            Filled::Done(filled)
         }
     }
 }
@@ -590,46 +412,28 @@ fn run_class(
     fill: usize,
     left: &mut u16,
     levels: u8,
-    scope: u16,
-    base_is_node: bool,
-    path: Labels,
+    here: Context,
     table: &mut [u8],
-) -> Ran
+) -> Filled
     requires { ⌜ (Able (now m) (now work) (now out) fill × (StandsAs (now m) depth Statement p × NamesKnown (now m) p)) × ((byte (now m) p ≡ 0x28) × FreshFor (now m) (now table) p) ⌝ }
-    ensures { λ r. ⌜ Executes (now (m .entry)) (now (work .entry)) (now (work .exit)) (now (out .entry)) (now (out .exit)) fill (now (left .entry)) (now (left .exit)) (Here scope «base_is_node» path) r (λ k. run k (declaration k levels) (statementAt (now (m .entry)) depth p)) ⌝ }
+    ensures { λ r. ⌜ Executes (now (m .entry)) (now (work .entry)) (now (work .exit)) (now (out .entry)) (now (out .exit)) fill (now (left .entry)) (now (left .exit)) (contextOf here) r (λ k. run k (declaration k levels) (statementAt (now (m .entry)) depth p)) ⌝ }
 {
     let first = p + 5;
     let end = wire::end_of(m, p);
-    let g = attributes::evaluate_attributes(
-        m,
-        depth - 1,
-        first,
-        end,
-        work,
-        out,
-        fill,
-        scope,
-        base_is_node,
-        table,
-    );
+    let given = Span { first, end };
+    let scope = here.scope;
+    let g = evaluate_attributes(m, depth - 1, given, work, out, fill, scope, table);
     match g {
-        Gathered::Refused { reason, place } => Ran::Refused { reason, place },
-        Gathered::Done => declare_class(
-            m,
-            p,
-            wire::two_at(m, p + 3),
-            true,
-            first,
-            end,
-            table,
-            work,
-            out,
-            fill,
-            left,
-            levels,
-            base_is_node,
-            path,
-        ),
+        Gathered::Refused(refusal) => Filled::Refused(refusal),
+        Gathered::Done => {
+            let request = Request {
+                place: p,
+                name: wire::two_at(m, p + 3),
+                again: true,
+                given,
+            };
+            declare_class(m, request, table, work, out, fill, left, levels, here)
+        }
     }
 }
 
@@ -642,92 +446,66 @@ fn run_include(
     fill: usize,
     left: &mut u16,
     levels: u8,
-    base_is_node: bool,
-    path: Labels,
-) -> Ran
+    here: Context,
+) -> Filled
     requires { ⌜ Able (now m) (now work) (now out) fill × ((p + 5 ≤ 65535) × (two (now m) (p + 3) < 1024)) ⌝ }
-    ensures { λ r. ⌜ Executes (now (m .entry)) (now (work .entry)) (now (work .exit)) (now (out .entry)) (now (out .exit)) fill (now (left .entry)) (now (left .exit)) (Under «base_is_node» path) r (λ k. run k (declaration k levels) (include p (two (now (m .entry)) (p + 3)))) ⌝ }
+    ensures { λ r. ⌜ Executes (now (m .entry)) (now (work .entry)) (now (work .exit)) (now (out .entry)) (now (out .exit)) fill (now (left .entry)) (now (left .exit)) (contextOf here) r (λ k. run k (declaration k levels) (include p (two (now (m .entry)) (p + 3)))) ⌝ }
 {
     let name = wire::two_at(m, p + 3);
     if memory::is_declared(work, name) {
-        return Ran::Done(fill);
+        return Filled::Done(fill);
     }
-    declare_class(
-        m,
-        p,
+    let request = Request {
+        place: p,
         name,
-        false,
-        0,
-        0,
-        &m[0..0],
-        work,
-        out,
-        fill,
-        left,
-        levels,
-        base_is_node,
-        path,
-    )
+        again: false,
+        given: NONE_GIVEN,
+    };
+    declare_class(m, request, &m[0..0], work, out, fill, left, levels, here)
 }
 
-// The declaration of the class `name` at p, whose attributes, from `first` to `end`, are in the table: by a 28, which refuses a declared class (`again`), or by a 29 or as a parent, which give nothing.
+// The declaration of a class, whose attributes are in the table.
 fn declare_class(
     m: &[u8],
-    p: usize,
-    name: u16,
-    again: bool,
-    first: usize,
-    end: usize,
+    request: Request,
     table: &[u8],
     work: &mut [u8],
     out: &mut [u8],
     fill: usize,
     left: &mut u16,
     levels: u8,
-    base_is_node: bool,
-    path: Labels,
-) -> Ran
-    requires { ⌜ Able (now m) (now work) (now out) fill × (((p ≤ 65535) × (end ≤ 65535)) × (name < 1024)) ⌝ }
-    ensures { λ r. ⌜ ((gs : List Given) → Gives (now (table .entry)) gs → Alike (now (m .entry)) gs (fieldsIn (now (m .entry)) first end) → («again» ≡ false → gs ≡ []) → Executes (now (m .entry)) (now (work .entry)) (now (work .exit)) (now (out .entry)) (now (out .exit)) fill (now (left .entry)) (now (left .exit)) (Under «base_is_node» path) r (λ k. declaration k levels (asked «again» p name gs))) ⌝ }
+    here: Context,
+) -> Filled
+    requires { ⌜ Able (now m) (now work) (now out) fill × (((request .place ≤ 65535) × (request .given .end ≤ 65535)) × (request .name < 1024)) ⌝ }
+    ensures { λ r. ⌜ ((gs : List Given) → Gives (now (table .entry)) gs → Alike (now (m .entry)) gs (fieldsIn (now (m .entry)) (request .given .first) (request .given .end)) → (request .again ≡ false → gs ≡ []) → Executes (now (m .entry)) (now (work .entry)) (now (work .exit)) (now (out .entry)) (now (out .exit)) fill (now (left .entry)) (now (left .exit)) (contextOf here) r (λ k. declaration k levels (asked (request .again) (request .place) (request .name) gs))) ⌝ }
 {
     if levels == 0 {
-        return refusal(Reason::LevelLimit, p);
+        return Filled::Refused(Refusal::at(Reason::LevelLimit, request.place));
     }
-    let c = declarations::check_class(m, p, name, again, first, end, table, work);
+    let c = declarations::check_class(m, request, table, work);
     let d = match c {
-        Class::Refused { reason, place } => return Ran::Refused { reason, place },
+        Class::Refused(refusal) => return Filled::Refused(refusal),
         Class::At(d) => d,
     };
-    let r = declare_parent(m, d, work, out, fill, left, levels - 1, base_is_node, path);
-    let Ran::Done(filled) = r else {
+    let r = declare_parent(m, d, work, out, fill, left, levels - 1, here);
+    let Filled::Done(filled) = r else {
         return r;
     };
-    if memory::is_declared(work, name) {
-        return declared_meanwhile(again, p, filled);
+    if memory::is_declared(work, request.name) {
+        return declared_meanwhile(request.again, request.place, filled);
     }
-    enter_class(
-        m,
-        d,
-        table,
-        work,
-        out,
-        filled,
-        left,
-        levels - 1,
-        base_is_node,
-        path,
-    )
+    enter_class(m, d, table, work, out, filled, left, levels - 1, here)
 }
 
 // The second look: "an include or a parent's declaration does nothing more and 28 is refused".
-fn declared_meanwhile(again: bool, p: usize, fill: usize) -> Ran
+fn declared_meanwhile(again: bool, p: usize, fill: usize) -> Filled
     requires { ⌜ p ≤ 65535 ⌝ }
-    ensures { λ r. ⌜ r ≡ pick again (Refused DeclaredAgain p) (Done fill) ⌝ }
+    ensures { λ r. ⌜ r ≡ pick again (Refused (refusalAt DeclaredAgain p)) (Done fill) ⌝ }
 {
     if again {
-        refusal(Reason::DeclaredAgain, p)
+        Filled::Refused(Refusal::at(Reason::DeclaredAgain, p))
     } else {
-        Ran::Done(fill)
+        Filled::Done(fill)
     }
 }
 
@@ -740,41 +518,31 @@ fn declare_parent(
     fill: usize,
     left: &mut u16,
     levels: u8,
-    base_is_node: bool,
-    path: Labels,
-) -> Ran
+    here: Context,
+) -> Filled
     requires { ⌜ Able (now m) (now work) (now out) fill × ClassStands (now m) d ⌝ }
-    ensures { λ r. ⌜ Executes (now (m .entry)) (now (work .entry)) (now (work .exit)) (now (out .entry)) (now (out .exit)) fill (now (left .entry)) (now (left .exit)) (Under «base_is_node» path) r (λ k. parentFirst k (declaration k levels) (parentAt (now (m .entry)) (d + 5))) ⌝ }
+    ensures { λ r. ⌜ Executes (now (m .entry)) (now (work .entry)) (now (work .exit)) (now (out .entry)) (now (out .exit)) fill (now (left .entry)) (now (left .exit)) (contextOf here) r (λ k. parentFirst k (declaration k levels) (parentAt (now (m .entry)) (d + 5))) ⌝ }
 {
     let q = d + 5;
     if wire::byte_at(m, q) != 0x35 {
-        return Ran::Done(fill);
+        return Filled::Done(fill);
     }
     let name = wire::two_at(m, q + 3);
     if memory::is_declared(work, name) {
-        return Ran::Done(fill);
+        return Filled::Done(fill);
     }
     let remaining = *left;
     if remaining == 0 {
-        return refusal(Reason::StepLimit, q);
+        return Filled::Refused(Refusal::at(Reason::StepLimit, q));
     }
     *left = remaining - 1;
-    declare_class(
-        m,
-        q,
+    let request = Request {
+        place: q,
         name,
-        false,
-        0,
-        0,
-        &m[0..0],
-        work,
-        out,
-        fill,
-        left,
-        levels,
-        base_is_node,
-        path,
-    )
+        again: false,
+        given: NONE_GIVEN,
+    };
+    declare_class(m, request, &m[0..0], work, out, fill, left, levels, here)
 }
 
 // The class at d, whose values are in the table, marked declared; then its body.
@@ -787,33 +555,17 @@ fn enter_class(
     fill: usize,
     left: &mut u16,
     levels: u8,
-    base_is_node: bool,
-    path: Labels,
-) -> Ran
+    here: Context,
+) -> Filled
     requires { ⌜ Able (now m) (now work) (now out) fill × ClassStands (now m) d ⌝ }
-    ensures { λ r. ⌜ Enters (now (m .entry)) (now (table .entry)) (now (work .entry)) (now (work .exit)) (now (out .entry)) (now (out .exit)) fill (now (left .entry)) (now (left .exit)) levels d «base_is_node» path r ⌝ }
+    ensures { λ r. ⌜ Enters (now (m .entry)) (now (table .entry)) (now (work .entry)) (now (work .exit)) (now (out .entry)) (now (out .exit)) fill (now (left .entry)) (now (left .exit)) levels d (contextOf here) r ⌝ }
 {
-    let s = declarations::start_class(m, d, table, work, base_is_node, path);
+    let s = declarations::start_class(m, d, table, work, here);
     match s {
-        StartedClass::Refused { reason, place } => Ran::Refused { reason, place },
+        StartedClass::Refused(refusal) => Filled::Refused(refusal),
         StartedClass::Body {
             block,
-            base_is_node: base,
-        } => {
-            let scope = 2 + wire::two_at(m, d + 3);
-            run_block(
-                m,
-                31,
-                block,
-                work,
-                out,
-                fill,
-                left,
-                levels,
-                scope,
-                base,
-                path,
-            )
-        }
+            here: inside,
+        } => run_block(m, 31, block, work, out, fill, left, levels, inside),
     }
 }

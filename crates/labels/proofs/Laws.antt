@@ -3,14 +3,16 @@ use mathlib.Core.Path.{_≡_, refl, sym, ap, _∙_}
 use mathlib.Core.Bool.{Bool, true, false, _||_}
 use mathlib.Core.List.{List, [], _∷_, _++_, append-assoc}
 use Prim.Native.Nat.{ℕ, zero, suc, _+_, _-_, _*_, _/_, _%_, _^_, _≤_, _<_}
-use native.Mathlib.Nat.{mod-lt, zero-lt-suc, zero-div, div-self, pow-suc, add-zero, add-suc, suc-add, one-mul}
+use native.Mathlib.Nat.{mod-lt, zero-lt-suc, zero-div, div-self, pow-suc, suc-add, one-mul}
 use native.Mathlib.Omega.{arith}
 use borrow.Author.Tests.{ltb-true, ltb-false, lt-ltb, le-ltb, eqb-true, eqb-false, ne-eqb, eq-eqb}
 use lib.Bits.{bitOr, or-shr, or-mod, or-lt}
 use lib.Dec.{eqb, ltb, lit<}
-use lib.ListN.{length, getD, set, drop, length-append, List·getD-append}
+use lib.ListN.{length, getD, length-append, List·getD-append}
 use lib.Pow.{pow-pos, pow-lt, shl-exact, field, mod-mod-pow}
-use lib.Seq.{sets, sets-eq, getD-append-add}
+use lib.Seq.{getD-append-add}
+use Rattle.wire.specs.Runs.{over}
+use Rattle.wire.proofs.Laws.{then-store}
 use Rattle.labels.specs.declared.Labels.{Labels}
 use Rattle.labels.specs.Sets.{noLabels, bitOf, oneLabel, _∪_, wordOf, has, Words64}
 use Rattle.labels.specs.Bytes.{lowBytes, numberAt, labelBytes, labelsFrom}
@@ -301,23 +303,17 @@ label-back s rest w =
     (number-next (s .w0) m1 8 ∙ number-next (s .w1) m2 0 ∙ number-back 8 (s .w2) m3 (w .small2))
     (number-next (s .w0) m1 16 ∙ number-next (s .w1) m2 8 ∙ number-next (s .w2) m3 0 ∙ number-back 8 (s .w3) rest (w .small3))
 
-sets-append : (m : List ℕ) (i : ℕ) (a b : List ℕ) → sets m i (a ++ b) ≡ sets (sets m i a) (i + length a) b
-sets-append m i [] b = ap (λ (k : ℕ). sets m k b) (sym (add-zero i))
-sets-append m i (x ∷ a) b =
-    sets-append (set m i x) (suc i) a b ∙ ap (λ (k : ℕ). sets (sets (set m i x) (suc i) a) k b) (suc-add i (length a) ∙ sym (add-suc i (length a)))
-
 -- four stores of a word make the 32 bytes
-pub label-sets : (s : Labels) (m : List ℕ) → 32 ≤ length m
-    → sets (sets (sets (sets m 0 (lowBytes 8 (s .w0))) 8 (lowBytes 8 (s .w1))) 16 (lowBytes 8 (s .w2))) 24 (lowBytes 8 (s .w3)) ≡ labelBytes s ++ drop 32 m
+pub label-stored : (s : Labels) (m : List ℕ) (p : ℕ) {m1 m2 m3 m4 : List ℕ} → m1 ≡ over m p (lowBytes 8 (s .w0)) → m2 ≡ over m1 (p + 8) (lowBytes 8 (s .w1)) → m3 ≡ over m2 (p + 16) (lowBytes 8 (s .w2)) → m4 ≡ over m3 (p + 24) (lowBytes 8 (s .w3))
+    → m4 ≡ over m p (labelBytes s)
 unfolding labelBytes
-label-sets s m h =
-    let m0 : List ℕ = sets m 0 (lowBytes 8 (s .w0)) in
-    let m1 : List ℕ = sets m0 8 (lowBytes 8 (s .w1)) in
-    sym (next m 0 (s .w0) _ ∙ next m0 8 (s .w1) _ ∙ next m1 16 (s .w2) _)
-    ∙ sets-eq (labelBytes s) m 0 (omega (arith, label-length s)) ∙ ap (λ (k : ℕ). labelBytes s ++ drop (0 + k) m) (label-length s)
+label-stored s m p {m1} {m2} {m3} {m4} e1 e2 e3 e4 =
+    let two : m4 ≡ over m2 (p + 16) (lowBytes 8 (s .w2) ++ lowBytes 8 (s .w3)) = next m2 (p + 16) (s .w2) (p + 24) (lowBytes 8 (s .w3)) e3 e4 (omega arith) in
+    let three : m4 ≡ over m1 (p + 8) (lowBytes 8 (s .w1) ++ (lowBytes 8 (s .w2) ++ lowBytes 8 (s .w3))) = next m1 (p + 8) (s .w1) (p + 16) (lowBytes 8 (s .w2) ++ lowBytes 8 (s .w3)) e2 two (omega arith) in
+    next m p (s .w0) (p + 8) (lowBytes 8 (s .w1) ++ (lowBytes 8 (s .w2) ++ lowBytes 8 (s .w3))) e1 three (omega arith)
   where
-    next : (d : List ℕ) (at v : ℕ) (b : List ℕ) → sets d at (lowBytes 8 v ++ b) ≡ sets (sets d at (lowBytes 8 v)) (at + 8) b
-    next d at v b = sets-append d at (lowBytes 8 v) b ∙ ap (λ (k : ℕ). sets (sets d at (lowBytes 8 v)) (at + k) b) (low-length 8 v)
+    next : (d : List ℕ) (at v q : ℕ) (b : List ℕ) {d1 d2 : List ℕ} → d1 ≡ over d at (lowBytes 8 v) → d2 ≡ over d1 q b → q ≡ at + 8 → d2 ≡ over d at (lowBytes 8 v ++ b)
+    next d at v q b first second end = then-store d at (lowBytes 8 v) q b first second (omega (arith, low-length 8 v))
 
 -- "Label n is bit n mod 8, lowest first, of byte n / 8"
 low-digit : (v r : ℕ) → r < 8 → digit (v % 256) r ≡ digit v r

@@ -1,3 +1,4 @@
 pub mod Digits
 pub mod Laws
 pub mod Search
+pub mod Places

@@ -1,12 +1,12 @@
 // A set of labels 0 to 255, held in four words by value.
 ghost use mathlib.Core.Path.{_≡_};
-ghost use mathlib.Core.List.{_++_};
 ghost use Prim.Native.Nat.{_+_, _≤_};
-ghost use lib.ListN.{length, drop};
-ghost use lib.Seq.{sets};
+ghost use lib.Dec.{leb};
+ghost use lib.ListN.{length};
+ghost use Rattle.wire.specs.Runs.{over};
 ghost use Rattle.labels.specs.Sets.{oneLabel, _∪_, wordOf, has};
 ghost use Rattle.labels.specs.Search.{countOf, nextFrom};
-ghost use Rattle.labels.specs.Bytes.{lowBytes, numberAt, labelBytes, labelsFrom};
+ghost use Rattle.labels.specs.Bytes.{lowBytes, numberAt, labelBytes, setAt};
 
 pub struct Labels {
     pub w0: u64,
@@ -123,28 +123,64 @@ impl Labels {
         NextLabel::Nothing
     }
 
-    // Writes the 32 bytes at the start of `out`.
-    pub fn to_slice(self, out: &mut [u8])
-        requires { ⌜ 32 ≤ length (now out) ⌝ }
-        ensures { λ _. ⌜ now (out .exit) ≡ labelBytes self ++ drop 32 (now (out .entry)) ⌝ }
+    // The set in the 32 bytes from `at` on. A byte past the end reads as 0.
+    pub fn read_at(bytes: &[u8], at: usize) -> Labels
+        ensures { λ r. ⌜ r ≡ setAt (now (bytes .entry)) at ⌝ }
     {
-        put_word(out, 0, self.w0);
-        put_word(out, 8, self.w1);
-        put_word(out, 16, self.w2);
-        put_word(out, 24, self.w3);
+        if fits(bytes.len(), at) {
+            return read_words(bytes, at);
+        }
+        if bytes.len() <= at {
+            return Labels::EMPTY;
+        }
+        let mut whole = [0u8; 32];
+        wire::copy_into(&mut whole, 0, &bytes[at..]);
+        read_words(&whole, 0)
     }
 
-    // Reads the first 32 bytes.
-    pub fn from_slice(b: &[u8]) -> Labels
-        requires { ⌜ 32 ≤ length (now b) ⌝ }
-        ensures { λ r. ⌜ r ≡ labelsFrom (now (b .entry)) ⌝ }
+    // Stores the 32 bytes from `at` on. Past the end nothing is stored.
+    pub fn write_at(self, bytes: &mut [u8], at: usize)
+        ensures { λ _. ⌜ now (bytes .exit) ≡ over (now (bytes .entry)) at (labelBytes self) ⌝ }
     {
-        Labels {
-            w0: read_word(b, 0),
-            w1: read_word(b, 8),
-            w2: read_word(b, 16),
-            w3: read_word(b, 24),
+        if fits(bytes.len(), at) {
+            self.write_words(bytes, at);
+            return;
         }
+        let mut whole = [0u8; 32];
+        self.write_words(&mut whole, 0);
+        wire::copy_into(bytes, at, &whole);
+    }
+
+    fn write_words(self, bytes: &mut [u8], at: usize)
+        requires { ⌜ at + 32 ≤ length (now bytes) ⌝ }
+        ensures { λ _. ⌜ now (bytes .exit) ≡ over (now (bytes .entry)) at (labelBytes self) ⌝ }
+    {
+        put_word(bytes, at, self.w0);
+        put_word(bytes, at + 8, self.w1);
+        put_word(bytes, at + 16, self.w2);
+        put_word(bytes, at + 24, self.w3);
+    }
+}
+
+// Whether 32 bytes from `at` on are among the first `size`.
+fn fits(size: usize, at: usize) -> bool
+    ensures { λ r. ⌜ r ≡ leb (at + 32) size ⌝ }
+{
+    if size < 32 {
+        return false;
+    }
+    at <= size - 32
+}
+
+fn read_words(bytes: &[u8], at: usize) -> Labels
+    requires { ⌜ at + 32 ≤ length (now bytes) ⌝ }
+    ensures { λ r. ⌜ r ≡ setAt (now (bytes .entry)) at ⌝ }
+{
+    Labels {
+        w0: read_word(bytes, at),
+        w1: read_word(bytes, at + 8),
+        w2: read_word(bytes, at + 16),
+        w3: read_word(bytes, at + 24),
     }
 }
 
@@ -157,7 +193,7 @@ fn wide(b: u8) -> u64
 // Lowest byte first.
 fn put_word(out: &mut [u8], at: usize, word: u64)
     requires { ⌜ at + 8 ≤ length (now out) ⌝ }
-    ensures { λ _. ⌜ now (out .exit) ≡ sets (now (out .entry)) at (lowBytes 8 word) ⌝ }
+    ensures { λ _. ⌜ now (out .exit) ≡ over (now (out .entry)) at (lowBytes 8 word) ⌝ }
 {
     let mut left = word;
     let mut i = 0;

@@ -13,7 +13,7 @@ wordOf (accepted n s) = s * 65536 + n
 wordOf (refused k p) = k * 4294967296 + p
 
 -- the word is that of the answer of `compile`, and the bytes lent are as `compile` leaves them
-pub record Calls (manifest device : List ℕ) (limit : ℕ) (output output′ memory memory′ : List ℕ) (word : ℕ) : Type 0 where
+pub record Calls (manifest device : List ℕ) (limit : ℕ) (outputBefore outputAfter memoryBefore memoryAfter : List ℕ) (word : ℕ) : Type 0 where
   pub answer : Answer
-  pub compiles : Compiles manifest device limit output output′ memory memory′ answer
+  pub compiles : Compiles manifest device limit outputBefore outputAfter memoryBefore memoryAfter answer
   pub told : word ≡ wordOf (said answer)

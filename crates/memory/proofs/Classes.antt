@@ -11,8 +11,8 @@ use borrow.Author.Tests.{eqb-true, ne-eqb}
 use Rattle.wire.specs.Bytes.{pick, byte, two}
 use Rattle.wire.specs.Numbers.{highBytes}
 use Rattle.wire.specs.Runs.{over}
-use Rattle.rules.specs.State.{Base, topBase, nodeBase, baseScope, DeclaredClass, parentOfClass, parentOf, Entry, isDeclared, declared, oneIf}
-use Rattle.cells.specs.Layout.{recordAt, putAt, NameRecord, nameAt, recordsOf}
+use Rattle.rules.specs.State.{Base, topBase, nodeBase, baseScope, DeclaredClass, parentOfClass, parentOf, Entry, isDeclared, markDeclared, oneIf}
+use Rattle.cells.specs.Layout.{recordAt, putAt, NameRecord, nameAt, recordsOf, nameClass, nameParent}
 use Rattle.cells.specs.Scopes.{scopeOf}
 use Rattle.cells.specs.Memory.{baseFor, classFrom, classIn, definitionIn, builtInIn, classesOf, definitionOf, builtInOf, namesOf, stateOf, Becomes}
 use Rattle.cells.proofs.Scopes.{scope-cases, top-scope, node-scope}
@@ -32,11 +32,11 @@ class-back false q = refl
 
 -- declare_class
 pub declare-way : (w : List ℕ) (k q : ℕ) (b : Bool) {t : ℕ} {w1 w2 : List ℕ} → 65536 ≤ length w → k < 1024 → q < 65536 → t ≡ classState b
-    → w1 ≡ over w (recordAt k + 4) (highBytes 1 t) → w2 ≡ over w1 (recordAt k + 6) (highBytes 2 q) → Becomes w w2 (declared k (placed q b)) (λ ns. ns)
-unfolding declared stateOf namesOf definitionOf builtInOf classTo parentTo classIn definitionIn builtInIn classesOf putAt
+    → w1 ≡ over w (recordAt k + nameClass) (highBytes 1 t) → w2 ≡ over w1 (recordAt k + nameParent) (highBytes 2 q) → Becomes w w2 (markDeclared k (placed q b)) (λ ns. ns)
+unfolding markDeclared stateOf namesOf definitionOf builtInOf classTo parentTo classIn definitionIn builtInIn classesOf putAt
 declare-way w k q b {t} {w1} {w2} room below fits et e1 e2 =
     let g : NameRecord → NameRecord = λ x. parentTo q (classTo (classState b) x) in
-    let first : w1 ≡ over w (recordAt k + 4) (highBytes 1 (classState b)) = rw et at e1 in
+    let first : w1 ≡ over w (recordAt k + nameClass) (highBytes 1 (classState b)) = rw et at e1 in
     let one : Filed k w w1 (classTo (classState b)) = class-filed w k below room (classState b) (class-small b) first in
     let step : Filed k w w2 g = and-then one (parent-filed w1 k below (omega (arith, one .size)) q fits e2) in
     let d : Option DeclaredClass = some (placed q b) in
@@ -56,30 +56,30 @@ declare-way w k q b {t} {w1} {w2} room below fits et e1 e2 =
     pick-elim false a b = refl
 
 -- what stands in a name's record
-class-read : (w : List ℕ) (k : ℕ) → k < 1024 → classesOf w k ≡ classFrom (byte w (recordAt k + 4)) (two w (recordAt k + 6))
+class-read : (w : List ℕ) (k : ℕ) → k < 1024 → classesOf w k ≡ classFrom (byte w (recordAt k + nameClass)) (two w (recordAt k + nameParent))
 unfolding classesOf classIn nameAt
 class-read w k below = rw (record-in w k below) refl
 
 -- is_declared
-pub declared-read : (w : List ℕ) (k : ℕ) {r : ℕ} → k < 1024 → r ≡ byte w (recordAt k + 4) → (es : List Entry) (n m : ℕ) → not (eqb r 0) ≡ isDeclared k (stateOf w es n m)
+pub declared-read : (w : List ℕ) (k : ℕ) {r : ℕ} → k < 1024 → r ≡ byte w (recordAt k + nameClass) → (es : List Entry) (n m : ℕ) → not (eqb r 0) ≡ isDeclared k (stateOf w es n m)
 unfolding isDeclared stateOf classFrom
 declared-read w k {r} below e es n m =
-    let t : ℕ = byte w (recordAt k + 4) in
+    let t : ℕ = byte w (recordAt k + nameClass) in
     ap (λ (x : ℕ). not (eqb x 0)) e ∙ go (eqb t 0) ∙ ap (λ (o : Option DeclaredClass). elim o [ none ↦ false | some d ↦ true ]) (sym (class-read w k below))
   where
-    go : (x : Bool) → not x ≡ elim (pick x none (some (placed (two w (recordAt k + 6)) (eqb (byte w (recordAt k + 4)) 2)))) [ none ↦ false | some d ↦ true ]
+    go : (x : Bool) → not x ≡ elim (pick x none (some (placed (two w (recordAt k + nameParent)) (eqb (byte w (recordAt k + nameClass)) 2)))) [ none ↦ false | some d ↦ true ]
     go true = refl
     go false = refl
 
 -- base_of
-pub base-read : (w : List ℕ) (k : ℕ) {r : ℕ} → k < 1024 → r ≡ byte w (recordAt k + 4) → eqb r 2 ≡ atNode (classesOf w k)
+pub base-read : (w : List ℕ) (k : ℕ) {r : ℕ} → k < 1024 → r ≡ byte w (recordAt k + nameClass) → eqb r 2 ≡ atNode (classesOf w k)
 unfolding classFrom atNode isNode baseFor
 base-read w k {r} below e = rw (class-read w k below, e) (go (eqb t 0) refl (eqb t 2) refl)
   where
     t : ℕ
-    t = byte w (recordAt k + 4)
+    t = byte w (recordAt k + nameClass)
 
-    go : (x : Bool) → eqb t 0 ≡ x → (y : Bool) → eqb t 2 ≡ y → y ≡ atNode (pick x none (some (placed (two w (recordAt k + 6)) y)))
+    go : (x : Bool) → eqb t 0 ≡ x → (y : Bool) → eqb t 2 ≡ y → y ≡ atNode (pick x none (some (placed (two w (recordAt k + nameParent)) y)))
     go true p true q = let a : t ≡ 0 = eqb-true t 0 p in let b : t ≡ 2 = eqb-true t 2 q in absurd (omega arith)
     go true p false q = refl
     go false p true q = refl

@@ -10,11 +10,10 @@ use lib.ListN.{length}
 use Rattle.wire.specs.Bytes.{byte, two}
 use Rattle.wire.specs.Numbers.{highBytes}
 use Rattle.wire.specs.Runs.{bytesAt, over}
-use Rattle.wire.proofs.Laws.{run-length, over-length, byte-outside, run-outside, high-length, stored-byte, stored-two, two-same}
+use Rattle.wire.proofs.Laws.{byte-in, two-in, over-in, run-length, over-length, byte-outside, run-outside, high-length, stored-byte, stored-two, two-same}
 use Rattle.rules.specs.State.{DeclaredClass, Entry, oneIf}
-use Rattle.cells.specs.Layout.{recordAt, putAt, NameRecord, nameRecord, blankRecord, nameAt, recordsOf, slotsOf, trailOf, restOf}
+use Rattle.cells.specs.Layout.{recordAt, putAt, NameRecord, nameRecord, blankRecord, nameAt, recordsOf, slotsOf, trailOf, restOf, nameDefinition, nameClass, nameBuiltIn, nameParent, nameSize}
 use Rattle.cells.specs.Memory.{classIn, definitionIn, builtInIn, classesOf, definitionOf, builtInOf, Names, namesOf, stateOf, Becomes}
-use Rattle.cells.proofs.Runs.{byte-in, two-in, over-in}
 use Rattle.cells.proofs.Tables.{table-in, table-put, put-map, put-kept}
 use Rattle.cells.proofs.Regions.{names, same-two, same-name, trail-same, rest-same, cells-by, used-by}
 use Rattle.cells.proofs.Slots.{slots-same}
@@ -58,7 +57,7 @@ record-run w k =
 -- record k goes by g, and nothing else changes, nor does its chain's head
 pub record Filed (k : ℕ) (w w′ : List ℕ) (g : NameRecord → NameRecord) : Type 0 where
   pub own : nameAt w′ k ≡ g (nameAt w k)
-  pub mine : (i : ℕ) → (recordAt k + 2 ≤ i → i < recordAt k + 8 → ⊥) → byte w′ i ≡ byte w i
+  pub mine : (i : ℕ) → (recordAt k + nameDefinition ≤ i → i < recordAt k + nameSize → ⊥) → byte w′ i ≡ byte w i
   pub size : length w′ ≡ length w
 
 pub and-then : {k : ℕ} {w w′ w″ : List ℕ} {g g′ : NameRecord → NameRecord} → Filed k w w′ g → Filed k w′ w″ g′ → Filed k w w″ (λ x. g′ (g x))
@@ -97,7 +96,7 @@ module _ (w : List ℕ) (k : ℕ) (below : k < 1024) (room : 65536 ≤ length w)
   byte-left : (o : ℕ) (bs : List ℕ) (q : ℕ) → (o ≤ q → q < o + length bs → ⊥) → byte (over (runOf w k) o bs) q ≡ byte (runOf w k) q
   byte-left o bs q apart = byte-outside (runOf w k) o bs q apart
 
-  pub definition-filed : {w′ : List ℕ} (v : ℕ) → v < 65536 → w′ ≡ over w (recordAt k + 2) (highBytes 2 v) → Filed k w w′ (definitionTo v)
+  pub definition-filed : {w′ : List ℕ} (v : ℕ) → v < 65536 → w′ ≡ over w (recordAt k + nameDefinition) (highBytes 2 v) → Filed k w w′ (definitionTo v)
   unfolding recordFrom definitionTo
   definition-filed v fits e =
       let bs : List ℕ = highBytes 2 v in
@@ -110,7 +109,7 @@ module _ (w : List ℕ) (k : ℕ) (below : k < 1024) (room : 65536 ≤ length w)
         two-left 2 bs 6 (λ i a b c d. omega arith),
       ) refl)
 
-  pub class-filed : {w′ : List ℕ} (v : ℕ) → v < 256 → w′ ≡ over w (recordAt k + 4) (highBytes 1 v) → Filed k w w′ (classTo v)
+  pub class-filed : {w′ : List ℕ} (v : ℕ) → v < 256 → w′ ≡ over w (recordAt k + nameClass) (highBytes 1 v) → Filed k w w′ (classTo v)
   unfolding recordFrom classTo
   class-filed v fits e =
       let bs : List ℕ = highBytes 1 v in
@@ -123,7 +122,7 @@ module _ (w : List ℕ) (k : ℕ) (below : k < 1024) (room : 65536 ≤ length w)
         two-left 4 bs 6 (λ i a b c d. omega arith),
       ) refl)
 
-  pub built-in-filed : {w′ : List ℕ} (v : ℕ) → v < 256 → w′ ≡ over w (recordAt k + 5) (highBytes 1 v) → Filed k w w′ (builtInTo v)
+  pub built-in-filed : {w′ : List ℕ} (v : ℕ) → v < 256 → w′ ≡ over w (recordAt k + nameBuiltIn) (highBytes 1 v) → Filed k w w′ (builtInTo v)
   unfolding recordFrom builtInTo
   built-in-filed v fits e =
       let bs : List ℕ = highBytes 1 v in
@@ -136,7 +135,7 @@ module _ (w : List ℕ) (k : ℕ) (below : k < 1024) (room : 65536 ≤ length w)
         two-left 5 bs 6 (λ i a b c d. omega arith),
       ) refl)
 
-  pub parent-filed : {w′ : List ℕ} (v : ℕ) → v < 65536 → w′ ≡ over w (recordAt k + 6) (highBytes 2 v) → Filed k w w′ (parentTo v)
+  pub parent-filed : {w′ : List ℕ} (v : ℕ) → v < 65536 → w′ ≡ over w (recordAt k + nameParent) (highBytes 2 v) → Filed k w w′ (parentTo v)
   unfolding recordFrom parentTo
   parent-filed v fits e =
       let bs : List ℕ = highBytes 2 v in
@@ -201,7 +200,7 @@ pub by-record : (P : NameRecord → Type 0) → ((d t b q : ℕ) → P (nameReco
 by-record P each (nameRecord d t b q) = each d t b q
 
 module _ (w : List ℕ) (k : ℕ) (room : 65536 ≤ length w) (below : k < 1024) where
-  pub definition-way : (v : ℕ) (w′ : List ℕ) → v < 65536 → w′ ≡ over w (recordAt k + 2) (highBytes 2 v) → Becomes w w′ (λ st. st) (withDefinition k v)
+  pub definition-way : (v : ℕ) (w′ : List ℕ) → v < 65536 → w′ ≡ over w (recordAt k + nameDefinition) (highBytes 2 v) → Becomes w w′ (λ st. st) (withDefinition k v)
   unfolding withDefinition namesOf definitionOf builtInOf definitionTo classIn definitionIn builtInIn
   definition-way v w′ fits e =
       let g : NameRecord → NameRecord = definitionTo v in
@@ -211,7 +210,7 @@ module _ (w : List ℕ) (k : ℕ) (room : 65536 ≤ length w) (below : k < 1024)
       (read-put k w w′ g below step definitionIn v (by-record (λ x. definitionIn (g x) ≡ v) (λ d t b q. refl) (recordsOf w k)))
       (read-kept k w w′ g below step builtInIn (by-record (λ x. builtInIn (g x) ≡ builtInIn x) (λ d t b q. refl) (recordsOf w k))))
 
-  pub built-in-way : (v : Bool) (w′ : List ℕ) → w′ ≡ over w (recordAt k + 5) (highBytes 1 (oneIf v)) → Becomes w w′ (λ st. st) (withBuiltIn k v)
+  pub built-in-way : (v : Bool) (w′ : List ℕ) → w′ ≡ over w (recordAt k + nameBuiltIn) (highBytes 1 (oneIf v)) → Becomes w w′ (λ st. st) (withBuiltIn k v)
   unfolding withBuiltIn namesOf definitionOf builtInOf builtInTo classIn definitionIn builtInIn
   built-in-way v w′ e =
       let g : NameRecord → NameRecord = builtInTo (oneIf v) in
@@ -222,10 +221,10 @@ module _ (w : List ℕ) (k : ℕ) (room : 65536 ≤ length w) (below : k < 1024)
       (read-put k w w′ g below step builtInIn v (by-record (λ x. builtInIn (g x) ≡ v) (λ d t b q. one-back v) (recordsOf w k))))
 
   -- reads
-  pub definition-read : {r : ℕ} → r ≡ two w (recordAt k + 2) → r ≡ definitionOf w k
+  pub definition-read : {r : ℕ} → r ≡ two w (recordAt k + nameDefinition) → r ≡ definitionOf w k
   unfolding definitionOf definitionIn nameAt
   definition-read e = rw (record-in w k below) e
 
-  pub built-in-read : {r : ℕ} → r ≡ byte w (recordAt k + 5) → not (eqb r 0) ≡ builtInOf w k
+  pub built-in-read : {r : ℕ} → r ≡ byte w (recordAt k + nameBuiltIn) → not (eqb r 0) ≡ builtInOf w k
   unfolding builtInOf builtInIn nameAt
   built-in-read e = rw (record-in w k below, e) refl

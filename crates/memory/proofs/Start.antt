@@ -3,35 +3,34 @@ use mathlib.Core.Path.{_≡_, refl, ap, _∙_, fun-ext}
 use mathlib.Core.Bool.{Bool, true, false}
 use mathlib.Core.List.{List, []}
 use mathlib.Core.Option.{Option, none}
-use Prim.Native.Nat.{ℕ, _+_, _*_, _-_, _≤_, _<_}
+use Prim.Native.Nat.{ℕ, _+_, _-_, _≤_, _<_}
 use native.Mathlib.Omega.{arith}
 use lib.Dec.{ltb}
 use borrow.Author.Tests.{ltb-true}
 use lib.ListN.{length}
 use Rattle.labels.specs.Sets.{noLabels}
-use Rattle.labels.specs.Bytes.{labelsFrom, numberAt}
+use Rattle.labels.proofs.Places.{set-none}
 use Rattle.wire.specs.Bytes.{pick, byte, two}
-use Rattle.wire.specs.Runs.{bytesAt, over, zeros}
+use Rattle.wire.specs.Runs.{over, zeros}
 use Rattle.wire.proofs.Laws.{byte-outside, over-whole, zeros-length, cleared}
 use Rattle.rules.specs.State.{DeclaredClass}
 use Rattle.rules.specs.Compile.{roomIn, start}
-use Rattle.cells.specs.Layout.{table, trailAt, restAt, setAt, trailOf, NameRecord, nameAt, blankRecord, recordsOf}
+use Rattle.cells.specs.Layout.{table, trailAt, recordAt, wordsAt, freeAt, trailOf, NameRecord, nameAt, blankRecord, recordsOf}
 use Rattle.cells.specs.Memory.{classFrom, classIn, definitionIn, builtInIn, classesOf, definitionOf, builtInOf, namesOf, stateOf}
-use Rattle.cells.proofs.Runs.{same-set, byte-in}
 use Rattle.cells.proofs.Blank.{blank-cells, blank-used, blank-fine}
 use Rattle.cells.proofs.Regions.{names}
 use Rattle.memory.specs.Names.{noNames, Begun}
 use Rattle.memory.proofs.Titles.{no-title}
 
--- no slot is in use, and what follows the slots is zero up to the title's number
-module _ (w : List ℕ) (states : (i : ℕ) → i < 512 → byte w i ≡ 0) (after : (i : ℕ) → trailAt ≤ i → i < restAt + 2 → byte w i ≡ 0) where
-  zero-two : (p : ℕ) → trailAt ≤ p → p ≤ restAt → two w p ≡ 0
+-- no slot is in use, and what follows the slots is zero up to the words' end
+module _ (w : List ℕ) (states : (i : ℕ) → i < 512 → byte w i ≡ 0) (after : (i : ℕ) → trailAt ≤ i → i < freeAt → byte w i ≡ 0) where
+  zero-two : (p : ℕ) → trailAt ≤ p → p ≤ wordsAt → two w p ≡ 0
   unfolding two
   zero-two p l u = rw (after p l (omega arith), after (p + 1) (omega arith) (omega arith)) refl
 
   no-trail : trailOf w ≡ noLabels
-  unfolding trailOf setAt labelsFrom numberAt noLabels
-  no-trail = same-set (bytesAt w trailAt 32) [] (λ j h. byte-in w trailAt 32 j h ∙ after (trailAt + j) (omega arith) (omega arith)) ∙ refl
+  unfolding trailOf
+  no-trail = set-none w trailAt (λ j h. after (trailAt + j) (omega arith) (omega arith))
 
   no-record : (k : ℕ) → recordsOf w k ≡ blankRecord
   unfolding recordsOf table nameAt blankRecord
@@ -40,8 +39,8 @@ module _ (w : List ℕ) (states : (i : ℕ) → i < 512 → byte w i ≡ 0) (aft
       go : (t : Bool) → ltb k 1024 ≡ t → pick t (nameAt w k) blankRecord ≡ blankRecord
       go true h =
           let l : k < 1024 = ltb-true k 1024 h in
-          let two : (o : ℕ) → o ≤ 6 → two w (39456 + 8 * k + o) ≡ 0 = λ o u. zero-two (39456 + 8 * k + o) (omega arith) (omega arith) in
-          let one : (o : ℕ) → o ≤ 6 → byte w (39456 + 8 * k + o) ≡ 0 = λ o u. after (39456 + 8 * k + o) (omega arith) (omega arith) in
+          let two : (o : ℕ) → o ≤ 6 → two w (recordAt k + o) ≡ 0 = λ o u. zero-two (recordAt k + o) (omega arith) (omega arith) in
+          let one : (o : ℕ) → o ≤ 6 → byte w (recordAt k + o) ≡ 0 = λ o u. after (recordAt k + o) (omega arith) (omega arith) in
           rw (two 2 (omega arith), one 4 (omega arith), one 5 (omega arith), two 6 (omega arith)) refl
       go false h = refl
 
@@ -63,14 +62,14 @@ module _ (w : List ℕ) (states : (i : ℕ) → i < 512 → byte w i ≡ 0) (aft
 
   -- THE LAW: the definition's first state
   pub begun : Begun w
-  begun = record { state = begun-state; names = begun-names; title = no-title w (zero-two restAt (omega arith) (omega arith)); fine = blank-fine w states }
+  begun = record { state = begun-state; names = begun-names; title = no-title w (zero-two wordsAt (omega arith) (omega arith)); fine = blank-fine w states }
 
 -- begin
-pub begin-way : (w w₁ w₂ : List ℕ) → 65536 ≤ length w → w₁ ≡ over w 0 (zeros (512 - 0)) → w₂ ≡ over w₁ trailAt (zeros (restAt + 2 - trailAt)) → Begun w₂
+pub begin-way : (w w₁ w₂ : List ℕ) → 65536 ≤ length w → w₁ ≡ over w 0 (zeros (512 - 0)) → w₂ ≡ over w₁ trailAt (zeros (freeAt - trailAt)) → Begun w₂
 begin-way w w₁ w₂ room e e′ =
     begun w₂
-    (λ i l. rw (e′, e) (byte-outside (over w 0 (zeros (512 - 0))) trailAt (zeros (restAt + 2 - trailAt)) i (λ a b. omega arith) ∙ cleared w 0 512 i (omega arith) l))
-    (λ i l u. rw e′ (cleared w₁ trailAt (restAt + 2 - trailAt) i l (omega arith)))
+    (λ i l. rw (e′, e) (byte-outside (over w 0 (zeros (512 - 0))) trailAt (zeros (freeAt - trailAt)) i (λ a b. omega arith) ∙ cleared w 0 512 i (omega arith) l))
+    (λ i l u. rw e′ (cleared w₁ trailAt (freeAt - trailAt) i l (omega arith)))
 
 -- clear
 pub clear-way : (m : List ℕ) {w′ : List ℕ} → w′ ≡ over m 0 (zeros (length m - 0)) → w′ ≡ zeros (length m)

@@ -12,23 +12,23 @@ use Rattle.wire.specs.Bytes.{pick, byte, two}
 use Rattle.wire.specs.Numbers.{highBytes}
 use Rattle.wire.specs.Runs.{over}
 use Rattle.wire.proofs.Laws.{same-rest, two-same, byte-outside, high-length, stored-two}
-use Rattle.cells.specs.Layout.{recordAt, restAt, slotsOf, trailOf, recordsOf, restOf}
+use Rattle.cells.specs.Layout.{recordAt, wordsAt, slotsOf, trailOf, recordsOf, restOf}
 use Rattle.cells.specs.Memory.{stateOf}
 use Rattle.cells.proofs.Regions.{same-two, trail-same, records-same, names-by, classes-by, cells-by, used-by}
 use Rattle.cells.proofs.Slots.{slots-same}
 use Rattle.memory.specs.declared.TitleName.the-variants.{At as TitleAt, Nothing as NoTitle}
 use Rattle.memory.specs.Names.{titleIn, titleOf, titleFound, TitleSet}
 
-rest-first : (w : List ℕ) → two w restAt ≡ two (restOf w) 0
+rest-first : (w : List ℕ) → two w wordsAt ≡ two (restOf w) 0
 unfolding restOf
-rest-first w = two-same w (drop restAt w) restAt 0 (same-rest w (drop restAt w) restAt 0 refl 2)
+rest-first w = two-same w (drop wordsAt w) wordsAt 0 (same-rest w (drop wordsAt w) wordsAt 0 refl 2)
 
 -- THE LAWS: the bytes of others say it alone, and zeros say nothing
 pub title-kept : (w w′ : List ℕ) → restOf w′ ≡ restOf w → titleOf w′ ≡ titleOf w
 unfolding titleOf
 title-kept w w′ e = rw e refl
 
-pub no-title : (w : List ℕ) → two w restAt ≡ 0 → titleOf w ≡ none
+pub no-title : (w : List ℕ) → two w wordsAt ≡ 0 → titleOf w ≡ none
 unfolding titleOf titleIn
 no-title w e = rw (sym (rest-first w), e) refl
 
@@ -45,7 +45,7 @@ title-small w n = go (two (restOf w) 0)
         by false e false f h = let same : t - 1 ≡ n = cc in let a : t ≡ 0 → ⊥ = eqb-false t 0 e in let b : t ≤ 1024 = ltb-false 1024 t f in omega arith
 
 -- title
-module _ (w : List ℕ) {t : ℕ} (read : t ≡ two w restAt) where
+module _ (w : List ℕ) {t : ℕ} (read : t ≡ two w wordsAt) where
   pub title-none : t ≡ 0 → titleFound NoTitle ≡ titleOf w
   unfolding titleFound titleOf titleIn
   title-none e = rw (sym (rest-first w), sym read, e) refl
@@ -59,15 +59,15 @@ module _ (w : List ℕ) {t : ℕ} (read : t ≡ two w restAt) where
   title-some ne l = rw (sym (rest-first w), sym read, ne-eqb t 0 ne, le-ltb 1024 t l) refl
 
 -- set_title
-pub title-way : (w : List ℕ) (n : ℕ) (w′ : List ℕ) → 65536 ≤ length w → n < 1024 → w′ ≡ over w restAt (highBytes 2 (n + 1)) → TitleSet w w′ n
+pub title-way : (w : List ℕ) (n : ℕ) (w′ : List ℕ) → 65536 ≤ length w → n < 1024 → w′ ≡ over w wordsAt (highBytes 2 (n + 1)) → TitleSet w w′ n
 unfolding stateOf titleOf titleIn
 title-way w n w′ room below e =
     let size : length (highBytes 2 (n + 1)) ≡ 2 = high-length 2 (n + 1) in
-    let away : (k : ℕ) → k < restAt → byte w′ k ≡ byte w k = λ k l. rw e (byte-outside w restAt (highBytes 2 (n + 1)) k (λ a b. omega arith)) in
+    let away : (k : ℕ) → k < wordsAt → byte w′ k ≡ byte w k = λ k l. rw e (byte-outside w wordsAt (highBytes 2 (n + 1)) k (λ a b. omega arith)) in
     let slots : slotsOf w′ ≡ slotsOf w = slots-same w w′ (λ k l. away k (omega arith)) (λ q l. same-two w w′ (recordAt q) (λ j h. away (recordAt q + j) (omega arith))) (λ k l u. away k (omega arith)) in
     let trail : trailOf w′ ≡ trailOf w = trail-same w w′ (λ k l u. away k (omega arith)) in
     let records : recordsOf w′ ≡ recordsOf w = records-same w w′ (λ k j l a b. away (recordAt k + j) (omega arith)) in
-    let back : two w′ restAt ≡ n + 1 = ap (λ (m : List ℕ). two m restAt) e ∙ stored-two w restAt (n + 1) (omega arith) (omega arith) in
+    let back : two w′ wordsAt ≡ n + 1 = ap (λ (m : List ℕ). two m wordsAt) e ∙ stored-two w wordsAt (n + 1) (omega arith) (omega arith) in
     let one-less : n + 1 - 1 ≡ n = omega arith in
     record {
       title = rw (sym (rest-first w′), back, ne-eqb (n + 1) 0 (λ z. omega arith), le-ltb 1024 (n + 1) (omega arith), one-less) refl;

@@ -54,7 +54,7 @@ atNode (some d) = isNode (d .base)
 unfoldable pub titleIn : ℕ → Option ℕ
 titleIn t = pick (eqb t 0) none (pick (ltb 1024 t) none (some (t - 1)))
 
--- its number, kept where the links end
+-- its number, kept as the first of the words
 unfoldable pub titleOf : List ℕ → Option ℕ
 titleOf w = titleIn (two (restOf w) 0)
 

@@ -4,21 +4,45 @@ ghost use mathlib.Core.List.{List};
 ghost use Prim.Native.Nat.{ℕ, _≤_, _<_};
 ghost use lib.ListN.{length};
 ghost use Rattle.wire.specs.Runs.{zeros};
-ghost use Rattle.rules.specs.State.{Entry, oneIf, parentOf, isDeclared, declared};
+ghost use Rattle.labels.specs.Sets.{_∪_};
+ghost use Rattle.rules.specs.State.{Entry, oneIf, parentOf, isDeclared, markDeclared};
 ghost use Rattle.cells.specs.Layout.{trailOf};
 ghost use Rattle.cells.specs.Scopes.{scopeOf};
 ghost use Rattle.cells.specs.Memory.{baseFor, classesOf, definitionOf, builtInOf, stateOf, trailed, Becomes};
 ghost use Rattle.memory.specs.Names.{withDefinition, withBuiltIn, classState, placed, scopeAbove, atNode, titleOf, titleFound, TitleSet, Begun};
+use cells::layout::FREE;
+use cells::layout::NAME_BUILT_IN;
+use cells::layout::NAME_CLASS;
+use cells::layout::NAME_DEFINITION;
+use cells::layout::NAME_PARENT;
+use cells::layout::NAME_SIZE;
+use cells::layout::NAMES;
+use cells::layout::SLOTS;
+use cells::layout::TITLE;
+use cells::layout::TRAIL;
 use labels::Labels;
 
-// A slot's state is one byte; these come first.
-const SLOTS: usize = 512;
+// The scope in which code runs, and its base, node or top.
+pub struct Scope {
+    pub number: u16,
+    pub base_is_node: bool,
+}
 
-const TRAIL: usize = 39424;
+pub const TOP: Scope = Scope {
+    number: 0,
+    base_is_node: false,
+};
 
-const NAMES: usize = 39456;
+pub const NODE: Scope = Scope {
+    number: 1,
+    base_is_node: true,
+};
 
-const REST: usize = 48672;
+// Where a statement runs: its scope, and the path, the set of the conditions around it.
+pub struct Context {
+    pub scope: Scope,
+    pub path: Labels,
+}
 
 // The number of the scope above another one.
 pub enum Above {
@@ -46,7 +70,7 @@ pub fn begin(work: &mut [u8])
     ensures { λ _. ⌜ Begun (now (work .exit)) ⌝ }
 {
     wire::clear(work, 0, SLOTS);
-    wire::clear(work, TRAIL, REST + 2);
+    wire::clear(work, TRAIL, FREE);
 }
 
 // ---- The trail
@@ -55,7 +79,15 @@ pub fn trail(work: &[u8]) -> Labels
     requires { ⌜ 65536 ≤ length (now work) ⌝ }
     ensures { λ r. ⌜ r ≡ trailOf (now (work .entry)) ⌝ }
 {
-    cells::labels_at(work, TRAIL)
+    Labels::read_at(work, TRAIL)
+}
+
+// Path and trail: what a condition and whatever is stored have in their sets besides their own.
+pub fn path_and_trail(work: &[u8], path: Labels) -> Labels
+    requires { ⌜ 65536 ≤ length (now work) ⌝ }
+    ensures { λ r. ⌜ r ≡ path ∪ trailOf (now (work .entry)) ⌝ }
+{
+    path.union(trail(work))
 }
 
 pub fn join_trail(work: &mut [u8], set: Labels)
@@ -63,7 +95,7 @@ pub fn join_trail(work: &mut [u8], set: Labels)
     ensures { λ _. ⌜ Becomes (now (work .entry)) (now (work .exit)) (trailed set) (λ ns. ns) ⌝ }
 {
     let old = trail(work);
-    cells::put_labels(work, TRAIL, set.union(old));
+    set.union(old).write_at(work, TRAIL);
 }
 
 // ---- Names: where a definition stands, and which are built-in types
@@ -73,37 +105,45 @@ pub fn definition_at(work: &[u8], name: u16) -> u16
     requires { ⌜ (65536 ≤ length (now work)) × (name < 1024) ⌝ }
     ensures { λ r. ⌜ r ≡ definitionOf (now (work .entry)) name ⌝ }
 {
-    wire::two_at(work, NAMES + 8 * name as usize + 2)
+    wire::two_at(work, NAMES + NAME_SIZE * name as usize + NAME_DEFINITION)
 }
 
 pub fn set_definition(work: &mut [u8], name: u16, place: u16)
     requires { ⌜ (65536 ≤ length (now work)) × (name < 1024) ⌝ }
     ensures { λ _. ⌜ Becomes (now (work .entry)) (now (work .exit)) (λ st. st) (withDefinition name place) ⌝ }
 {
-    wire::put_two(work, NAMES + 8 * name as usize + 2, place);
+    wire::put_two(
+        work,
+        NAMES + NAME_SIZE * name as usize + NAME_DEFINITION,
+        place,
+    );
 }
 
 pub fn built_in(work: &[u8], name: u16) -> bool
     requires { ⌜ (65536 ≤ length (now work)) × (name < 1024) ⌝ }
     ensures { λ r. ⌜ r ≡ builtInOf (now (work .entry)) name ⌝ }
 {
-    wire::byte_at(work, NAMES + 8 * name as usize + 5) != 0
+    wire::byte_at(work, NAMES + NAME_SIZE * name as usize + NAME_BUILT_IN) != 0
 }
 
 pub fn set_built_in(work: &mut [u8], name: u16, yes: bool)
     requires { ⌜ (65536 ≤ length (now work)) × (name < 1024) ⌝ }
     ensures { λ _. ⌜ Becomes (now (work .entry)) (now (work .exit)) (λ st. st) (withBuiltIn name yes) ⌝ }
 {
-    wire::put_byte(work, NAMES + 8 * name as usize + 5, yes as u8);
+    wire::put_byte(
+        work,
+        NAMES + NAME_SIZE * name as usize + NAME_BUILT_IN,
+        yes as u8,
+    );
 }
 
-// ---- The number of the string "title": at the start of what follows the links, one more than it, or 0 where there is none
+// ---- The number of the string "title": the first of the words, one more than it, or 0 where there is none
 
 pub fn title(work: &[u8]) -> TitleName
     requires { ⌜ 65536 ≤ length (now work) ⌝ }
     ensures { λ r. ⌜ titleFound r ≡ titleOf (now (work .entry)) ⌝ }
 {
-    let t = wire::two_at(work, REST);
+    let t = wire::two_at(work, TITLE);
     if t == 0 {
         return TitleName::Nothing;
     }
@@ -117,7 +157,7 @@ pub fn set_title(work: &mut [u8], name: u16)
     requires { ⌜ (65536 ≤ length (now work)) × (name < 1024) ⌝ }
     ensures { λ _. ⌜ TitleSet (now (work .entry)) (now (work .exit)) name ⌝ }
 {
-    wire::put_two(work, REST, name + 1);
+    wire::put_two(work, TITLE, name + 1);
 }
 
 // ---- Classes
@@ -130,18 +170,18 @@ fn class_state(base_is_node: bool) -> u8
 
 pub fn declare_class(work: &mut [u8], name: u16, parent: u16, base_is_node: bool)
     requires { ⌜ (65536 ≤ length (now work)) × (name < 1024) ⌝ }
-    ensures { λ _. ⌜ Becomes (now (work .entry)) (now (work .exit)) (declared name (placed parent «base_is_node»)) (λ ns. ns) ⌝ }
+    ensures { λ _. ⌜ Becomes (now (work .entry)) (now (work .exit)) (markDeclared name (placed parent «base_is_node»)) (λ ns. ns) ⌝ }
 {
-    let record = NAMES + 8 * name as usize;
-    wire::put_byte(work, record + 4, class_state(base_is_node));
-    wire::put_two(work, record + 6, parent);
+    let record = NAMES + NAME_SIZE * name as usize;
+    wire::put_byte(work, record + NAME_CLASS, class_state(base_is_node));
+    wire::put_two(work, record + NAME_PARENT, parent);
 }
 
 pub fn is_declared(work: &[u8], name: u16) -> bool
     requires { ⌜ (65536 ≤ length (now work)) × (name < 1024) ⌝ }
     ensures { λ b. ⌜ ((es : List Entry) (n r : ℕ) → b ≡ isDeclared name (stateOf (now (work .entry)) es n r)) ⌝ }
 {
-    wire::byte_at(work, NAMES + 8 * name as usize + 4) != 0
+    wire::byte_at(work, NAMES + NAME_SIZE * name as usize + NAME_CLASS) != 0
 }
 
 // Whether the base of a declared class is node.
@@ -149,7 +189,7 @@ pub fn base_of(work: &[u8], name: u16) -> bool
     requires { ⌜ (65536 ≤ length (now work)) × (name < 1024) ⌝ }
     ensures { λ r. ⌜ r ≡ atNode (classesOf (now (work .entry)) name) ⌝ }
 {
-    wire::byte_at(work, NAMES + 8 * name as usize + 4) == 2
+    wire::byte_at(work, NAMES + NAME_SIZE * name as usize + NAME_CLASS) == 2
 }
 
 fn base_scope(base_is_node: bool) -> u16
@@ -172,9 +212,9 @@ pub fn parent_of(work: &[u8], base_is_node: bool, scope: u16) -> Above
     if 1026 <= scope {
         return Above::At(base_scope(base_is_node));
     }
-    let record = NAMES + 8 * (scope - 2) as usize;
-    if wire::byte_at(work, record + 4) == 0 {
+    let record = NAMES + NAME_SIZE * (scope - 2) as usize;
+    if wire::byte_at(work, record + NAME_CLASS) == 0 {
         return Above::Nothing;
     }
-    Above::At(wire::two_at(work, record + 6))
+    Above::At(wire::two_at(work, record + NAME_PARENT))
 }

@@ -3,6 +3,7 @@ use Prim.Native.Nat.{ℕ}
 use mathlib.Core.Path.{_≡_, sym, ap, _∙_}
 use mathlib.Core.List.{List, []}
 use native.Mathlib.Omega.{arith}
+use Rattle.values.specs.Refusals.{refusalAt}
 use Rattle.values.specs.declared.Reason.the-variants.{UnknownParameter, MissingParameter, AttributeAgain}
 use Rattle.wire.specs.Bytes.{fieldsIn}
 use Rattle.rules.specs.Outcome.{Outcome, refused, done, _>>=_}
@@ -62,7 +63,7 @@ module _ (m t : List ℕ) (first end from to : ℕ) {unknown : Place} (looked : 
   abbrev ps : List tree.Parameter
   ps = parametersAt m (fieldsIn m from to)
 
-  pub check-unknown : {q : ℕ} {r : Ran} → unknown ≡ At q → r ≡ Refused UnknownParameter q → Checks m t first end from to r
+  pub check-unknown : {q : ℕ} {r : Ran} → unknown ≡ At q → r ≡ Refused (refusalAt UnknownParameter q) → Checks m t first end from to r
   unfolding unknownOutcome
   check-unknown is answer gs g a s small = rw answer (refusedSo (not-known ps gs (known-places m (fieldsIn m from to) a ∙ ap unknownOutcome (sym looked ∙ is))))
 
@@ -71,11 +72,11 @@ module _ (m t : List ℕ) (first end from to : ℕ) {unknown : Place} (looked : 
     unfolding unknownOutcome
     known a = known-places m (fieldsIn m from to) a ∙ ap unknownOutcome (sym looked ∙ none)
 
-    pub check-missing : {q : ℕ} {r : Ran} → missing ≡ At q → r ≡ Refused MissingParameter q → Checks m t first end from to r
+    pub check-missing : {q : ℕ} {r : Ran} → missing ≡ At q → r ≡ Refused (refusalAt MissingParameter q) → Checks m t first end from to r
     check-missing is answer gs g a s small = rw answer (refusedSo (not-valued ps gs (known a) (valued-not ps gs (missing-places m g small) (sym sought ∙ is))))
 
     module _ (found : missing ≡ Nothing) {again : Place} (repeated : again ≡ repeatedIn m [] (fieldsIn m first end)) where
-      pub check-twice : {q : ℕ} {r : Ran} → again ≡ At q → r ≡ Refused AttributeAgain q → Checks m t first end from to r
+      pub check-twice : {q : ℕ} {r : Ran} → again ≡ At q → r ≡ Refused (refusalAt AttributeAgain q) → Checks m t first end from to r
       unfolding repeatedOutcome
       check-twice is answer gs g a s small =
           let v = all-valued (missing-places m g small) (sym sought ∙ found) in

@@ -18,13 +18,13 @@ use Rattle.rules.specs.declared.Kind.the-variants.{Parameter}
 use Rattle.places.specs.At.{constantAt, defaultAt, Siblings}
 use Rattle.places.proofs.Parts.{first-sibling, siblings-go-on, siblings-stop}
 use Rattle.places.proofs.Items.{BlockEnds}
-use Rattle.cells.specs.declared.Held.{Held}
-use Rattle.cells.specs.declared.Held.the-variants.{Empty, Holds}
-use Rattle.cells.specs.Memory.{heldOf}
+use Rattle.records.specs.declared.Held.{Held}
+use Rattle.records.specs.declared.Held.the-variants.{Empty, Holds}
+use Rattle.records.specs.Record.{heldOf}
 use Rattle.catalog.specs.declared.Place.the-variants.{At, Nothing}
 use Rattle.attributes.specs.Names.{hasName}
 use Rattle.attributes.specs.Table.{givenAt}
-use Rattle.attributes.proofs.Table.{held-value, held-nothing}
+use Rattle.records.proofs.Laws.{held-value, held-nothing}
 use Rattle.parameters.specs.Places.{unknownIn, orDefault, parameterValue, orMissing, missingIn}
 
 -- ---- The ways of `end_of_parameters`: the 33s from q on are the last of those from `from` on

@@ -3,15 +3,16 @@ use Prim.Native.Nat.{ℕ, _+_, _<_}
 use mathlib.Core.Path.{_≡_}
 use mathlib.Core.List.{List, []}
 use mathlib.Core.Option.{some}
-use Rattle.labels.specs.declared.Labels.{Labels}
-use Rattle.values.specs.declared.Reason.{Reason}
+use Rattle.values.specs.declared.Refusal.{Refusal}
 use Rattle.values.specs.declared.Labelled.{Labelled}
 use Rattle.wire.specs.Bytes.{two, fieldsIn}
-use Rattle.rules.specs.Outcome.{Outcome, refused, done, _>>=_}
+use Rattle.rules.specs.Outcome.{Outcome, done, _>>=_}
 use Rattle.rules.specs.Tree.{Parameter}
 use Rattle.rules.specs.Run.{Given, namedOnce, parametersKnown, parameterValues, store, storeAll}
-use Rattle.rules.proofs.Lists.{Each}
+use Rattle.rules.specs.Ranges.{Each}
 use Rattle.places.specs.At.{parametersAt}
+use Rattle.memory.specs.declared.Context.{Context as Here}
+use Rattle.evaluator.specs.Answers.{refusedBy}
 use Rattle.statements.specs.declared.Ran.{Ran}
 use Rattle.statements.specs.declared.Ran.the-variants.{Done, Refused}
 use Rattle.statements.specs.Answers.{ranAs, Keeps, Does}
@@ -23,7 +24,7 @@ unfoldable pub checkGiven : List Parameter → List Given → Outcome (List Give
 checkGiven ps gs = parametersKnown ps gs >>= λ _. parameterValues ps gs >>= λ vs. namedOnce [] gs >>= λ _. done vs
 
 pub data Checked (ps : List Parameter) (gs : List Given) : Ran → Type 0 where
-  refusedSo : {r : Reason} {p : ℕ} → checkGiven ps gs ≡ refused r p → Checked ps gs (Refused r p)
+  refusedSo : {why : Refusal} → checkGiven ps gs ≡ refusedBy why → Checked ps gs (Refused why)
   checkedSo : (vs : List Given) → checkGiven ps gs ≡ done vs → Checked ps gs Done
 
 -- the names of the 33s at these places are below 1,024
@@ -31,11 +32,11 @@ abbrev pub SmallNames : List ℕ → List ℕ → Type 0
 SmallNames m qs = Each (λ (q : ℕ). two m (q + 3) < 1024) qs
 
 -- the parameter of the 33 at q is assigned, whatever its value is
-pub record Stores (m t w w′ : List ℕ) (q scope : ℕ) (path : Labels) (answer : Ran) : Type 0 where
+pub record Stores (m t w w′ : List ℕ) (q : ℕ) (here : Here) (answer : Ran) : Type 0 where
   pub keeps : Keeps w w′
-  pub does : (x : Labelled) → parameterValue m t q ≡ some x → Does w w′ scope path (ranAs answer) (λ c. store c q (two m (q + 3)) x)
+  pub does : (x : Labelled) → parameterValue m t q ≡ some x → Does w w′ here (ranAs answer) (λ c. store c q (two m (q + 3)) x)
 
 -- the parameters of the 33s from `from` to `to` are assigned, whatever the table gives
-pub record Assigns (m t w w′ : List ℕ) (from to scope : ℕ) (path : Labels) (answer : Ran) : Type 0 where
+pub record Assigns (m t w w′ : List ℕ) (from to : ℕ) (here : Here) (answer : Ran) : Type 0 where
   pub keeps : Keeps w w′
-  pub does : (gs vs : List Given) → Gives t gs → parameterValues (parametersAt m (fieldsIn m from to)) gs ≡ done vs → Does w w′ scope path (ranAs answer) (λ c. storeAll c vs)
+  pub does : (gs vs : List Given) → Gives t gs → parameterValues (parametersAt m (fieldsIn m from to)) gs ≡ done vs → Does w w′ here (ranAs answer) (λ c. storeAll c vs)

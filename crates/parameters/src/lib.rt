@@ -7,18 +7,19 @@ ghost use Rattle.wire.specs.Bytes.{two, fieldsIn};
 ghost use Rattle.rules.specs.Run.{Given};
 ghost use Rattle.rules.specs.declared.Kind.the-variants.{Parameter};
 ghost use Rattle.places.specs.At.{parametersAt, Siblings};
-ghost use Rattle.places.proofs.Items.{BlockEnds};
-ghost use Rattle.cells.specs.Memory.{heldOf};
+ghost use Rattle.places.specs.Parts.{BlockEnds};
+ghost use Rattle.records.specs.Record.{heldOf};
 ghost use Rattle.catalog.specs.Finding.{Below};
-ghost use Rattle.statements.specs.declared.Ran.the-variants.{Refused};
 ghost use Rattle.attributes.specs.Names.{Alike};
 ghost use Rattle.attributes.specs.Table.{Gives};
 ghost use Rattle.parameters.specs.Places.{unknownIn, parameterValue, missingIn};
 ghost use Rattle.parameters.specs.Checked.{Checked, SmallNames, Stores, Assigns};
-use cells::Held;
-use labels::Labels;
+use attributes::Span;
+use memory::Context;
+use records::Held;
 use statements::Ran;
 use values::Reason;
+use values::Refusal;
 
 // Where the parameters that begin at `from` end: the definition's block stands there.
 pub fn end_of_parameters(m: &[u8], from: usize) -> usize
@@ -30,16 +31,6 @@ pub fn end_of_parameters(m: &[u8], from: usize) -> usize
         q = wire::end_of(m, q);
     }
     q
-}
-
-fn refusal(reason: Reason, p: usize) -> Ran
-    requires { ⌜ p ≤ 65535 ⌝ }
-    ensures { λ r. ⌜ r ≡ Refused reason p ⌝ }
-{
-    Ran::Refused {
-        reason,
-        place: p as u16,
-    }
 }
 
 // ---- Checks
@@ -97,31 +88,28 @@ fn find_missing(m: &[u8], from: usize, to: usize, table: &[u8]) -> catalog::Plac
     catalog::Place::Nothing
 }
 
-// What the attributes from `first` to `end`, whose values are in the table, give to the parameters from `from` to `to`: 11, 12, then 21.
-pub fn check_parameters(
-    m: &[u8],
-    first: usize,
-    end: usize,
-    from: usize,
-    to: usize,
-    table: &[u8],
-) -> Ran
-    requires { ⌜ (length (now m) ≤ 65535) × ((end ≤ 65535) × (to ≤ 65535)) ⌝ }
-    ensures { λ r. ⌜ ((gs : List Given) → Gives (now (table .entry)) gs → Alike (now (m .entry)) gs (fieldsIn (now (m .entry)) first end) → Siblings (now (m .entry)) 31 Parameter from to → SmallNames (now (m .entry)) (fieldsIn (now (m .entry)) from to) → Checked (parametersAt (now (m .entry)) (fieldsIn (now (m .entry)) from to)) gs r) ⌝ }
+// What the attributes given, whose values are in the table, give to the parameters: 11, 12, then 21.
+pub fn check_parameters(m: &[u8], given: Span, parameters: Span, table: &[u8]) -> Ran
+    requires { ⌜ (length (now m) ≤ 65535) × ((given .end ≤ 65535) × (parameters .end ≤ 65535)) ⌝ }
+    ensures { λ r. ⌜ ((gs : List Given) → Gives (now (table .entry)) gs → Alike (now (m .entry)) gs (fieldsIn (now (m .entry)) (given .first) (given .end)) → Siblings (now (m .entry)) 31 Parameter (parameters .first) (parameters .end) → SmallNames (now (m .entry)) (fieldsIn (now (m .entry)) (parameters .first) (parameters .end)) → Checked (parametersAt (now (m .entry)) (fieldsIn (now (m .entry)) (parameters .first) (parameters .end))) gs r) ⌝ }
 {
+    let first = given.first;
+    let end = given.end;
+    let from = parameters.first;
+    let to = parameters.end;
     let unknown = find_unknown(m, first, end, from, to);
     match unknown {
-        catalog::Place::At(q) => return refusal(Reason::UnknownParameter, q),
+        catalog::Place::At(q) => return Ran::Refused(Refusal::at(Reason::UnknownParameter, q)),
         catalog::Place::Nothing => {}
     }
     let missing = find_missing(m, from, to, table);
     match missing {
-        catalog::Place::At(q) => return refusal(Reason::MissingParameter, q),
+        catalog::Place::At(q) => return Ran::Refused(Refusal::at(Reason::MissingParameter, q)),
         catalog::Place::Nothing => {}
     }
     let again = attributes::find_repeated(m, first, end);
     match again {
-        catalog::Place::At(q) => refusal(Reason::AttributeAgain, q),
+        catalog::Place::At(q) => Ran::Refused(Refusal::at(Reason::AttributeAgain, q)),
         catalog::Place::Nothing => Ran::Done,
     }
 }
@@ -129,44 +117,34 @@ pub fn check_parameters(
 // ---- Stores
 
 // The parameter at q, assigned as a 21 would do it.
-fn store_parameter(
-    m: &[u8],
-    q: usize,
-    table: &[u8],
-    work: &mut [u8],
-    scope: u16,
-    path: Labels,
-) -> Ran
+fn store_parameter(m: &[u8], q: usize, table: &[u8], work: &mut [u8], here: Context) -> Ran
     requires { ⌜ (q ≤ 65535) × ((65536 ≤ length (now work)) × (two (now m) (q + 3) < 1024)) ⌝ }
-    ensures { λ r. ⌜ Stores (now (m .entry)) (now (table .entry)) (now (work .entry)) (now (work .exit)) q scope path r ⌝ }
+    ensures { λ r. ⌜ Stores (now (m .entry)) (now (table .entry)) (now (work .entry)) (now (work .exit)) q here r ⌝ }
 {
     let held = value_of(m, q, table);
     match held {
-        Held::Empty => refusal(Reason::MissingParameter, q),
-        Held::Holds(x) => statements::store(work, q, scope, wire::two_at(m, q + 3), x, path),
+        Held::Empty => Ran::Refused(Refusal::at(Reason::MissingParameter, q)),
+        Held::Holds(x) => statements::store(work, q, here, wire::two_at(m, q + 3), x),
     }
 }
 
-// The parameters from `from` to `to`.
+// The parameters of a definition, in the context of its body.
 pub fn store_parameters(
     m: &[u8],
-    from: usize,
-    to: usize,
+    parameters: Span,
     table: &[u8],
     work: &mut [u8],
-    scope: u16,
-    path: Labels,
+    here: Context,
 ) -> Ran
-    requires { ⌜ ((to ≤ 65535) × ((65536 ≤ length (now work)) × (length (now m) ≤ 65535))) × (Siblings (now m) 31 Parameter from to × SmallNames (now m) (fieldsIn (now m) from to)) ⌝ }
-    ensures { λ r. ⌜ Assigns (now (m .entry)) (now (table .entry)) (now (work .entry)) (now (work .exit)) from to scope path r ⌝ }
+    requires { ⌜ ((parameters .end ≤ 65535) × ((65536 ≤ length (now work)) × (length (now m) ≤ 65535))) × (Siblings (now m) 31 Parameter (parameters .first) (parameters .end) × SmallNames (now m) (fieldsIn (now m) (parameters .first) (parameters .end))) ⌝ }
+    ensures { λ r. ⌜ Assigns (now (m .entry)) (now (table .entry)) (now (work .entry)) (now (work .exit)) (parameters .first) (parameters .end) here r ⌝ }
 {
-    let mut q = from;
+    let to = parameters.end;
+    let mut q = parameters.first;
     while q < to {
-        let r = store_parameter(m, q, table, work, scope, path);
+        let r = store_parameter(m, q, table, work, here);
         match r {
-            Ran::Refused { reason, place } => {
-                return Ran::Refused { reason, place };
-            }
+            Ran::Refused(refusal) => return Ran::Refused(refusal),
             Ran::Done => {}
         }
         q = wire::end_of(m, q);

@@ -22,6 +22,7 @@ use Rattle.rules.specs.declared.Rest.{Rest}
 use Rattle.rules.specs.declared.Rest.the-variants.{Only, Text, Fields as Inner}
 use Rattle.rules.proofs.Listed.{both-left}
 use Rattle.places.specs.At.{valueAt, constantAt, expressionAt, armAt, armsAt, Stands, StandsAs, Siblings, sibling}
+pub use Rattle.places.specs.Parts.{OperationAt, NegationAt, AttributeReadAt, SelectorAt}
 use Rattle.places.proofs.Tags.{IsConstantTag, integerTag, stringTag, booleanTag, constant-tag}
 use Rattle.places.proofs.Levels.{expression-stable}
 use Rattle.places.proofs.Parts.{one-part, many-part, last-many, all-over}
@@ -30,17 +31,17 @@ use Rattle.places.proofs.Open.{run-byte, run-two, level, tag-read, Line
 -- ---- Constants
 
 -- a constant by its tag
-pub integer-at : (m : List ℕ) (p : ℕ) → byte m p ≡ 0x10 → constantAt m p ≡ record { label = byte m (p + 3); value = Integer (signed64 (number (bytesAt m (p + 4) 8) 0)) }
+pub integer-at : (m : List ℕ) (p : ℕ) → byte m p ≡ 0x10 → constantAt m p ≡ record { place = p; label = byte m (p + 3); value = Integer (signed64 (number (bytesAt m (p + 4) 8) 0)) }
 unfolding constantAt valueAt
-integer-at m p e = λ i. record { label = byte m (p + 3); value = valueAt m p (e i) }
+integer-at m p e = λ i. record { place = p; label = byte m (p + 3); value = valueAt m p (e i) }
 
-pub string-at : (m : List ℕ) (p : ℕ) → byte m p ≡ 0x11 → constantAt m p ≡ record { label = byte m (p + 3); value = String (two m (p + 4)) }
+pub string-at : (m : List ℕ) (p : ℕ) → byte m p ≡ 0x11 → constantAt m p ≡ record { place = p; label = byte m (p + 3); value = String (two m (p + 4)) }
 unfolding constantAt valueAt
-string-at m p e = λ i. record { label = byte m (p + 3); value = valueAt m p (e i) }
+string-at m p e = λ i. record { place = p; label = byte m (p + 3); value = valueAt m p (e i) }
 
-pub boolean-at : (m : List ℕ) (p : ℕ) → byte m p ≡ 0x12 → constantAt m p ≡ record { label = byte m (p + 3); value = Boolean (eqb (byte m (p + 4)) 1) }
+pub boolean-at : (m : List ℕ) (p : ℕ) → byte m p ≡ 0x12 → constantAt m p ≡ record { place = p; label = byte m (p + 3); value = Boolean (eqb (byte m (p + 4)) 1) }
 unfolding constantAt valueAt
-boolean-at m p e = λ i. record { label = byte m (p + 3); value = valueAt m p (e i) }
+boolean-at m p e = λ i. record { place = p; label = byte m (p + 3); value = valueAt m p (e i) }
 
 -- the constant read at p is the one there
 pub constant-read : {m : List ℕ} {d p : ℕ} → StandsAs m d ConstantKind p → constantFrom (readField m d p) ≡ constantAt m p
@@ -51,13 +52,13 @@ constant-read {m} {d} {p} s = by-tag (byte m p) (constant-tag (byte m p) (s .kin
     by-tag t integerTag e =
         let o = opened-leaf {h = 9} (s .stands) e (record { head = refl; rest = refl }) in
         let next : suc (p + 3) ≡ p + 4 = omega arith in
-        ap constantFrom (o .read) ∙ (λ i. record { label = byte m (p + 3); value = Integer (signed64 (number (bytesAt m (next i) 8) 0)) }) ∙ sym (integer-at m p e)
+        ap constantFrom (o .read) ∙ (λ i. record { place = p; label = byte m (p + 3); value = Integer (signed64 (number (bytesAt m (next i) 8) 0)) }) ∙ sym (integer-at m p e)
     by-tag t stringTag e =
         let o = opened-leaf {h = 3} (s .stands) e (record { head = refl; rest = refl }) in
-        ap constantFrom (o .read) ∙ (λ i. record { label = byte m (p + 3); value = String (run-two m (p + 3) 3 1 (p + 4) (omega arith) (omega arith) i) }) ∙ sym (string-at m p e)
+        ap constantFrom (o .read) ∙ (λ i. record { place = p; label = byte m (p + 3); value = String (run-two m (p + 3) 3 1 (p + 4) (omega arith) (omega arith) i) }) ∙ sym (string-at m p e)
     by-tag t booleanTag e =
         let o = opened-leaf {h = 2} (s .stands) e (record { head = refl; rest = refl }) in
-        ap constantFrom (o .read) ∙ (λ i. record { label = byte m (p + 3); value = Boolean (eqb (run-byte m (p + 3) 2 1 (p + 4) (omega arith) (omega arith) i) 1) }) ∙ sym (boolean-at m p e)
+        ap constantFrom (o .read) ∙ (λ i. record { place = p; label = byte m (p + 3); value = Boolean (eqb (run-byte m (p + 3) 2 1 (p + 4) (omega arith) (omega arith) i) 1) }) ∙ sym (boolean-at m p e)
 
 -- ---- Places
 
@@ -77,7 +78,7 @@ placed-read m (suc d) p = go (headSize (formOf (byte m p))) (formOf (byte m p) .
     go h (Inner ps) = placed
 
 placed-expression : (p d : ℕ) {k : Field} → Placed p k → placeOf (expressionIn d k) ≡ p
-unfolding expressionIn expressionBy placeOf
+unfolding expressionIn expressionBy placeOf constantFrom
 placed-expression p zero placed = refl
 placed-expression p (suc d) (placed {t = t} {h = h} {ks = ks}) = go (entryFor expressionTags noExpression t)
   where
@@ -104,18 +105,18 @@ expression-read : (m : List ℕ) (d b p t : ℕ) (h : List ℕ) (ks : Fields) �
 unfolding expressionAt expressionIn
 expression-read m d b p t h ks l r = ap₂ expressionIn l r
 
-pub constant-opens : {m : List ℕ} {d p : ℕ} → StandsAs m d ConstantKind p → expressionAt m d p ≡ constant p (constantAt m p)
+pub constant-opens : {m : List ℕ} {d p : ℕ} → StandsAs m d ConstantKind p → expressionAt m d p ≡ constant (constantAt m p)
 unfolding formOf formIn forms headSize size expressionBy entryFor expressionTags
 constant-opens {m} {d} {p} s = by-tag (byte m p) (constant-tag (byte m p) (s .kind)) refl
   where
-    finish : (t h : ℕ) → entryFor expressionTags noExpression t ≡ aConstant → OpenedLeaf m d p t h → expressionAt m d p ≡ constant p (constantAt m p)
+    finish : (t h : ℕ) → entryFor expressionTags noExpression t ≡ aConstant → OpenedLeaf m d p t h → expressionAt m d p ≡ constant (constantAt m p)
     finish t h e o =
         expression-read m d (d - 1) p t (bytesAt m (p + 3) h) none (level (s .stands)) (o .read)
         ∙ ap (expressionBy (expressionIn (d - 1)) (field p t (bytesAt m (p + 3) h) none) p (bytesAt m (p + 3) h) none) e
-        ∙ ap (λ (k : Field). constant p (constantFrom k)) (sym (o .read))
-        ∙ ap (constant p) (constant-read s)
+        ∙ ap (λ (k : Field). constant (constantFrom k)) (sym (o .read))
+        ∙ ap constant (constant-read s)
 
-    by-tag : (t : ℕ) → IsConstantTag t → byte m p ≡ t → expressionAt m d p ≡ constant p (constantAt m p)
+    by-tag : (t : ℕ) → IsConstantTag t → byte m p ≡ t → expressionAt m d p ≡ constant (constantAt m p)
     by-tag t integerTag e = finish 0x10 9 refl (opened-leaf (s .stands) e (record { head = refl; rest = refl }))
     by-tag t stringTag e = finish 0x11 3 refl (opened-leaf (s .stands) e (record { head = refl; rest = refl }))
     by-tag t booleanTag e = finish 0x12 2 refl (opened-leaf (s .stands) e (record { head = refl; rest = refl }))
@@ -140,13 +141,6 @@ class-variable-opens {m} {d} {p} s e =
 
 -- ---- Expressions with parts
 
-pub record OperationAt (m : List ℕ) (d b p : ℕ) : Type 0 where
-  pub tree : expressionAt m d p ≡ operation p (operatorFrom (byte m (p + 3))) (expressionAt m b (p + 4)) (expressionAt m b (endOf m (p + 4)))
-  pub operator : byte m (p + 3) ≤ 6
-  pub left : StandsAs m b ExpressionKind (p + 4)
-  pub right : StandsAs m b ExpressionKind (endOf m (p + 4))
-  pub ends : endOf m (endOf m (p + 4)) ≡ endOf m p
-
 pub operation-opens : {m : List ℕ} {d b p : ℕ} → Stands m d p → d ≡ suc b → byte m p ≡ 0x16 → OperationAt m d b p
 unfolding formOf formIn forms headSize size bytesRight pieceRight expressionBy entryFor expressionTags expressionAt
 operation-opens {m} {d} {b} {p} s l e =
@@ -162,22 +156,12 @@ operation-opens {m} {d} {b} {p} s l e =
       ends = all-over (y .after);
     }
 
-pub record NegationAt (m : List ℕ) (d b p : ℕ) : Type 0 where
-  pub tree : expressionAt m d p ≡ negation p (expressionAt m b (p + 3))
-  pub operand : StandsAs m b ExpressionKind (p + 3)
-  pub ends : endOf m (p + 3) ≡ endOf m p
-
 pub negation-opens : {m : List ℕ} {d b p : ℕ} → Stands m d p → d ≡ suc b → byte m p ≡ 0x17 → NegationAt m d b p
 unfolding formOf formIn forms headSize size expressionBy entryFor expressionTags expressionAt
 negation-opens {m} {d} {b} {p} s l e =
     let o = opened {h = 0} {q = p + 3} s l e (record { head = refl; rest = refl }) (omega arith) in
     let x = one-read (o .parts) in
     record { tree = expression-read m d b p 0x17 _ _ l (o .read) ∙ ap (λ (k : Field). negation p (expressionIn b k)) (x .read); operand = x .part; ends = all-over (x .after) }
-
-pub record AttributeReadAt (m : List ℕ) (d b p : ℕ) : Type 0 where
-  pub tree : expressionAt m d p ≡ attributeRead p (two m (p + 3)) (two m (p + 5)) (expressionAt m b (p + 7))
-  pub title : StandsAs m b ExpressionKind (p + 7)
-  pub ends : endOf m (p + 7) ≡ endOf m p
 
 pub attribute-read-opens : {m : List ℕ} {d b p : ℕ} → Stands m d p → d ≡ suc b → byte m p ≡ 0x18 → AttributeReadAt m d b p
 unfolding formOf formIn forms headSize size expressionBy entryFor expressionTags expressionAt
@@ -265,12 +249,6 @@ arm-read {m} {d} {q} s after = ap (λ (x : Bool). armFrom (expressionIn d) x ks 
 arms-read : {m : List ℕ} {d q e : ℕ} → Siblings m d Arm q e → armsFrom (expressionIn d) (readEach (readField m d) (fieldsIn m q e)) ≡ armsAt m d (fieldsIn m q e)
 unfolding armsFrom armsAt
 arms-read {m} {d} s = all-read (armsFrom (expressionIn d)) (armsAt m d) s refl (λ p i ks ps h. arm-read i (armsFrom (expressionIn d) ks) ∙ ap (armAt m d p) h)
-
-pub record SelectorAt (m : List ℕ) (d b p : ℕ) : Type 0 where
-  pub tree : expressionAt m d p ≡ selector p (expressionAt m b (p + 3)) (armsAt m b (fieldsIn m (endOf m (p + 3)) (endOf m p)))
-  pub scrutinee : StandsAs m b ExpressionKind (p + 3)
-  pub arms : Siblings m b Arm (endOf m (p + 3)) (endOf m p)
-  pub some : endOf m (p + 3) < endOf m p
 
 pub selector-opens : {m : List ℕ} {d b p : ℕ} → Stands m d p → d ≡ suc b → byte m p ≡ 0x19 → SelectorAt m d b p
 unfolding formOf formIn forms headSize size expressionBy entryFor expressionTags expressionAt

@@ -22,6 +22,7 @@ use Rattle.rules.specs.declared.Kind.the-variants.{Table, Text, Constant as Con
 use Rattle.rules.specs.declared.Part.the-variants.{Over, One, UpTo, Many, Names}
 use Rattle.rules.specs.declared.Verdict.the-variants.{Sound}
 use Rattle.rules.proofs.Within.{false-not-true, check-sound}
+pub use Rattle.places.specs.Parts.{BlockEnds}
 use Rattle.places.specs.At.{constantAt, statementAt, blockAt, defaultAt, parameterAt, parentAt, afterParentAt, itemAt, parametersAt, namesAt, devicesAt, itemsAt, textsAt, Stands, StandsAs, Siblings, ended, sibling}
 use Rattle.places.proofs.Tags.{statement-tag, statement-entry}
 use Rattle.places.proofs.Parts.{PartsStand, one-part, many-part, last-many, up-to-part, up-to-most, PerhapsPart, there, notThere, perhaps-part, NamesPart, default, devices, names-part, all-over, siblings-rise}
@@ -88,12 +89,6 @@ parameters-read {m} {d} {q} {r} {e} i s l = siblings-read parametersFrom (parame
     step p s ks ps h = has-tag 0x33 (parameterFrom (readField m d p) ∷ parametersFrom ks) [] (s .stands) (s .kind) ∙ ap₂ _∷_ (parameter-opens s (level (s .stands)) .read) h
 
 -- ---- The block at the end
-
--- the block r ends the fields up to e
-pub record BlockEnds (m : List ℕ) (d r e : ℕ) : Type 0 where
-  pub before : r < e
-  pub block : StandsAs m d BlockKind r
-  pub ends : endOf m r ≡ e
 
 block-ends : {m : List ℕ} {d p q e : ℕ} → PartsStand m d p (three (One BlockKind) Over Over) q e → BlockEnds m d q e
 block-ends s = let o = one-part s in record { before = o .before; block = o .part; ends = all-over (o .after) }

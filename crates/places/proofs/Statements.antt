@@ -10,7 +10,7 @@ use borrow.Author.Tests.{eqb-true}
 use Rattle.wire.specs.Bytes.{pick, byte, two, endOf, fieldsIn}
 use Rattle.rules.specs.Format.{allowed, forms, formIn, formOf, size, headSize, three}
 use Rattle.rules.specs.Fields.{Field, field, Fields, more, readEach, readField, tagOf, inner, first, others}
-use Rattle.rules.specs.Tree.{Constant, Expression, AttributeField, Statement, assignment, conditional, choice, resource, defined, class, include, Block, next, Branches, branch, defaultBranch}
+use Rattle.rules.specs.Tree.{Constant, Expression, AttributeField, Statement, assignment, conditional, choice, builtInResource, definedResource, classWithAttributes, include, Block, next, Branches, branch, defaultBranch}
 use Rattle.rules.specs.Read.{entryFor, isDefault, expressionFrom, attributeFrom, attributesFrom, StatementTag, anAssignment, aConditional, aChoice, aResource, aDefined, aClass, anInclude, noStatement, statementTags, branchFrom, branchesFrom, statementBy, statementIn, statementsFrom, blockIn}
 use Rattle.rules.specs.Run.{statementPlace}
 use Rattle.rules.specs.declared.Kind.the-variants.{Expression as ExpressionKind, Pattern, Statement as StatementKind, Block as BlockKind, Branch, Attribute}
@@ -201,16 +201,16 @@ titled-opens {m} {d} {b} {p} {t} make s l e i by =
     let read = ap attributesFrom (x .readAfter) ∙ attributes-read attributes in
     record { tree = statement-read m d p t _ _ (o .read) ∙ by _ _ ∙ λ j. make p (name j) (title j) (read j); title = x .part; attributes = attributes }
 
-pub resource-opens : {m : List ℕ} {d b p : ℕ} → Stands m d p → d ≡ suc b → byte m p ≡ 0x25 → TitledAt resource m d b p
+pub resource-opens : {m : List ℕ} {d b p : ℕ} → Stands m d p → d ≡ suc b → byte m p ≡ 0x25 → TitledAt builtInResource m d b p
 unfolding formOf formIn forms headSize size statementBy entryFor statementTags
-resource-opens s l e = titled-opens resource s l e (record { head = refl; rest = refl }) (λ h ks. refl)
+resource-opens s l e = titled-opens builtInResource s l e (record { head = refl; rest = refl }) (λ h ks. refl)
 
-pub defined-opens : {m : List ℕ} {d b p : ℕ} → Stands m d p → d ≡ suc b → byte m p ≡ 0x27 → TitledAt defined m d b p
+pub defined-opens : {m : List ℕ} {d b p : ℕ} → Stands m d p → d ≡ suc b → byte m p ≡ 0x27 → TitledAt definedResource m d b p
 unfolding formOf formIn forms headSize size statementBy entryFor statementTags
-defined-opens s l e = titled-opens defined s l e (record { head = refl; rest = refl }) (λ h ks. refl)
+defined-opens s l e = titled-opens definedResource s l e (record { head = refl; rest = refl }) (λ h ks. refl)
 
 pub record ClassAt (m : List ℕ) (d b p : ℕ) : Type 0 where
-  pub tree : statementAt m d p ≡ class p (two m (p + 3)) (attributesAt m b (fieldsIn m (p + 5) (endOf m p)))
+  pub tree : statementAt m d p ≡ classWithAttributes p (two m (p + 3)) (attributesAt m b (fieldsIn m (p + 5) (endOf m p)))
   pub attributes : Siblings m b Attribute (p + 5) (endOf m p)
 
 pub class-opens : {m : List ℕ} {d b p : ℕ} → Stands m d p → d ≡ suc b → byte m p ≡ 0x28 → ClassAt m d b p
@@ -218,7 +218,7 @@ unfolding formOf formIn forms headSize size statementBy entryFor statementTags
 class-opens {m} {d} {b} {p} s l e =
     let o = opened {h = 2} {q = p + 5} s l e (record { head = refl; rest = refl }) (omega arith) in
     let attributes : Siblings m b Attribute (p + 5) (endOf m p) = last-many (many-part (o .parts)) in
-    record { tree = statement-read m d p 0x28 _ _ (o .read) ∙ ap₂ (class p) (run-two m (p + 3) 2 0 (p + 3) (omega arith) (omega arith)) (attributes-read attributes); attributes = attributes }
+    record { tree = statement-read m d p 0x28 _ _ (o .read) ∙ ap₂ (classWithAttributes p) (run-two m (p + 3) 2 0 (p + 3) (omega arith) (omega arith)) (attributes-read attributes); attributes = attributes }
 
 pub include-opens : {m : List ℕ} {d p : ℕ} → Stands m d p → byte m p ≡ 0x29 → statementAt m d p ≡ include p (two m (p + 3))
 unfolding formOf formIn forms headSize size statementBy entryFor statementTags

@@ -45,12 +45,12 @@ tested : NegationAt example 31 30 10
 unfolding example
 tested = negation-opens (condition .condition .stands) refl refl
 
-value : expressionAt example 30 13 ≡ constant 13 (record { label = 1; value = Boolean true })
+value : expressionAt example 30 13 ≡ constant (record { place = 13; label = 1; value = Boolean true })
 unfolding example
-value = constant-opens (record { stands = tested .operand .stands; kind = constant-kind booleanTag }) ∙ ap (constant 13) (boolean-at example 13 refl)
+value = constant-opens (record { stands = tested .operand .stands; kind = constant-kind booleanTag }) ∙ ap constant (boolean-at example 13 refl)
 
 -- the whole statement, but for the block that is taken
-tree : statementAt example 32 7 ≡ conditional 7 (negation 10 (constant 13 (record { label = 1; value = Boolean true }))) (statementsAt example 30 (21 ∷ [])) end
+tree : statementAt example 32 7 ≡ conditional 7 (negation 10 (constant (record { place = 13; label = 1; value = Boolean true }))) (statementsAt example 30 (21 ∷ [])) end
 unfolding example two fieldsUp fieldsIn statementsAt
 tree =
     condition .tree

@@ -27,7 +27,7 @@ unfoldable pub valueAt : List ℕ → (place tag : ℕ) → Value
 valueAt m p t = pick (eqb t 0x10) (Integer (signed64 (number (bytesAt m (p + 4) 8) 0))) (pick (eqb t 0x11) (String (two m (p + 4))) (Boolean (eqb (byte m (p + 4)) 1)))
 
 unfoldable pub constantAt : List ℕ → (place : ℕ) → Constant
-constantAt m p = record { label = byte m (p + 3); value = valueAt m p (byte m p) }
+constantAt m p = record { place = p; label = byte m (p + 3); value = valueAt m p (byte m p) }
 
 -- the fields at p with d levels left for them
 unfoldable pub expressionAt : List ℕ → (d p : ℕ) → Expression

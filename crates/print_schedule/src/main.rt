@@ -1,11 +1,18 @@
 // The schedule printer: reads a device name, a line feed and a manifest from standard input, and prints the device's schedule. Limit, output
 // and memory are those of document 01's schedule: 65,535 steps, 65,535 bytes and 65,536 bytes.
 ghost use mathlib.Core.Path.{_≡_};
+ghost use mathlib.Core.Bool.{true};
 ghost use mathlib.Core.List.{List};
-ghost use Prim.Native.Nat.{ℕ};
-ghost use lib.ListN.{take};
+ghost use Prim.Native.Nat.{ℕ, _+_, _≤_};
+ghost use lib.ListN.{length, take};
+ghost use Rattle.values.specs.Numbers.{numberOf};
+ghost use Rattle.rules.specs.Compile.{compile};
+ghost use Rattle.rules.specs.Schedule.{stepsLine, refusalLine, schedule};
 ghost use Rattle.input.specs.Reading.{reading, readingOf};
+ghost use Rattle.schedule.specs.Strings.{stringsBy};
+ghost use Rattle.schedule.specs.Subjects.{start};
 ghost use Rattle.print_schedule.specs.Reading.{Holds};
+ghost use Rattle.print_schedule.specs.Printing.{scheduleText, AllSent, ComesNext, Left, LastLine, LinesLeft, IsCatalog};
 use input::Progress;
 use libc::STDERR_FILENO;
 use libc::STDIN_FILENO;
@@ -19,20 +26,10 @@ use values::Reason;
 // How many pieces of input are read at most: enough for 4 GiB that come byte by byte.
 const MOST_PIECES: u64 = 4294967296;
 
-// How many lines are printed at most. A catalog has at most 65,535 bytes, and each of its lines stands for 39 of them or more.
-const MOST_LINES: u16 = 65535;
-
 // What reading came to: there may be more, or all that matters is read.
 pub enum Taken {
     More(Progress),
     All(Progress),
-    Failed,
-}
-
-// What printing came to: the position of the next line, or all lines are printed.
-pub enum Printed {
-    More(Position),
-    All,
     Failed,
 }
 
@@ -46,15 +43,6 @@ fn first(bytes: &[u8], n: usize) -> &[u8]
         return bytes;
     }
     &bytes[..n]
-}
-
-// Writes a text out, or tells on standard error that it cannot.
-fn write(text: &[u8]) -> bool {
-    let is_written = io::write_all(STDOUT_FILENO, text);
-    if !is_written {
-        os::fail(b"standard output");
-    }
-    is_written
 }
 
 // ---- Reading
@@ -95,107 +83,130 @@ fn read_all(device: &mut [u8], manifest: &mut [u8]) -> Taken
     let mut left = MOST_PIECES;
     while 0 < left {
         let taken = read_piece(at, device, manifest);
-        let Taken::More(next) = taken else {
+        let Taken::More(further) = taken else {
             return taken;
         };
-        at = next;
+        at = further;
         left -= 1;
     }
     too_many_pieces()
 }
 
-// ---- Printing
+// ---- Compiling
 
-// No catalog that a compile wrote has such a line.
-fn no_line() -> Printed {
-    io::write_all(STDERR_FILENO, b"the catalog cannot be printed\n");
-    Printed::Failed
+// "with limit 65,535", 65,535 bytes of output and 65,536 of memory.
+fn compile_schedule(manifest: &[u8], device: &[u8], out: &mut [u8; 65535]) -> Answer
+    ensures { λ r. ⌜ (r ≡ compile (now (manifest .entry)) (now (device .entry)) 65535 65535 65536 .answer) × (now (out .exit) ≡ compile (now (manifest .entry)) (now (device .entry)) 65535 65535 65536 .outputAfter) ⌝ }
+{
+    let mut work = [0u8; 65536];
+    compiler::compile(manifest, device, 65535, out, &mut work)
 }
 
-// The line of a catalog at a position.
-fn print_line(
-    catalog: &[u8],
-    at: Position,
-    manifest: &[u8],
-    index: &[u8],
-    strings: u16,
-    line: &mut [u8],
-) -> Printed {
-    let made = schedule::next_line(catalog, at, manifest, index, strings, line);
-    match made {
-        Line::Text { length, next } => {
-            if write(first(line, length)) {
-                return Printed::More(next);
-            }
-            Printed::Failed
-        }
-        Line::End => Printed::All,
-        Line::TooLong => no_line(),
-        Line::NotACatalog => no_line(),
+// ---- Printing: `sent` bytes of the schedule of `manifest` and `device` are written out. Nothing but `write` changes `sent`, or writes to standard output.
+
+// Writes out what comes next, or tells on standard error that it cannot.
+fn write(text: &[u8], manifest: &[u8], device: &[u8], sent: &mut u64) -> bool
+    requires { ⌜ ComesNext (scheduleText (now manifest) (now device)) (now sent) (now text) ⌝ }
+    ensures { λ r. ⌜ (r ≡ true → now (sent .exit) ≡ now (sent .entry) + length (now (text .entry))) ⌝ }
+{
+    if io::write_all(STDOUT_FILENO, text) {
+        *sent += text.len() as u64;
+        return true;
+    }
+    os::fail(b"standard output");
+    false
+}
+
+// The last line, in its buffer.
+fn print_last(written: Written, line: &[u8], manifest: &[u8], device: &[u8], sent: &mut u64) -> bool
+    requires { ⌜ LastLine (scheduleText (now manifest) (now device)) (now sent) written (now line) ⌝ }
+    ensures { λ r. ⌜ AllSent (now (manifest .entry)) (now (device .entry)) (now (sent .exit)) r ⌝ }
+{
+    match written {
+        Written::Length(length) => write(first(line, length), manifest, device, sent),
+        Written::TooLong => true, // never, as is proved
     }
 }
 
+fn print_steps(steps: u16, manifest: &[u8], device: &[u8], sent: &mut u64) -> bool
+    requires { ⌜ Left (scheduleText (now manifest) (now device)) (now sent) (stepsLine steps) ⌝ }
+    ensures { λ r. ⌜ AllSent (now (manifest .entry)) (now (device .entry)) (now (sent .exit)) r ⌝ }
+{
+    let mut line = [0u8; 2048];
+    let written = schedule::steps_line(steps, &mut line);
+    print_last(written, &line, manifest, device, sent)
+}
+
+// The lines of a catalog, and the last one.
 fn print_lines(
     catalog: &[u8],
+    steps: u16,
     manifest: &[u8],
+    device: &[u8],
     index: &[u8],
     strings: u16,
-    line: &mut [u8],
-) -> Printed {
-    let mut at = Position::START;
-    let mut left = MOST_LINES;
-    while 0 < left {
-        let printed = print_line(catalog, at, manifest, index, strings, line);
-        let Printed::More(next) = printed else {
-            return printed;
-        };
-        at = next;
-        left -= 1;
-    }
-    no_line()
-}
-
-// A line that stands alone.
-fn print_written(written: Written, line: &[u8]) {
-    match written {
-        Written::Length(length) => {
-            write(first(line, length));
-        }
-        Written::TooLong => {
-            no_line();
-        }
-    }
-}
-
-fn print_catalog(catalog: &[u8], manifest: &[u8], steps: u16) {
-    let mut index = [0u8; 2048];
+    sent: &mut u64,
+) -> bool
+    requires { ⌜ LinesLeft (scheduleText (now manifest) (now device)) (now sent) (stringsBy (now manifest) (now index) strings) (now catalog) start (stepsLine steps) ⌝ }
+    ensures { λ r. ⌜ AllSent (now (manifest .entry)) (now (device .entry)) (now (sent .exit)) r ⌝ }
+{
     let mut line = [0u8; 2048];
-    let strings = syntax::strings::index_strings(manifest, &mut index);
-    let printed = print_lines(catalog, manifest, &index, strings, &mut line);
-    if let Printed::All = printed {
-        let written = schedule::steps_line(steps, &mut line);
-        print_written(written, &line);
+    let mut at = Position::START;
+    loop {
+        let made = schedule::next_line(catalog, at, manifest, index, strings, &mut line);
+        let Line::Text { length, next } = made else {
+            return print_steps(steps, manifest, device, sent);
+        };
+        if !write(first(&line, length), manifest, device, sent) {
+            return false;
+        }
+        at = next;
     }
 }
 
-fn print_refusal(reason: Reason, place: u16) {
+fn print_catalog(catalog: &[u8], steps: u16, manifest: &[u8], device: &[u8], sent: &mut u64) -> bool
+    requires { ⌜ IsCatalog (now manifest) (now device) (now catalog) steps × (now sent ≡ 0) ⌝ }
+    ensures { λ r. ⌜ AllSent (now (manifest .entry)) (now (device .entry)) (now (sent .exit)) r ⌝ }
+{
+    let mut index = [0u8; 2048];
+    let strings = syntax::strings::index_strings(manifest, &mut index);
+    print_lines(catalog, steps, manifest, device, &index, strings, sent)
+}
+
+fn print_refusal(reason: Reason, place: u16, manifest: &[u8], device: &[u8], sent: &mut u64) -> bool
+    requires { ⌜ Left (scheduleText (now manifest) (now device)) (now sent) (refusalLine (numberOf reason) place) ⌝ }
+    ensures { λ r. ⌜ AllSent (now (manifest .entry)) (now (device .entry)) (now (sent .exit)) r ⌝ }
+{
     let mut line = [0u8; 2048];
     let written = schedule::refusal_line(reason, place, &mut line);
-    print_written(written, &line);
+    print_last(written, &line, manifest, device, sent)
 }
 
-fn print_schedule(manifest: &[u8], device: &[u8]) {
+// Prints the schedule: true if all of it is written.
+fn print_schedule(manifest: &[u8], device: &[u8], sent: &mut u64) -> bool
+    requires { ⌜ now sent ≡ 0 ⌝ }
+    ensures { λ r. ⌜ AllSent (now (manifest .entry)) (now (device .entry)) (now (sent .exit)) r ⌝ }
+{
     let mut out = [0u8; 65535];
-    let mut work = [0u8; 65536];
-    let answer = compiler::compile(manifest, device, 65535, &mut out, &mut work);
+    let answer = compile_schedule(manifest, device, &mut out);
     match answer {
         Answer::Catalog { length, steps } => print_catalog(
             first(&out, length as usize),
-            manifest,
             steps,
+            manifest,
+            device,
+            sent,
         ),
-        Answer::Refused { reason, place } => print_refusal(reason, place),
+        Answer::Refused { reason, place } => print_refusal(reason, place, manifest, device, sent),
     }
+}
+
+// Prints the schedule of the input that the buffers hold.
+fn print_read(at: Progress, device: &[u8], manifest: &[u8], sent: &mut u64) -> bool
+    requires { ⌜ now sent ≡ 0 ⌝ }
+    ensures { λ r. ⌜ ((d m input : List ℕ) → length d ≡ 256 → length m ≡ 65536 → reading at (now (device .entry)) (now (manifest .entry)) ≡ readingOf d m input → r ≡ true → now (sent .exit) ≡ length (schedule input)) ⌝ }
+{
+    print_schedule(first(manifest, at.manifest), first(device, at.device), sent)
 }
 
 fn main() {
@@ -203,6 +214,7 @@ fn main() {
     let mut manifest = [0u8; 65536];
     let taken = read_all(&mut device, &mut manifest);
     if let Taken::All(at) = taken {
-        print_schedule(first(&manifest, at.manifest), first(&device, at.device));
+        let mut sent: u64 = 0;
+        print_read(at, &device, &manifest, &mut sent);
     }
 }

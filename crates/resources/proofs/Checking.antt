@@ -7,13 +7,14 @@ use native.Mathlib.Omega.{arith}
 use lib.ListN.{length, drop}
 use Rattle.labels.specs.declared.Labels.{Labels}
 use Rattle.labels.specs.Sets.{_∪_}
+use Rattle.values.specs.Refusals.{refusalAt}
 use Rattle.values.specs.declared.Reason.the-variants.{Unknown, ResourceAgain, AttributeAgain, OutputFull}
 use Rattle.wire.specs.Bytes.{two, fieldsIn}
-use Rattle.rules.specs.Outcome.{Outcome, refused, done, _>>=_, refuseIf}
+use Rattle.rules.specs.Outcome.{Outcome, refused, done, _>>=_, refuseIf, under}
 use Rattle.rules.specs.State.{Attribute, Entry, State, Context, Known, withEntry}
 use Rattle.rules.specs.Evaluate.{any, isEntry}
 use Rattle.rules.specs.Catalog.{entryBytes}
-use Rattle.rules.specs.Run.{Given, namedOnce, storedLabels, attributesUnder, entryFrom, addEntry, addResource}
+use Rattle.rules.specs.Run.{Given, namedOnce, withPathAndTrail, attributesUnder, entryFrom, addEntry, addResource, stored}
 use Rattle.rules.specs.Compile.{onto}
 use Rattle.rules.proofs.Lists.{Each}
 use Rattle.rules.proofs.ReadBack.{FitsAttribute}
@@ -26,8 +27,8 @@ use Rattle.catalog.specs.Finding.{Written}
 use Rattle.catalog.proofs.Order.{onto-last, any-in-order}
 use Rattle.attributes.specs.Names.{repeatedIn}
 use Rattle.attributes.proofs.Repeats.{repeatedOutcome, named-places}
-use Rattle.resources.specs.declared.Ran.{Ran}
-use Rattle.resources.specs.declared.Ran.the-variants.{Refused}
+use Rattle.resources.specs.declared.Filled.{Filled}
+use Rattle.resources.specs.declared.Filled.the-variants.{Refused}
 use Rattle.resources.specs.Attributes.{attributesFor, Kept}
 use Rattle.resources.specs.Entries.{Within, Entered, full, entered, Means, refusedSo, doneSo, Checks}
 use Rattle.resources.proofs.Finishing.{kept-all, within-refused}
@@ -52,15 +53,15 @@ module _ (k : Known) (p t title : ℕ) (labels : Labels) (gs : List Given) (c : 
   all-right e f g = rw (e, f, g)
 
 under-for : (outer own : Labels) (c : Context) (st : State) (gs : List Given) → outer ≡ c .path ∪ st .trail → attributesUnder own c st gs ≡ attributesFor outer own gs
-unfolding attributesUnder attributesFor storedLabels
+unfolding attributesUnder attributesFor stored
 under-for outer own c st [] e = refl
 under-for outer own c st (g ∷ gs) e =
-    (λ i. record { name = g .name; content = record { value = g .content .value; labels = (g .content .labels ∪ sym e i) ∪ own } } ∷ under-for outer own c st gs e i)
+    (λ i. record { name = g .name; content = under own (under (sym e i) (g .content)) } ∷ under-for outer own c st gs e i)
 
-entry-for : (t title : ℕ) (labels outer own : Labels) (c : Context) (st : State) (gs : List Given) → outer ≡ c .path ∪ st .trail → own ≡ labels ∪ outer → entryFrom t title labels c st gs ≡ entry t title own (attributesFor outer own gs)
-unfolding entryFrom storedLabels
+entry-for : (t title : ℕ) (labels outer own : Labels) (c : Context) (st : State) (gs : List Given) → outer ≡ c .path ∪ st .trail → own ≡ outer ∪ labels → entryFrom t title labels c st gs ≡ entry t title own (attributesFor outer own gs)
+unfolding entryFrom withPathAndTrail
 entry-for t title labels outer own c st gs e f =
-    let set : labels ∪ (c .path ∪ st .trail) ≡ own = ap (λ (l : Labels). labels ∪ l) (sym e) ∙ sym f in
+    let set : (c .path ∪ st .trail) ∪ labels ≡ own = ap (λ (l : Labels). l ∪ labels) (sym e) ∙ sym f in
     ap (λ (l : Labels). entry t title l (attributesUnder l c st gs)) set ∙ ap (entry t title own) (under-for outer own c st gs e)
 
 not-true : (b : Bool) → not b ≡ true → b ≡ false
@@ -74,12 +75,12 @@ not-false false e = sym e
 -- ---- The ways
 
 module _ (m out : List ℕ) (fill size room p first end : ℕ) (built : Bool) (title : ℕ) (own : Labels) where
-  pub check-unknown : {r : Ran} → not built ≡ true → r ≡ Refused Unknown p → Checks m out out fill size room p first end built title own r
+  pub check-unknown : {r : Filled} → not built ≡ true → r ≡ Refused (refusalAt Unknown p) → Checks m out out fill size room p first end built title own r
   check-unknown {r} is answer = record {
     kept = kept-all out fill;
     within = within-refused fill room answer;
     says = λ w k c es n gs labels outer b written u o1 o2 h fits a.
-        subst (λ (v : Ran). Means w out fill room n es (addResource k p (two m (p + 3)) title labels gs c (stateOf w es n room)) v) (sym answer)
+        subst (λ (v : Filled). Means w out fill room n es (addResource k p (two m (p + 3)) title labels gs c (stateOf w es n room)) v) (sym answer)
         (refusedSo (not-known k p (two m (p + 3)) title labels gs c (stateOf w es n room) (b ∙ not-true built is)));
   }
 
@@ -90,35 +91,35 @@ module _ (m out : List ℕ) (fill size room p first end : ℕ) (built : Bool) (t
     found : (es : List Entry) → Written out fill (onto es []) → UniqueEntries es → has ≡ any (isEntry (two m (p + 3)) title) es
     found es written u = looked (onto es []) written ∙ any-in-order kind title es u ∙ ap (λ (t : ℕ). any (isEntry t title) es) read
 
-    pub check-again : {r : Ran} → has ≡ true → r ≡ Refused ResourceAgain p → Checks m out out fill size room p first end built title own r
+    pub check-again : {r : Filled} → has ≡ true → r ≡ Refused (refusalAt ResourceAgain p) → Checks m out out fill size room p first end built title own r
     unfolding stateOf
     check-again {r} there answer = record {
       kept = kept-all out fill;
       within = within-refused fill room answer;
       says = λ w k c es n gs labels outer b written u o1 o2 h fits a.
-          subst (λ (v : Ran). Means w out fill room n es (addResource k p (two m (p + 3)) title labels gs c (stateOf w es n room)) v) (sym answer)
+          subst (λ (v : Filled). Means w out fill room n es (addResource k p (two m (p + 3)) title labels gs c (stateOf w es n room)) v) (sym answer)
           (refusedSo (there-already k p (two m (p + 3)) title labels gs c (stateOf w es n room) (b ∙ is) (sym (found es written u) ∙ there)));
     }
 
     module _ (no : has ≡ false) {f : Place} (repeated : f ≡ repeatedIn m [] (fieldsIn m first end)) where
-      pub check-twice : {q : ℕ} {r : Ran} → f ≡ At q → r ≡ Refused AttributeAgain q → Checks m out out fill size room p first end built title own r
+      pub check-twice : {q : ℕ} {r : Filled} → f ≡ At q → r ≡ Refused (refusalAt AttributeAgain q) → Checks m out out fill size room p first end built title own r
       unfolding stateOf repeatedOutcome
       check-twice {q} {r} at answer = record {
         kept = kept-all out fill;
         within = within-refused fill room answer;
         says = λ w k c es n gs labels outer b written u o1 o2 h fits a.
-            subst (λ (v : Ran). Means w out fill room n es (addResource k p (two m (p + 3)) title labels gs c (stateOf w es n room)) v) (sym answer)
+            subst (λ (v : Filled). Means w out fill room n es (addResource k p (two m (p + 3)) title labels gs c (stateOf w es n room)) v) (sym answer)
             (refusedSo (named-twice k p (two m (p + 3)) title labels gs c (stateOf w es n room) (b ∙ is) (sym (found es written u) ∙ no) (named-places m repeated a ∙ ap repeatedOutcome at)));
       }
 
-      means-entered : {out′ : List ℕ} {r : Ran} (w : List ℕ) (n : ℕ) (es : List Entry) (ats : List Attribute) → UniqueEntries es → any (isEntry kind title) es ≡ false → Entered out′ fill room p (onto es []) (entry kind title own ats) r → Means w out′ fill room n es (addEntry p (entry kind title own ats) (stateOf w es n room)) r
+      means-entered : {out′ : List ℕ} {r : Filled} (w : List ℕ) (n : ℕ) (es : List Entry) (ats : List Attribute) → UniqueEntries es → any (isEntry kind title) es ≡ false → Entered out′ fill room p (onto es []) (entry kind title own ats) r → Means w out′ fill room n es (addEntry p (entry kind title own ats) (stateOf w es n room)) r
       unfolding addEntry stateOf withEntry refuseIf _>>=_
-      means-entered w n es ats u new (full e) = refusedSo {r = OutputFull} {p = p} (rw e)
+      means-entered w n es ats u new (full e) = refusedSo {why = refusalAt OutputFull p} (rw e)
       means-entered {out′} w n es ats u new (entered {f = g} size-is e written) =
           let left : room - length (entryBytes (entry kind title own ats)) ≡ room - (g - fill) = omega arith in
           doneSo {f = g} (entry kind title own ats) (rw (e, left)) (subst (λ (l : List Entry). Written out′ g l) (sym (onto-last (entry kind title own ats) es)) written) (unique new u)
 
-      pub check-rest : {out′ : List ℕ} {r : Ran} → f ≡ Nothing → Kept out out′ fill → Within fill room r → ((ats : List Attribute) (es : List Entry) → Holding (drop fill out) size ats → Each FitsAttribute ats → Written out fill es → Entered out′ fill room p es (entry kind title own ats) r)
+      pub check-rest : {out′ : List ℕ} {r : Filled} → f ≡ Nothing → Kept out out′ fill → Within fill room r → ((ats : List Attribute) (es : List Entry) → Holding (drop fill out) size ats → Each FitsAttribute ats → Written out fill es → Entered out′ fill room p es (entry kind title own ats) r)
           → Checks m out out′ fill size room p first end built title own r
       unfolding stateOf repeatedOutcome
       check-rest {out′} {r} none kept within finished = record {

@@ -5,34 +5,26 @@ use mathlib.Core.List.{List, [], _∷_, _++_}
 use native.Mathlib.Omega.{arith}
 use borrow.Author.Tests.{lt-ltb}
 use borrow.Rule.Slice.PartMut.{midOf, putMid}
-use lib.ListN.{length, drop, length-append}
+use lib.ListN.{length, drop}
 use Rattle.labels.specs.declared.Labels.{Labels}
 use Rattle.labels.specs.Sets.{Words64}
-use Rattle.labels.specs.Bytes.{labelBytes}
-use Rattle.labels.proofs.Laws.{label-length}
-use Rattle.values.specs.declared.Reason.{Reason}
+use Rattle.values.specs.declared.Refusal.{Refusal}
+use Rattle.values.specs.Refusals.{refusalAt}
 use Rattle.values.specs.declared.Reason.the-variants.{OutputFull}
-use Rattle.wire.specs.Numbers.{highBytes}
-use Rattle.wire.proofs.Laws.{high-length}
 use Rattle.rules.specs.State.{Attribute, Entry}
-use Rattle.rules.specs.Catalog.{attributesBytes, entryBytes}
+use Rattle.rules.specs.Catalog.{entryBytes}
 use Rattle.rules.proofs.Lists.{Each}
-use Rattle.rules.proofs.ReadBack.{FitsAttribute, FitsEntry, field-length}
+use Rattle.rules.proofs.ReadBack.{FitsAttribute, FitsEntry}
 use Rattle.catalog.specs.declared.Finished.{Finished}
 use Rattle.catalog.specs.declared.Finished.the-variants.{Fits, TooLong}
 use Rattle.catalog.specs.Making.{stored, entry, Holding, putEntry}
 use Rattle.catalog.specs.Finding.{Written}
+use Rattle.catalog.proofs.Making.{entry-size}
 use Rattle.catalog.proofs.Growing.{holding-lent, front-kept, entry-joined, entry-refused, written-more}
-use Rattle.resources.specs.declared.Ran.{Ran}
-use Rattle.resources.specs.declared.Ran.the-variants.{Done, Refused}
+use Rattle.resources.specs.declared.Filled.{Filled}
+use Rattle.resources.specs.declared.Filled.the-variants.{Done, Refused}
 use Rattle.resources.specs.Attributes.{Kept}
 use Rattle.resources.specs.Entries.{Within, Entered, full, entered}
-
-entry-size : (size t n : ℕ) (k : Labels) (ats : List Attribute) → size ≡ 39 + length (attributesBytes ats) → length (entryBytes (entry t n k ats)) ≡ size
-unfolding entryBytes
-entry-size size t n k ats e =
-    let body : length (highBytes 2 t ++ (highBytes 2 n ++ (labelBytes k ++ attributesBytes ats))) ≡ 36 + length (attributesBytes ats) = simp (length-append, high-length, label-length) (omega arith) in
-    field-length 0x40 _ ∙ omega (arith, body)
 
 module _ (out : List ℕ) (fill size room p kind title : ℕ) (own : Labels) (within : fill ≤ length out) where
   -- what is before the fill point stays
@@ -40,19 +32,19 @@ module _ (out : List ℕ) (fill size room p kind title : ℕ) (own : Labels) (wi
   finish-kept rest′ long = record { front = front-kept out fill within rest′; long = long }
 
   -- the test before: nothing is written
-  pub finish-early : {r : Ran} → room < size → r ≡ Refused OutputFull p → (ats : List Attribute) (es : List Entry) → Holding (drop fill out) size ats → Each FitsAttribute ats → Written out fill es → Entered out fill room p es (entry kind title own ats) r
+  pub finish-early : {r : Filled} → room < size → r ≡ Refused (refusalAt OutputFull p) → (ats : List Attribute) (es : List Entry) → Holding (drop fill out) size ats → Each FitsAttribute ats → Written out fill es → Entered out fill room p es (entry kind title own ats) r
   finish-early less answer ats es h fits written =
-      subst (λ (v : Ran). Entered out fill room p es (entry kind title own ats) v) (sym answer) (full (lt-ltb room (length (entryBytes (entry kind title own ats))) (omega (arith, entry-size size kind title own ats (h .grown)))))
+      subst (λ (v : Filled). Entered out fill room p es (entry kind title own ats) v) (sym answer) (full (lt-ltb room (length (entryBytes (entry kind title own ats))) (omega (arith, entry-size size kind title own ats (h .grown)))))
 
   module _ (enough : room ≤ length out - fill) {rest′ : List ℕ} {f : Finished} (finished : (ats : List Attribute) → Holding (midOf fill (length out - fill) out) size ats → stored f rest′ ≡ putEntry (midOf fill (length out - fill) out) room (entry kind title own ats)) (long : length (putMid fill (length out - fill) out rest′) ≡ length out) where
     pub lent-kept : Kept out (putMid fill (length out - fill) out rest′) fill
     lent-kept = finish-kept rest′ long
 
-    pub finish-full : {r : Ran} → f ≡ TooLong → r ≡ Refused OutputFull p → (ats : List Attribute) (es : List Entry) → Holding (drop fill out) size ats → Each FitsAttribute ats → Written out fill es
+    pub finish-full : {r : Filled} → f ≡ TooLong → r ≡ Refused (refusalAt OutputFull p) → (ats : List Attribute) (es : List Entry) → Holding (drop fill out) size ats → Each FitsAttribute ats → Written out fill es
         → Entered (putMid fill (length out - fill) out rest′) fill room p es (entry kind title own ats) r
     finish-full is answer ats es h fits written =
         let g : stored TooLong rest′ ≡ putEntry (midOf fill (length out - fill) out) room (entry kind title own ats) = ap (λ (x : Finished). stored x rest′) (sym is) ∙ finished ats (holding-lent out fill size ats h) in
-        subst (λ (v : Ran). Entered (putMid fill (length out - fill) out rest′) fill room p es (entry kind title own ats) v) (sym answer) (full (entry-refused out fill within rest′ room (entry kind title own ats) enough g .long))
+        subst (λ (v : Filled). Entered (putMid fill (length out - fill) out rest′) fill room p es (entry kind title own ats) v) (sym answer) (full (entry-refused out fill within rest′ room (entry kind title own ats) enough g .long))
 
     pub finish-fits : {n : ℕ} → f ≡ Fits n → kind < 65536 → title < 65536 → Words64 own → (ats : List Attribute) (es : List Entry) → Holding (drop fill out) size ats → Each FitsAttribute ats → Written out fill es
         → Entered (putMid fill (length out - fill) out rest′) fill room p es (entry kind title own ats) (Done (fill + size))
@@ -71,9 +63,9 @@ kept-all out fill = record { front = refl; long = refl }
 
 -- ---- The fill point
 
-pub within-refused : (fill room : ℕ) {r : Ran} {reason : Reason} {p : ℕ} → r ≡ Refused reason p → Within fill room r
+pub within-refused : (fill room : ℕ) {r : Filled} {why : Refusal} → r ≡ Refused why → Within fill room r
 unfolding Within
-within-refused fill room e = subst (λ (v : Ran). Within fill room v) (sym e) tt
+within-refused fill room e = subst (λ (v : Filled). Within fill room v) (sym e) tt
 
 pub within-done : (fill size room : ℕ) → size ≤ room → Within fill room (Done (fill + size))
 unfolding Within

@@ -4,30 +4,28 @@ ghost use mathlib.Core.List.{List};
 ghost use Prim.Native.Nat.{ℕ, suc, _+_, _-_, _≤_, _<_};
 ghost use lib.ListN.{length, drop};
 ghost use Rattle.rules.specs.State.{Attribute, Entry};
-ghost use Rattle.rules.proofs.Lists.{Each};
-ghost use Rattle.rules.proofs.ReadBack.{FitsAttribute};
+ghost use Rattle.rules.specs.Ranges.{Each, FitsAttribute};
+ghost use Rattle.catalog.specs.Layout.{entryAttributes};
 ghost use Rattle.catalog.specs.Making.{attribute, entry, Holding};
 ghost use Rattle.catalog.specs.Finding.{Written};
 ghost use Rattle.evaluator.specs.Known.{Sized};
-ghost use Rattle.resources.specs.declared.Ran.the-variants.{Refused};
 ghost use Rattle.resources.specs.Attributes.{underBoth, Kept, Appended, Added, Gathered};
 ghost use Rattle.resources.specs.Entries.{Within, Entered, Checks, RunsTitled, Runs};
+use attributes::Span;
+use evaluator::Evaluated;
 use labels::Labels;
+use memory::Context;
+use memory::Scope;
 use values::Labelled;
 use values::Reason;
+use values::Refusal;
 use values::Value;
+use values::place;
 
 // The new fill point, or the size of the entry so far; or why not.
-pub enum Ran {
+pub enum Filled {
     Done(usize),
-    Refused { reason: Reason, place: u16 },
-}
-
-// A place that a refusal can name: others do not occur.
-fn place(q: usize) -> usize
-    ensures { λ r. ⌜ (r ≤ 65535) × (q ≤ 65535 → r ≡ q) ⌝ }
-{
-    if q <= 65535 { q } else { 65535 }
+    Refused(Refusal),
 }
 
 // ---- Attributes
@@ -45,10 +43,8 @@ fn append(
     requires { ⌜ (fill ≤ length (now out)) × (size ≤ 4294967296) ⌝ }
     ensures { λ r. ⌜ Appended (now (out .entry)) (now (out .exit)) fill size r (attribute name (underBoth outer own x)) ⌝ }
 {
-    let value = x.value;
-    let set = x.labels;
-    let labels = set.union(outer).union(own);
-    catalog::add_attribute(&mut out[fill..], size, name, Labelled { value, labels })
+    let content = x.under(outer).under(own);
+    catalog::add_attribute(&mut out[fill..], size, name, content)
 }
 
 // The attribute at q, evaluated and appended; its expression has `inner` levels.
@@ -60,77 +56,53 @@ fn add_attribute(
     out: &mut [u8],
     fill: usize,
     size: usize,
-    scope: u16,
-    base_is_node: bool,
+    scope: Scope,
     outer: Labels,
     own: Labels,
-) -> Ran
+) -> Filled
     requires { ⌜ (Sized (now m) (now work) (now out) fill q) × (size ≤ 4294967296) ⌝ }
-    ensures { λ r. ⌜ Added (now (m .entry)) (now (work .entry)) (now (out .entry)) (now (out .exit)) fill size scope «base_is_node» inner q outer own r ⌝ }
+    ensures { λ r. ⌜ Added (now (m .entry)) (now (work .entry)) (now (out .entry)) (now (out .exit)) fill size scope inner q outer own r ⌝ }
 {
-    let e = evaluator::evaluate(m, inner, place(q + 5), work, out, fill, scope, base_is_node);
+    let e = evaluator::evaluate(m, inner, place(q + 5), work, out, fill, scope);
     match e {
-        evaluator::Evaluated::Refused { reason, place } => Ran::Refused { reason, place },
-        evaluator::Evaluated::Value(x) => {
+        Evaluated::Refused(refusal) => Filled::Refused(refusal),
+        Evaluated::Value(x) => {
             let name = wire::two_at(m, q + 3);
-            Ran::Done(append(out, fill, size, name, x, outer, own))
+            Filled::Done(append(out, fill, size, name, x, outer, own))
         }
     }
 }
 
-// The attributes between two places; an attribute has one level more than its expression.
+// The attributes of a span; an attribute has one level more than its expression.
 fn gather(
     m: &[u8],
     inner: u8,
-    first: usize,
-    end: usize,
+    span: Span,
     work: &[u8],
     out: &mut [u8],
     fill: usize,
-    scope: u16,
-    base_is_node: bool,
+    scope: Scope,
     outer: Labels,
     own: Labels,
-) -> Ran
-    requires { ⌜ Sized (now m) (now work) (now out) fill end ⌝ }
-    ensures { λ r. ⌜ ((d : ℕ) → d ≡ suc inner → Gathered (now (m .entry)) (now (work .entry)) (now (out .entry)) (now (out .exit)) fill scope «base_is_node» d first end outer own r) ⌝ }
+) -> Filled
+    requires { ⌜ Sized (now m) (now work) (now out) fill (span .end) ⌝ }
+    ensures { λ r. ⌜ ((d : ℕ) → d ≡ suc inner → Gathered (now (m .entry)) (now (work .entry)) (now (out .entry)) (now (out .exit)) fill scope d (span .first) (span .end) outer own r) ⌝ }
 {
-    let mut size: usize = catalog::ENTRY_HEADER;
-    let mut q = first;
+    let end = span.end;
+    let mut size: usize = catalog::layout::ENTRY_ATTRIBUTES;
+    let mut q = span.first;
     while q < end {
-        let step = add_attribute(
-            m,
-            inner,
-            q,
-            work,
-            out,
-            fill,
-            size,
-            scope,
-            base_is_node,
-            outer,
-            own,
-        );
-        let Ran::Done(more) = step else {
+        let step = add_attribute(m, inner, q, work, out, fill, size, scope, outer, own);
+        let Filled::Done(more) = step else {
             return step;
         };
         size = more;
         q = wire::end_of(m, q);
     }
-    Ran::Done(size)
+    Filled::Done(size)
 }
 
 // ---- The entry
-
-fn refusal(reason: Reason, p: usize) -> Ran
-    requires { ⌜ p ≤ 65535 ⌝ }
-    ensures { λ r. ⌜ r ≡ Refused reason p ⌝ }
-{
-    Ran::Refused {
-        reason,
-        place: p as u16,
-    }
-}
 
 // The header in front of the attributes, unless the entry of `size` bytes is longer than the room.
 fn finish(
@@ -142,26 +114,25 @@ fn finish(
     kind: u16,
     title: u16,
     own: Labels,
-) -> Ran
-    requires { ⌜ (fill ≤ length (now out)) × ((fill ≤ 65535) × ((39 ≤ size) × ((room ≤ 65535) × ((room ≤ length (now out) - fill) × (p ≤ 65535))))) ⌝ }
+) -> Filled
+    requires { ⌜ (fill ≤ length (now out)) × ((fill ≤ 65535) × ((entryAttributes ≤ size) × ((room ≤ 65535) × ((room ≤ length (now out) - fill) × (p ≤ 65535))))) ⌝ }
     ensures { λ r. ⌜ Kept (now (out .entry)) (now (out .exit)) fill × (Within fill room r × ((ats : List Attribute) (es : List Entry) → Holding (drop fill (now (out .entry))) size ats → Each FitsAttribute ats → Written (now (out .entry)) fill es → Entered (now (out .exit)) fill room p es (entry kind title own ats) r)) ⌝ }
 {
     if room < size {
-        return refusal(Reason::OutputFull, p);
+        return Filled::Refused(Refusal::at(Reason::OutputFull, p));
     }
     let f = catalog::finish_entry(&mut out[fill..], size, room, kind, title, own);
     match f {
-        catalog::Finished::TooLong => refusal(Reason::OutputFull, p),
-        catalog::Finished::Fits(_) => Ran::Done(fill + size),
+        catalog::Finished::TooLong => Filled::Refused(Refusal::at(Reason::OutputFull, p)),
+        catalog::Finished::Fits(_) => Filled::Done(fill + size),
     }
 }
 
-// The checks of the resource at p, by rising number, and its entry.
+// The checks of the resource at p, whose attributes are those of the span, by rising number, and its entry.
 fn check(
     m: &[u8],
     p: usize,
-    first: usize,
-    end: usize,
+    span: Span,
     out: &mut [u8],
     fill: usize,
     size: usize,
@@ -169,20 +140,20 @@ fn check(
     built_in: bool,
     title: u16,
     own: Labels,
-) -> Ran
-    requires { ⌜ (fill ≤ length (now out)) × ((fill ≤ 65535) × ((39 ≤ size) × ((room ≤ 65535) × ((room ≤ length (now out) - fill) × ((p ≤ 65535) × (end ≤ 65535)))))) ⌝ }
-    ensures { λ r. ⌜ Checks (now (m .entry)) (now (out .entry)) (now (out .exit)) fill size room p first end «built_in» title own r ⌝ }
+) -> Filled
+    requires { ⌜ (fill ≤ length (now out)) × ((fill ≤ 65535) × ((entryAttributes ≤ size) × ((room ≤ 65535) × ((room ≤ length (now out) - fill) × ((p ≤ 65535) × (span .end ≤ 65535)))))) ⌝ }
+    ensures { λ r. ⌜ Checks (now (m .entry)) (now (out .entry)) (now (out .exit)) fill size room p (span .first) (span .end) «built_in» title own r ⌝ }
 {
     if !built_in {
-        return refusal(Reason::Unknown, p);
+        return Filled::Refused(Refusal::at(Reason::Unknown, p));
     }
     let kind = wire::two_at(m, p + 3);
     if catalog::has_entry(out, fill, kind, title) {
-        return refusal(Reason::ResourceAgain, p);
+        return Filled::Refused(Refusal::at(Reason::ResourceAgain, p));
     }
-    let again = attributes::find_repeated(m, first, end);
+    let again = attributes::find_repeated(m, span.first, span.end);
     match again {
-        catalog::Place::At(q) => refusal(Reason::AttributeAgain, q),
+        catalog::Place::At(q) => Filled::Refused(Refusal::at(Reason::AttributeAgain, q)),
         catalog::Place::Nothing => finish(out, fill, size, room, p, kind, title, own),
     }
 }
@@ -199,53 +170,30 @@ fn add_titled(
     out: &mut [u8],
     fill: usize,
     room: usize,
-    scope: u16,
-    base_is_node: bool,
+    here: Context,
     built_in: bool,
-    path: Labels,
-    trail: Labels,
-) -> Ran
+) -> Filled
     requires { ⌜ (Sized (now m) (now work) (now out) fill p) × ((room ≤ 65535) × (room ≤ length (now out) - fill)) ⌝ }
-    ensures { λ r. ⌜ RunsTitled (now (m .entry)) (now (work .entry)) (now (out .entry)) (now (out .exit)) fill room scope «base_is_node» inner p x «built_in» path trail r ⌝ }
+    ensures { λ r. ⌜ RunsTitled (now (m .entry)) (now (work .entry)) (now (out .entry)) (now (out .exit)) fill room here inner p x «built_in» r ⌝ }
 {
     let value = x.value;
     let Value::String(title) = value else {
-        return refusal(Reason::WrongKind, place(p + 5));
+        return Filled::Refused(Refusal::at(Reason::WrongKind, place(p + 5)));
     };
-    let outer = path.union(trail);
+    let path = here.path;
+    let outer = memory::path_and_trail(work, path);
     let set = x.labels;
-    let own = set.union(outer);
-    let first = wire::end_of(m, p + 5);
-    let end = place(wire::end_of(m, p));
-    let g = gather(
-        m,
-        inner,
-        first,
-        end,
-        work,
-        out,
-        fill,
-        scope,
-        base_is_node,
-        outer,
-        own,
-    );
-    let Ran::Done(size) = g else {
+    let own = outer.union(set);
+    let scope = here.scope;
+    let span = Span {
+        first: wire::end_of(m, p + 5),
+        end: place(wire::end_of(m, p)),
+    };
+    let g = gather(m, inner, span, work, out, fill, scope, outer, own);
+    let Filled::Done(size) = g else {
         return g;
     };
-    check(
-        m,
-        p,
-        first,
-        end,
-        out,
-        fill,
-        size,
-        room,
-        built_in,
-        title,
-        own,
-    )
+    check(m, p, span, out, fill, size, room, built_in, title, own)
 }
 
 // The resource at p, with `depth` levels left for it. `built_in` says whether its type is, `room` how much of the output is left.
@@ -257,44 +205,21 @@ pub fn add_resource(
     out: &mut [u8],
     fill: usize,
     room: usize,
-    scope: u16,
-    base_is_node: bool,
+    here: Context,
     built_in: bool,
-    path: Labels,
-    trail: Labels,
-) -> Ran
+) -> Filled
     requires { ⌜ (Sized (now m) (now work) (now out) fill p) × ((room ≤ 65535) × (room ≤ length (now out) - fill)) ⌝ }
-    ensures { λ r. ⌜ Runs (now (m .entry)) (now (work .entry)) (now (out .entry)) (now (out .exit)) fill room scope «base_is_node» depth p «built_in» path trail r ⌝ }
+    ensures { λ r. ⌜ Runs (now (m .entry)) (now (work .entry)) (now (out .entry)) (now (out .exit)) fill room here depth p «built_in» r ⌝ }
 {
     if depth < 2 {
-        return refusal(Reason::Malformed, p);
+        return Filled::Refused(Refusal::at(Reason::Malformed, p));
     }
-    let t = evaluator::evaluate(
-        m,
-        depth - 1,
-        place(p + 5),
-        work,
-        out,
-        fill,
-        scope,
-        base_is_node,
-    );
+    let scope = here.scope;
+    let t = evaluator::evaluate(m, depth - 1, place(p + 5), work, out, fill, scope);
     match t {
-        evaluator::Evaluated::Refused { reason, place } => Ran::Refused { reason, place },
-        evaluator::Evaluated::Value(x) => add_titled(
-            m,
-            depth - 2,
-            p,
-            x,
-            work,
-            out,
-            fill,
-            room,
-            scope,
-            base_is_node,
-            built_in,
-            path,
-            trail,
-        ),
+        Evaluated::Refused(refusal) => Filled::Refused(refusal),
+        Evaluated::Value(x) => {
+            add_titled(m, depth - 2, p, x, work, out, fill, room, here, built_in)
+        }
     }
 }

@@ -11,7 +11,7 @@ use Rattle.labels.proofs.Laws.{has-union}
 use Rattle.values.specs.declared.Labelled.{Labelled}
 use Rattle.rules.specs.State.{sameScope, Cell, State, Context, DeclaredClass, valueInto, assign}
 use Rattle.rules.specs.Outcome.{done}
-use Rattle.rules.specs.Run.{storedLabels, conditionLabels, stored, store, inClass, inBody}
+use Rattle.rules.specs.Run.{pathAndTrail, withPathAndTrail, stored, store, inClass, inBody}
 use Rattle.rules.proofs.Lists.{or-true-left, or-true-right, both-true, eqb-same, scope-same}
 use Rattle.rules.proofs.Outcome.{allDone, allAny, allGet}
 
@@ -19,8 +19,8 @@ use Rattle.rules.proofs.Outcome.{allDone, allAny, allGet}
 pub record Holds (s k : Labels) : Type 0 where
   pub each : (n : ℕ) → has k n ≡ true → has s n ≡ true
 
-holds-left : (a b : Labels) → Holds (a ∪ b) a
-holds-left a b = record { each = λ n h. has-union a b n ∙ or-true-left (has a n) (has b n) h }
+holds-left : (a b : Labels) {k : Labels} → Holds a k → Holds (a ∪ b) k
+holds-left a b h = record { each = λ n g. has-union a b n ∙ or-true-left (has a n) (has b n) (h .each n g) }
 
 holds-right : (a b : Labels) {k : Labels} → Holds b k → Holds (a ∪ b) k
 holds-right a b {k} h = record { each = λ n g. has-union a b n ∙ or-true-right (has a n) (has b n) (h .each n g) }
@@ -33,10 +33,10 @@ pub record PathAndTrail (c : Context) (st : State) (s : Labels) : Type 0 where
 holds-itself : (k : Labels) → Holds k k
 holds-itself k = record { each = λ n h. h }
 
-both-held : (c : Context) (st : State) (k : Labels) → PathAndTrail c st (k ∪ (c .path ∪ st .trail))
+both-held : (c : Context) (st : State) (k : Labels) → PathAndTrail c st (pathAndTrail c st ∪ k)
 both-held c st k = record {
-  path = holds-right k _ (holds-left (c .path) (st .trail));
-  trail = holds-right k _ (holds-right (c .path) _ (holds-itself (st .trail)));
+  path = holds-left _ k (holds-left (c .path) (st .trail) (holds-itself (c .path)));
+  trail = holds-left _ k (holds-right (c .path) (st .trail) (holds-itself (st .trail)));
 }
 
 -- "An assignment stores its value's set with path and trail": what the cell of the name holds after it
@@ -46,7 +46,7 @@ value-there true x c e = refl
 value-there false x c e = absurd (false≢true e)
 
 pub assignment-holds : (c : Context) (p n : ℕ) (x : Labelled) (st : State) {st′ : State} → store c p n x st ≡ done st′ → (st′ .cells (c .scope) n .value ≡ some (stored c st x)) × PathAndTrail c st (stored c st x .labels)
-unfolding store assign stored storedLabels
+unfolding store assign stored
 assignment-holds c p n x st h = (
   allGet {P = λ (st′ : State). st′ .cells (c .scope) n .value ≡ some (stored c st x)}
       (allAny _ λ _. allAny _ λ _. allDone (value-there _ _ _ (both-true (sameScope (c .scope) (c .scope)) (eqb n n) (scope-same (c .scope)) (eqb-same n)))) h,
@@ -54,8 +54,8 @@ assignment-holds c p n x st h = (
 )
 
 -- "A condition's set is its expression .., path and trail."
-pub condition-holds : (c : Context) (st : State) (k : Labels) → PathAndTrail c st (conditionLabels c st k)
-unfolding conditionLabels
+pub condition-holds : (c : Context) (st : State) (k : Labels) → PathAndTrail c st (withPathAndTrail c st k)
+unfolding withPathAndTrail
 condition-holds c st k = both-held c st k
 
 -- "the path: the union over the conditions enclosing the statement, through declarations too"

@@ -10,18 +10,18 @@ use Rattle.values.specs.declared.Labelled.{Labelled}
 use Rattle.values.specs.declared.Reason.{Reason}
 use Rattle.rules.specs.Outcome.{done, _>>=_, refuseIf}
 use Rattle.rules.specs.Tree.{Constant, Block, Parameter, Parent, TypeDefinition, ClassDefinition, Definition, Devices, Item}
-use Rattle.rules.specs.State.{Scope, bodyScope, Cell, State, Context, Known, isDeclared, freed, noCell, declared, free}
+use Rattle.rules.specs.State.{Scope, bodyScope, Cell, State, Context, Known, isDeclared, freed, noCell, markDeclared, free}
 use Rattle.rules.specs.Evaluate.{any, firstWith, findType, findClass}
 use Rattle.rules.specs.Run.{Given, isGiven, namedOnce, parametersKnown, defaultOf, givenOr, parameterValues, store, storeAll, storeTitle, placedUnder, inBody, parentFirst, enterClass, Declaration, Declare, runBlock, declaration, runAtTop, topContext, nodeContext, withDefinition, runItems}
 use Rattle.rules.specs.Compile.{withoutNodes, withNode, isNode, names, isDefaultNode, itemsFor, start}
-use Rattle.rules.proofs.Same.{Pairwise, nonePaired, paired, Optional, bothNone, bothSome, SameConstant, SameBlock, sameEnd, sameNext, SameParameter, sameParameter, SameParent, sameParent, SameType, sameType, SameClassDefinition, sameClassDefinition, SameDefinition, sameTypeDefinition, sameClassDefinitions, SameItem, sameStatementItem, sameNode, sameDefinitionItem}
+use Rattle.rules.proofs.Same.{Edit, Pairwise, nonePaired, paired, Optional, bothNone, bothSome, SameConstant, SameBlock, sameEnd, sameNext, SameParameter, sameParameter, SameParent, sameParent, SameType, sameType, SameClassDefinition, sameClassDefinition, SameDefinition, sameTypeDefinition, sameClassDefinitions, SameItem, sameStatementItem, sameNode, sameDefinitionItem}
 use Rattle.rules.proofs.Outcome.{allDone, allAny, allIf, Two, leftRefused, bothDone, twoBind, twoAny, twoIf, twoOr, twoStep}
 use Rattle.rules.proofs.Unique.{uniqueNone}
 use Rattle.rules.proofs.Evaluation.{SameLabelled, same-constant, SameCell, lowCell, emptyBoth}
 use Rattle.rules.proofs.Quiet.{QuietDeclare, quiet, noGrowth, store-quiet, enter-quiet, declaration-quiet}
 use Rattle.rules.proofs.Lockstep.{Low, low, Related, relatedLow, relatedHigh, QuietRun, go-on, SameGiven, sameGiven, SameGivens, store-low, declaredIn, SameDeclaration, sameOfType, sameOfClass, sameIncluded, SameDeclare, block-related}
 
-module _ (D : ℕ → Type 0) where
+module _ (D : Edit) where
   -- ---- Definitions that have run
 
   optional-if : {A : Type 0} {R : A → A → Type 0} (b : Bool) (x y : A) {o o′ : Option A} → R x y → Optional R o o′ → Optional R (elim b [ true ↦ some x | false ↦ o ]) (elim b [ true ↦ some y | false ↦ o′ ])
@@ -99,7 +99,7 @@ module _ (D : ℕ → Type 0) where
     parent-low (bothSome (sameParent {n = n})) c (low {q = q} hc hk u u′) = twoIf (declaredIn D q n) (bothDone (relatedLow (low hc hk u u′))) (twoStep _ _ _ _ _ _ λ m m′. alike _ _ sameIncluded c _ _ (relatedLow (low hc hk u u′)))
 
     enter-low : {d d′ : ClassDefinition} → SameClassDefinition D d d′ → {vs vs′ : List Given} → SameGivens D vs vs′ → (c : Context) {st st′ : State} → Low D st st′ → Two (Related D) (enterClass k declare d vs c st) (enterClass k′ declare′ d′ vs′ c st′)
-    unfolding enterClass placedUnder declared
+    unfolding enterClass placedUnder markDeclared
     enter-low (sameClassDefinition bothNone ps b) g c (low hc hk u u′) = twoBind (store-all-related _ g (relatedLow (low hc hk u u′))) λ st st′ h. block-related D k k′ declare declare′ quietly quietly′ alike b _ h
     enter-low (sameClassDefinition (bothSome sameParent) ps b) g c (low hc hk u u′) = twoBind (store-all-related _ g (relatedLow (low hc hk u u′))) λ st st′ h. block-related D k k′ declare declare′ quietly quietly′ alike b _ h
 

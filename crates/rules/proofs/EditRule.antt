@@ -16,9 +16,9 @@ use Rattle.rules.specs.State.{Attribute, Entry, State}
 use Rattle.rules.specs.Evaluate.{isEntry, isAttribute}
 use Rattle.rules.specs.Run.{runItems}
 use Rattle.rules.specs.Catalog.{readCatalog}
-use Rattle.rules.specs.Compile.{knownFirst, itemsFor, start, runManifest, finalState, onto, entriesInOrder, Compiled, compiledFrom, compiled, answerOf, outputAfter, Effect, compile}
+use Rattle.rules.specs.Compile.{knownFirst, itemsFor, start, runManifest, finalState, onto, entriesInOrder, Compiled, compiledFrom, compiled, answerOf, outputOf, Effect, compile}
 use Rattle.rules.specs.EditRule.{oneTree, differing, Untouched, howMany, KeptResource, KeptAttribute, Claim, IsBytes}
-use Rattle.rules.proofs.Same.{High, Pairwise, nonePaired, paired, SameItem}
+use Rattle.rules.proofs.Same.{Edit, anywhere, High, Pairwise, nonePaired, paired, SameItem}
 use Rattle.rules.proofs.Outcome.{allRefused, allGet, Two, twoAny, results}
 use Rattle.rules.proofs.Lists.{each-member}
 use Rattle.rules.proofs.Evaluation.{bothHigh, equals, SameAttribute, sameAttribute, SameEntry, sameEntry, HighEntry, SameCatalog, emptyBoth, entryBoth, entryLeft, entryRight}
@@ -27,7 +27,7 @@ use Rattle.rules.proofs.Declarations.{sameKnown, items-related, items-f
 use Rattle.rules.proofs.OneTree.{one-tree, one-table}
 use Rattle.rules.proofs.Laws.{catalog-reads-back, type-and-title-once, names-once}
 
-module _ (D : ℕ → Type 0) where
+module _ (D : Edit) where
   -- ---- Two whole runs end in related states
 
   run-related : (ss ss′ : List (List ℕ)) (device : List ℕ) {is is′ : List Item} → ss ≡ ss′ → Pairwise (SameItem D) is is′ → (limit output limit′ output′ : ℕ)
@@ -68,10 +68,11 @@ module _ (D : ℕ → Type 0) where
 
 -- ---- The claim, about entries
 
-abbrev Differs : List ℕ → List ℕ → ℕ → Type 0
-Differs m m′ l = differing m m′ l ≡ true
+-- the edit from one manifest to another
+abbrev between : List ℕ → List ℕ → Edit
+between m m′ = anywhere (λ l. differing m m′ l ≡ true)
 
-not-high : (m m′ : List ℕ) {s : Labels} → Untouched m m′ s → High (Differs m m′) s → ⊥
+not-high : (m m′ : List ℕ) {s : Labels} → Untouched m m′ s → High (between m m′) s → ⊥
 not-high m m′ u h = true≢false (sym (h .within) ∙ u .lacks (h .label) (h .differs))
 
 -- the type and title of each entry of a list are there once, and each name once in an entry
@@ -80,32 +81,32 @@ record Once (d : List Entry) : Type 0 where
   names : (e : Entry) → List·Memᴰ e d → (a : Attribute) → List·Memᴰ a (e .attributes) → howMany (isAttribute (a .name)) (e .attributes) ≡ 1
 
 module _ (m m′ : List ℕ) {d : List Entry} (once : Once d) where
-  resource-kept : {e f : Entry} → SameEntry (Differs m m′) e f → List·Memᴰ f d → KeptResource e d
+  resource-kept : {e f : Entry} → SameEntry (between m m′) e f → List·Memᴰ f d → KeptResource e d
   resource-kept {f = f} (sameEntry r u u′) p = record { entry = f; present = p; type = refl; title = refl; labels = refl; once = once .entries f p }
 
-  attribute-of-kept : {e f : Entry} {a : Attribute} → SameEntry (Differs m m′) e f → List·Memᴰ f d → List·Memᴰ a (e .attributes) → (High (Differs m m′) (a .content .labels) → ⊥) → KeptAttribute e a d
+  attribute-of-kept : {e f : Entry} {a : Attribute} → SameEntry (between m m′) e f → List·Memᴰ f d → List·Memᴰ a (e .attributes) → (High (between m m′) (a .content .labels) → ⊥) → KeptAttribute e a d
   attribute-of-kept {f = f} {a = a} (sameEntry r u u′) p i n =
-      let w = attribute-kept (Differs m m′) r i n in
+      let w = attribute-kept (between m m′) r i n in
       record { entry = f; present = p; type = refl; title = refl; entryOnce = once .entries f p; attribute = a; within = w; name = refl; value = refl; labels = refl; once = once .names f p a w }
 
-  claim : {c : List Entry} → SameCatalog (Differs m m′) c d → Claim m m′ c d
+  claim : {c : List Entry} → SameCatalog (between m m′) c d → Claim m m′ c d
   claim r = record {
-    resources = λ e p u. let y = opposite (Differs m m′) r p (λ h. not-high m m′ u (h .own)) in resource-kept (y .same) (y .present);
-    attributes = λ e a p i u. let y = opposite (Differs m m′) r p (λ h. not-high m m′ u (each-member (h .all) i)) in attribute-of-kept (y .same) (y .present) i (not-high m m′ u);
+    resources = λ e p u. let y = opposite (between m m′) r p (λ h. not-high m m′ u (h .own)) in resource-kept (y .same) (y .present);
+    attributes = λ e a p i u. let y = opposite (between m m′) r p (λ h. not-high m m′ u (each-member (h .all) i)) in attribute-of-kept (y .same) (y .present) i (not-high m m′ u);
   }
 
 -- ---- The claim, about two accepted compiles
 
-final-related : (m m′ device : List ℕ) → oneTree m m′ ≡ true → (limit limit′ output output′ memory memory′ : ℕ) → Two (Related (Differs m m′)) (finalState m device limit output memory) (finalState m′ device limit′ output′ memory′)
+final-related : (m m′ device : List ℕ) → oneTree m m′ ≡ true → (limit limit′ output output′ memory memory′ : ℕ) → Two (Related (between m m′)) (finalState m device limit output memory) (finalState m′ device limit′ output′ memory′)
 unfolding finalState runManifest
 final-related m m′ device t limit limit′ output output′ memory memory′ = twoAny _ _ λ _ _. twoAny _ _ λ _ _. twoAny _ _ λ _ _.
-    run-related (Differs m m′) (manifestOf m .strings) (manifestOf m′ .strings) device (one-table m m′ t) (one-tree m m′ t) limit output limit′ output′
+    run-related (between m m′) (manifestOf m .strings) (manifestOf m′ .strings) device (one-table m m′ t) (one-tree m m′ t) limit output limit′ output′
 
 states : (m m′ device : List ℕ) → oneTree m m′ ≡ true → (limit limit′ output output′ memory memory′ : ℕ) {st st′ : State} → finalState m device limit output memory ≡ done st → finalState m′ device limit′ output′ memory′ ≡ done st′ → Claim m m′ (entriesInOrder st) (entriesInOrder st′)
 unfolding entriesInOrder
 states m m′ device t limit limit′ output output′ memory memory′ e e′ =
     claim m m′ (record { entries = type-and-title-once m′ device limit′ output′ memory′ e′; names = names-once m′ device limit′ output′ memory′ e′ })
-    (onto-same (Differs m m′) (catalogs (Differs m m′) (results (final-related m m′ device t limit limit′ output output′ memory memory′) e e′)) emptyBoth)
+    (onto-same (between m m′) (catalogs (between m m′) (results (final-related m m′ device t limit limit′ output output′ memory memory′) e e′)) emptyBoth)
 
 -- an accepted compile has a final state, whose catalog it gives
 record Accepted (m device : List ℕ) (limit output memory : ℕ) (c : Compiled) : Type 0 where
@@ -158,10 +159,10 @@ length-said h = ap lengthSaid h
 record Written (m device : List ℕ) (limit output memory n : ℕ) : Type 0 where
   result : Compiled
   accepts : compiled m device limit output memory ≡ done result
-  begins : take n (compile m device limit output memory .output) ≡ result .catalog
+  begins : take n (compile m device limit output memory .outputAfter) ≡ result .catalog
 
 written : (m device : List ℕ) (limit output memory n s : ℕ) → compile m device limit output memory .answer ≡ Catalog n s → Written m device limit output memory n
-unfolding compile answerOf outputAfter
+unfolding compile answerOf outputOf
 written m device limit output memory n s h = go (compiled m device limit output memory) refl h
   where
     go : (o : Outcome Compiled) → compiled m device limit output memory ≡ o → answerOf o ≡ Catalog n s → Written m device limit output memory n
@@ -175,7 +176,7 @@ written m device limit output memory n s h = go (compiled m device limit output 
 -- what two calls answered and left, in full: if each is what the definition says and both name a catalog, the claim holds of what the outputs begin with
 pub edit-rule-calls : (m m′ device : List ℕ) → IsBytes m → IsBytes m′ → oneTree m m′ ≡ true → (limit limit′ output output′ memory memory′ n n′ s s′ : ℕ) (e e′ : Effect)
     → e ≡ compile m device limit output memory → e′ ≡ compile m′ device limit′ output′ memory′ → e .answer ≡ Catalog n s → e′ .answer ≡ Catalog n′ s′
-    → Claim m m′ (readCatalog (take n (e .output))) (readCatalog (take n′ (e′ .output)))
+    → Claim m m′ (readCatalog (take n (e .outputAfter))) (readCatalog (take n′ (e′ .outputAfter)))
 edit-rule-calls m m′ device b b′ t limit limit′ output output′ memory memory′ n n′ s s′ e e′ q q′ h h′ =
     let w = written m device limit output memory n s (rw q at h) in
     let w′ = written m′ device limit′ output′ memory′ n′ s′ (rw q′ at h′) in

@@ -1,6 +1,6 @@
 -- An expression in two runs of one tree: both sets are high, that is, hold a label of a differing constant; or value and set are the same.
 use Prim.Native.Nat.{ℕ}
-use mathlib.Core.Path.{_≡_, refl, ap, _∙_}
+use mathlib.Core.Path.{_≡_, refl, sym, ap, _∙_}
 use mathlib.Core.Logic.{inl, inr}
 use mathlib.Core.Bool.{Bool, true, false, _||_, Bool·beq, true≢false}
 use mathlib.Core.List.{List, [], _∷_}
@@ -13,20 +13,20 @@ use Rattle.labels.proofs.Laws.{has-own, has-union}
 use Rattle.values.specs.declared.Value.{Value}
 use Rattle.values.specs.declared.Labelled.{Labelled}
 use Rattle.values.specs.declared.Reason.{Reason}
-use Rattle.rules.specs.Outcome.{Outcome, _>>=_, orRefuse, Result, at, joining, _▷_}
+use Rattle.rules.specs.Outcome.{Outcome, _>>=_, orRefuse, Result, at, under, joining}
 use Rattle.rules.specs.Arithmetic.{integerIn, stringIn, booleanIn, sum, difference, quotient, isGreater, sameValue}
 use Rattle.rules.specs.Tree.{Constant, Operator, plus, minus, divide, greater, equal, and, or, Expression, Arms}
 use Rattle.rules.specs.State.{Scope, topScope, classScope, DeclaredClass, upward, Cell, Cells, Attribute, Entry, State, Context, Known, scopesTried}
-use Rattle.rules.specs.Evaluate.{any, firstWith, isEntry, isAttribute, orElse, readIn, readAttribute, integers, booleans, operate, ofConstant, evaluate, select}
-use Rattle.rules.proofs.Same.{High, Pairwise, nonePaired, paired, Optional, bothNone, bothSome, SameConstant, sameConstant, SameExpression, sameConstants, sameVariable, sameTopVariable, sameClassVariable, sameOperation, sameNegation, sameAttributeRead, sameSelector, sameUnreadable, SameArms, sameNoArm, sameArm, sameDefaultArm}
+use Rattle.rules.specs.Evaluate.{any, firstWith, isEntry, isAttribute, orElse, readIn, readAttribute, integers, booleans, equality, operate, ofConstant, evaluate, select}
+use Rattle.rules.proofs.Same.{Edit, High, Pairwise, nonePaired, paired, Optional, bothNone, bothSome, SameConstant, sameConstant, SameExpression, sameConstants, sameVariable, sameTopVariable, sameClassVariable, sameOperation, sameNegation, sameAttributeRead, sameSelector, sameUnreadable, SameArms, sameNoArm, sameArm, sameDefaultArm}
 use Rattle.rules.proofs.Outcome.{All, allDone, allAny, Two, leftRefused, rightRefused, bothDone, apart, twoBind, twoAny, twoAt, twoIf}
 use Rattle.rules.proofs.Lists.{either-right, or-true-left, or-true-right, Perhaps, notThere, there, Each, found}
 use Rattle.rules.proofs.Unique.{UniqueEntries, UniqueNames, unique, Key, keyOf, hasKey, only-key}
 
-module _ (D : ℕ → Type 0) where
+module _ (D : Edit) where
   -- ---- Sets: the three laws that are used from here on
 
-  pub high-one : {l : ℕ} → D l → High D (oneLabel l)
+  pub high-one : {l : ℕ} → D .differs l → High D (oneLabel l)
   high-one {l} d = record { label = l; differs = d; within = has-own l }
 
   pub high-left : {a : Labels} (b : Labels) → High D a → High D (a ∪ b)
@@ -46,29 +46,35 @@ module _ (D : ℕ → Type 0) where
 
   pub same-constant : {v w : Constant} → SameConstant D v w → SameLabelled (ofConstant v) (ofConstant w)
   unfolding ofConstant
-  same-constant (sameConstant (inl d)) = bothHigh (high-one d) (high-one d)
-  same-constant (sameConstant (inr e)) = rw e equals
+  same-constant (sameConstant z (inl d)) = bothHigh (high-one d) (high-one d)
+  same-constant (sameConstant z (inr e)) = rw e equals
 
   pub joining-high : {k : Labels} (m : Outcome Labelled) → High D k → All HighLabelled (joining k m)
   unfolding joining
   joining-high m h = allAny m λ y. allDone (high-left _ h)
 
-  joined : (k : Labels) {x y : Labelled} → SameLabelled x y → SameLabelled (record { value = x .value; labels = k ∪ x .labels }) (record { value = y .value; labels = k ∪ y .labels })
-  joined k (bothHigh h g) = bothHigh (high-right k h) (high-right k g)
-  joined k equals = equals
+  pub under-same : (k : Labels) {x y : Labelled} → SameLabelled x y → SameLabelled (under k x) (under k y)
+  under-same k (bothHigh h g) = bothHigh (high-right k h) (high-right k g)
+  under-same k equals = equals
 
   pub joining-same : (k : Labels) {m n : Outcome Labelled} → Two SameLabelled m n → Two SameLabelled (joining k m) (joining k n)
   unfolding joining
-  joining-same k r = twoBind r λ x y h. bothDone (joined k h)
+  joining-same k r = twoBind r λ x y h. bothDone (under-same k h)
 
-  -- an operand, then the rest
-  pub then-same : {m n : Outcome Labelled} {f g : Value → Outcome Labelled} → Two SameLabelled m n → ((v : Value) → Two SameLabelled (f v) (g v)) → Two SameLabelled (m ▷ f) (n ▷ g)
-  unfolding _▷_
+  -- an operand, then the rest under its set
+  pub then-same : {m n : Outcome Labelled} {f g : Labelled → Outcome Labelled} → Two SameLabelled m n → ((x : Labelled) → Two SameLabelled (f x) (g x))
+      → Two SameLabelled (m >>= λ x. joining (x .labels) (f x)) (n >>= λ x. joining (x .labels) (g x))
   then-same {f} {g} r k = twoBind r λ x y h. go h
     where
-      go : {x y : Labelled} → SameLabelled x y → Two SameLabelled (joining (x .labels) (f (x .value))) (joining (y .labels) (g (y .value)))
+      go : {x y : Labelled} → SameLabelled x y → Two SameLabelled (joining (x .labels) (f x)) (joining (y .labels) (g y))
       go (bothHigh h h′) = apart (joining-high _ h) (joining-high _ h′) λ a b p q. bothHigh p q
-      go (equals {x = x}) = joining-same _ (k (x .value))
+      go (equals {x = x}) = joining-same _ (k x)
+
+  -- a pattern, then the rest under its label
+  pattern-same : {v w : Constant} {f g : Value → Outcome Labelled} → SameConstant D v w → ((x : Value) → Two SameLabelled (f x) (g x))
+      → Two SameLabelled (joining (oneLabel (v .label)) (f (v .value))) (joining (oneLabel (w .label)) (g (w .value)))
+  pattern-same (sameConstant z (inl d)) k = apart (joining-high _ (high-one d)) (joining-high _ (high-one d)) λ a b p q. bothHigh p q
+  pattern-same (sameConstant {v = v} z (inr e)) k = rw (sym e) (joining-same _ (k v))
 
   -- ---- Cells
 
@@ -227,14 +233,14 @@ module _ (D : ℕ → Type 0) where
 
   integers-same : (f : ℤ → ℤ → Result Value) (p l r p′ l′ r′ : ℕ) (x : Value) {m n : Outcome Labelled} → Two SameLabelled m n → Two SameLabelled (integers f p l r x m) (integers f p′ l′ r′ x n)
   unfolding integers
-  integers-same f p l r p′ l′ r′ x h = twoAt l l′ (integerIn x) λ i. then-same h λ y. twoAt r r′ (integerIn y) λ j. twoAt p p′ (f i j) λ v. bothDone equals
+  integers-same f p l r p′ l′ r′ x h = twoAt l l′ (integerIn x) λ i. then-same h λ y. twoAt r r′ (integerIn (y .value)) λ j. twoAt p p′ (f i j) λ v. bothDone equals
 
   booleans-same : (d : Bool) (l r l′ r′ : ℕ) (x : Value) {m n : Outcome Labelled} → Two SameLabelled m n → Two SameLabelled (booleans d l r x m) (booleans d l′ r′ x n)
   unfolding booleans
-  booleans-same d l r l′ r′ x h = twoAt l l′ (booleanIn x) λ i. twoIf (Bool·beq i d) (bothDone equals) (then-same h λ y. twoAt r r′ (booleanIn y) λ j. bothDone equals)
+  booleans-same d l r l′ r′ x h = twoAt l l′ (booleanIn x) λ i. twoIf (Bool·beq i d) (bothDone equals) (then-same h λ y. twoAt r r′ (booleanIn (y .value)) λ j. bothDone equals)
 
   operate-same : (o : Operator) (p l r p′ l′ r′ : ℕ) (x : Value) {m n : Outcome Labelled} → Two SameLabelled m n → Two SameLabelled (operate o p l r x m) (operate o p′ l′ r′ x n)
-  unfolding operate
+  unfolding operate equality
   operate-same plus p l r p′ l′ r′ x h = integers-same sum p l r p′ l′ r′ x h
   operate-same minus p l r p′ l′ r′ x h = integers-same difference p l r p′ l′ r′ x h
   operate-same divide p l r p′ l′ r′ x h = integers-same quotient p l r p′ l′ r′ x h
@@ -267,13 +273,13 @@ module _ (D : ℕ → Type 0) where
       evaluate-same (sameVariable {p = p} {q = q} {n = n}) = rw same-scopes (read-same p q n (scopesTried c st′) (view .cells))
       evaluate-same (sameTopVariable {p = p} {q = q} {n = n}) = read-same p q n (topScope ∷ []) (view .cells)
       evaluate-same (sameClassVariable {p = p} {q = q} {c = b} {n = n}) = twoAny _ _ λ _ _. read-same p q n (classScope b ∷ []) (view .cells)
-      evaluate-same (sameOperation {o = o} a b) = then-same (evaluate-same a) λ x. operate-same o _ _ _ _ _ _ x (evaluate-same b)
-      evaluate-same (sameNegation a) = then-same (evaluate-same a) λ x. twoAt _ _ (booleanIn x) λ t. bothDone equals
-      evaluate-same (sameAttributeRead {p = p} {q = q} {t = t} {n = n} a) = then-same (evaluate-same a) λ x. twoAt _ _ (stringIn x) λ m. twoAny _ _ λ _ _. read-attribute-same p q t m n (view .catalogs) (view .once) (view .once′)
-      evaluate-same (sameSelector {p = p} {q = q} a s) = then-same (evaluate-same a) λ x. select-same s p q x
+      evaluate-same (sameOperation {o = o} a b) = then-same (evaluate-same a) λ x. operate-same o _ _ _ _ _ _ (x .value) (evaluate-same b)
+      evaluate-same (sameNegation a) = then-same (evaluate-same a) λ x. twoAt _ _ (booleanIn (x .value)) λ t. bothDone equals
+      evaluate-same (sameAttributeRead {p = p} {q = q} {t = t} {n = n} a) = then-same (evaluate-same a) λ x. twoAt _ _ (stringIn (x .value)) λ m. twoAny _ _ λ _ _. read-attribute-same p q t m n (view .catalogs) (view .once) (view .once′)
+      evaluate-same (sameSelector {p = p} {q = q} a s) = then-same (evaluate-same a) λ x. select-same s p q (x .value)
       evaluate-same sameUnreadable = leftRefused
 
       select-same : {s s′ : Arms} → SameArms D s s′ → (p q : ℕ) (x : Value) → Two SameLabelled (select k c st s p x) (select k′ c st′ s′ q x)
       select-same sameNoArm p q x = leftRefused
-      select-same (sameArm v a s) p q x = then-same (bothDone (same-constant v)) λ w. twoIf (sameValue x w) (evaluate-same a) (select-same s p q x)
+      select-same (sameArm v a s) p q x = pattern-same v λ w. twoIf (sameValue x w) (evaluate-same a) (select-same s p q x)
       select-same (sameDefaultArm a s) p q x = evaluate-same a

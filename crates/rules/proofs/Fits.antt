@@ -19,7 +19,7 @@ use Rattle.rules.specs.declared.Rest.{Rest}
 use Rattle.rules.specs.declared.Rest.the-variants.{Only, Text, Fields as Inner}
 use Rattle.rules.specs.Arithmetic.{fits64}
 use Rattle.rules.specs.Fields.{Field, field, Fields, none as noFields, more, readEach, readBody, readField, readAll, headOf, tagOf, inner, first, others}
-use Rattle.rules.specs.Tree.{Constant, Operator, Expression, constant, variable, topVariable, classVariable, operation, negation, attributeRead, selector, Arms, noArm, arm, defaultArm, AttributeField, Statement, assignment, conditional, choice, resource, defined, class, include, Block, end, next, Branches, noBranch, branch, defaultBranch, Parameter, Parent, TypeDefinition, ClassDefinition, Definition, typeDefinition, classDefinition, Devices, named, byDefault, Item, statement, node, definition}
+use Rattle.rules.specs.Tree.{Constant, Operator, Expression, constant, variable, topVariable, classVariable, operation, negation, attributeRead, selector, Arms, noArm, arm, defaultArm, AttributeField, Statement, assignment, conditional, choice, builtInResource, definedResource, classWithAttributes, include, Block, end, next, Branches, noBranch, branch, defaultBranch, Parameter, Parent, TypeDefinition, ClassDefinition, Definition, typeDefinition, classDefinition, Devices, named, byDefault, Item, statement, node, definition}
 use Rattle.rules.specs.Tree
 use Rattle.rules.specs.Read.{number, signed64, valueFrom, constantFrom, isDefault, entryFor, ExpressionTag, aConstant, aVariable, aTopVariable, aClassVariable, anOperation, aNegation, anAttributeRead, aSelector, noExpression, expressionTags, armFrom, armsFrom, expressionBy, expressionIn, expressionFrom, attributeFrom, attributesFrom, StatementTag, anAssignment, aConditional, aChoice, aResource, aDefined, aClass, anInclude, noStatement, statementTags, branchFrom, branchesFrom, statementBy, statementIn, statementsFrom, blockIn, blockFrom, defaultFrom, parameterFrom, parametersFrom, lastOf, lastBlock, parentFrom, afterParent, namesFrom, devicesFrom, ItemTag, aNode, aTypeDefinition, aClassDefinition, aStatement, itemTags, itemBy, itemFrom, itemsFrom, manifestFrom, manifestOf}
 use Rattle.rules.specs.EditRule.{IsBytes}
@@ -41,7 +41,7 @@ module _ (Given : Type 0) where
 
   mutual
     pub data FitsExpression : Expression → Type 0 where
-      fitsConstant : {p : ℕ} {v : Constant} → FitsConstant v → FitsExpression (constant p v)
+      fitsConstant : {v : Constant} → FitsConstant v → FitsExpression (constant v)
       fitsVariable : {p n : ℕ} → FitsName n → FitsExpression (variable p n)
       fitsTopVariable : {p n : ℕ} → FitsName n → FitsExpression (topVariable p n)
       fitsClassVariable : {p q n : ℕ} → FitsName q → FitsName n → FitsExpression (classVariable p q n)
@@ -65,9 +65,9 @@ module _ (Given : Type 0) where
       fitsAssignment : {p n : ℕ} {e : Expression} → FitsName n → FitsExpression e → FitsStatement (assignment p n e)
       fitsConditional : {p : ℕ} {e : Expression} {a b : Block} → FitsExpression e → FitsBlock a → FitsBlock b → FitsStatement (conditional p e a b)
       fitsChoice : {p : ℕ} {e : Expression} {bs : Branches} → FitsExpression e → FitsBranches bs → FitsStatement (choice p e bs)
-      fitsResource : {p t : ℕ} {e : Expression} {ats : List AttributeField} → FitsName t → FitsExpression e → Each FitsAttributeField ats → FitsStatement (resource p t e ats)
-      fitsDefined : {p t : ℕ} {e : Expression} {ats : List AttributeField} → FitsName t → FitsExpression e → Each FitsAttributeField ats → FitsStatement (defined p t e ats)
-      fitsClass : {p q : ℕ} {ats : List AttributeField} → FitsName q → Each FitsAttributeField ats → FitsStatement (class p q ats)
+      fitsResource : {p t : ℕ} {e : Expression} {ats : List AttributeField} → FitsName t → FitsExpression e → Each FitsAttributeField ats → FitsStatement (builtInResource p t e ats)
+      fitsDefined : {p t : ℕ} {e : Expression} {ats : List AttributeField} → FitsName t → FitsExpression e → Each FitsAttributeField ats → FitsStatement (definedResource p t e ats)
+      fitsClass : {p q : ℕ} {ats : List AttributeField} → FitsName q → Each FitsAttributeField ats → FitsStatement (classWithAttributes p q ats)
       fitsInclude : {p q : ℕ} → FitsName q → FitsStatement (include p q)
       fitsUnreadableStatement : {p : ℕ} → FitsStatement (Statement.unreadable p)
 

@@ -10,11 +10,11 @@ use Rattle.labels.specs.declared.Labels.{Labels}
 use Rattle.values.specs.declared.Value.{Value}
 use Rattle.values.specs.declared.Labelled.{Labelled}
 use Rattle.rules.specs.Arithmetic.{sameValue}
-use Rattle.rules.specs.Tree.{Statement, assignment, conditional, choice, resource, defined, class, include, Block, end, next, Branches, noBranch, branch, defaultBranch}
+use Rattle.rules.specs.Tree.{Statement, assignment, conditional, choice, builtInResource, definedResource, classWithAttributes, include, Block, end, next, Branches, noBranch, branch, defaultBranch}
 use Rattle.rules.specs.Tree
 use Rattle.rules.specs.State.{Scope, sameScope, DeclaredClass, Cell, Cells, Entry, State, Context, Known, valueInto, markInto, assign, trailWith, tested, withEntry}
 use Rattle.rules.specs.Run.{assigns, assignsIn, assignsAny, declares, declaresIn, declaresAny, inBranch, store, addEntry, addResource, afterTest, Declare, run, runBlock, runBranch}
-use Rattle.rules.proofs.Same.{High}
+use Rattle.rules.proofs.Same.{Edit, High}
 use Rattle.rules.proofs.Outcome.{All, allRefused, allDone, allBind, allAny, allThen, allMap, allIf, allStep, withSteps}
 use Rattle.rules.proofs.Lists.{either-left, either-right, or-true-left, or-true-right, both-left, both-right, scope-only}
 use Rattle.rules.proofs.Evaluation.{high-right}
@@ -22,7 +22,7 @@ use Rattle.rules.proofs.Evaluation.{high-right}
 abbrev pub mk : Cells → ℕ → (ℕ → Option DeclaredClass) → Labels → List Entry → ℕ → ℕ → State
 mk c u q t es n r = record { cells = c; used = u; classes = q; trail = t; entries = es; stepsLeft = n; room = r }
 
-module _ (D : ℕ → Type 0) where
+module _ (D : Edit) where
   -- ---- Cells that have changed only where the mark is high
 
   pub data Keeps : Cell → Cell → Type 0 where
@@ -93,9 +93,9 @@ module _ (D : ℕ → Type 0) where
           allThen _ _ _
           (let f = tested-frame (c .scope) (assignsAny bs) (declaresAny bs) _ st i m in
           allMap (branch-frame bs (x .value) _ _ (high-right D _ h) i (frame-marked (c .scope) (assignsAny bs) f m)) λ st′ g. frame-trans f g)
-      run-frame (resource p t e fs) c st h i m = allAny _ λ x. allAny _ λ l. allAny _ λ gs. allAny _ λ _. allAny _ λ _. allAny _ λ _. allAny _ λ _. allDone (frame λ s n. keptCell)
-      run-frame (defined p t e fs) c st h i m = absurd (true≢false i)
-      run-frame (class p q fs) c st h i m = absurd (true≢false i)
+      run-frame (builtInResource p t e fs) c st h i m = allAny _ λ x. allAny _ λ l. allAny _ λ gs. allAny _ λ _. allAny _ λ _. allAny _ λ _. allAny _ λ _. allDone (frame λ s n. keptCell)
+      run-frame (definedResource p t e fs) c st h i m = absurd (true≢false i)
+      run-frame (classWithAttributes p q fs) c st h i m = absurd (true≢false i)
       run-frame (include p q) c st h i m = absurd (true≢false i)
       run-frame (Statement.unreadable p) c st h i m = allRefused
 

@@ -19,10 +19,10 @@ use Rattle.values.specs.declared.Reason.the-variants.{StepLimit}
 use Rattle.rules.specs.Outcome.{refused, done}
 use Rattle.rules.specs.Arithmetic.{sameValue}
 use Rattle.rules.specs.Tree.{Constant, Expression, AttributeField, Statement, Block, Branches, noBranch, branch, defaultBranch, Parameter, Parent, TypeDefinition, ClassDefinition, Definition, Item}
-use Rattle.rules.specs.State.{Scope, sameScope, bodyScope, DeclaredClass, Cell, noCell, valueInto, markInto, freed, Entry, State, Context, Known, isDeclared, takeStep, assign, trailWith, tested, declared, free, withEntry}
+use Rattle.rules.specs.State.{Scope, sameScope, bodyScope, DeclaredClass, Cell, noCell, valueInto, markInto, freed, Entry, State, Context, Known, isDeclared, takeStep, assign, trailWith, tested, markDeclared, free, withEntry}
 use Rattle.rules.specs.Evaluate.{any, isEntry, findType, findClass, evaluate}
 use Rattle.rules.specs.Catalog.{entryBytes, catalogBytes}
-use Rattle.rules.specs.Run.{assignsIn, assignsAny, declaresIn, declaresAny, storedLabels, conditionLabels, inBranch, stored, store, Given as GivenValue, isGiven, evaluateAll, defaultOf, givenOr, parameterValues, storeAll, storeTitle, attributesUnder, entryFrom, addEntry, addResource, triedLabels, afterTest, Declaration, ofType, ofClass, included, Declare, statementPlace, run, runBlock, runBranch, placedUnder, inClass, inBody, parentFirst, enterClass, declaration, runAtTop, topContext, nodeContext, withDefinition, runItems}
+use Rattle.rules.specs.Run.{assignsIn, assignsAny, declaresIn, declaresAny, pathAndTrail, withPathAndTrail, inBranch, stored, store, Given as GivenValue, isGiven, evaluateAll, defaultOf, givenOr, parameterValues, storeAll, storeTitle, attributesUnder, entryFrom, addEntry, addResource, triedLabels, afterTest, Declaration, ofType, ofClass, included, Declare, statementPlace, run, runBlock, runBranch, placedUnder, inClass, inBody, parentFirst, enterClass, declaration, runAtTop, topContext, nodeContext, withDefinition, runItems}
 use Rattle.rules.proofs.Lists.{Perhaps, notThere, there, Each, noneLeft, also, found}
 use Rattle.rules.proofs.Outcome.{All, allRefused, allDone, allBind, allAny, allIf, allPassed, allFound, allAt}
 use Rattle.rules.proofs.ReadBack.{FitsAttribute, FitsEntry}
@@ -102,8 +102,8 @@ module _ (Given : Type 0) (limit room : ℕ) where
     trail = trail-fits declares k (st .trail) f (h .trail);
   }
 
-  declared-sound : (q : ℕ) (d : DeclaredClass) (st : State) → Sound st → Sound (declared q d st)
-  unfolding declared
+  declared-sound : (q : ℕ) (d : DeclaredClass) (st : State) → Sound st → Sound (markDeclared q d st)
+  unfolding markDeclared
   declared-sound q d st h = record { steps = h .steps; bytes = h .bytes; once = h .once; namesOnce = h .namesOnce; cells = h .cells; trail = h .trail; entries = h .entries }
 
   free-sound : (s : Scope) (st : State) → Sound st → Sound (free s st)
@@ -146,17 +146,12 @@ module _ (Given : Type 0) (limit room : ℕ) where
   abbrev pub PathFits : Context → Type 0
   PathFits c = Given → Words64 (c .path)
 
-  -- labels with the path and the trail joined: of what is stored, and of a condition
-  joined-fit : (c : Context) (st : State) (k : Labels) → PathFits c → Sound st → (Given → Words64 k) → Given → Words64 (k ∪ (c .path ∪ st .trail))
-  joined-fit c st k w h f = λ y. words-union k (c .path ∪ st .trail) (f y) (words-union (c .path) (st .trail) (w y) (h .trail y))
+  path-and-trail-fit : (c : Context) (st : State) (k : Labels) → PathFits c → Sound st → (Given → Words64 k) → Given → Words64 (pathAndTrail c st ∪ k)
+  path-and-trail-fit c st k w h f = λ y. words-union (pathAndTrail c st) k (words-union (c .path) (st .trail) (w y) (h .trail y)) (f y)
 
-  stored-labels-fit : (c : Context) (st : State) (k : Labels) → PathFits c → Sound st → (Given → Words64 k) → Given → Words64 (storedLabels c st k)
-  unfolding storedLabels
-  stored-labels-fit = joined-fit
-
-  condition-labels-fit : (c : Context) (st : State) (k : Labels) → PathFits c → Sound st → (Given → Words64 k) → Given → Words64 (conditionLabels c st k)
-  unfolding conditionLabels
-  condition-labels-fit = joined-fit
+  with-path-and-trail-fit : (c : Context) (st : State) (k : Labels) → PathFits c → Sound st → (Given → Words64 k) → Given → Words64 (withPathAndTrail c st k)
+  unfolding withPathAndTrail
+  with-path-and-trail-fit = path-and-trail-fit
 
   branch-path-fits : (k : Labels) (c : Context) → (Given → Words64 k) → PathFits c → PathFits (inBranch k c)
   unfolding inBranch
@@ -165,7 +160,7 @@ module _ (Given : Type 0) (limit room : ℕ) where
   store-sound : (c : Context) (p n : ℕ) (x : Labelled) (st : State) → Ranged Given x → PathFits c → Sound st → All Sound (store c p n x st)
   unfolding store stored
   store-sound c p n x st f w h =
-      assign-sound p (c .scope) n (stored c st x) st (λ y. record { value = f y .value; labels = stored-labels-fit c st (x .labels) w h (λ z. f z .labels) y }) h
+      assign-sound p (c .scope) n (stored c st x) st (λ y. record { value = f y .value; labels = path-and-trail-fit c st (x .labels) w h (λ z. f z .labels) y }) h
 
   store-all-sound : (c : Context) {gs : List GivenValue} (st : State) → Each GivenFits gs → PathFits c → Sound st → All Sound (storeAll c gs st)
   unfolding storeAll
@@ -208,21 +203,21 @@ module _ (Given : Type 0) (limit room : ℕ) where
 
   attributes-fit : (k : Labels) (c : Context) (st : State) {gs : List GivenValue} → (Given → Words64 k) → PathFits c → Sound st → Each GivenFits gs
       → Given → Each FitsAttribute (attributesUnder k c st gs)
-  unfolding attributesUnder
+  unfolding attributesUnder stored
   attributes-fit k c st l w h noneLeft y = noneLeft
   attributes-fit k c st l w h (also {x = g} f fs) y =
-      let set : Words64 (storedLabels c st (g .content .labels)) = stored-labels-fit c st (g .content .labels) w h (λ z. f .content z .labels) y in
-      also (record { name = f .name y; content = record { value = f .content y .value; labels = words-union (storedLabels c st (g .content .labels)) k set (l y) } })
+      let set : Words64 (pathAndTrail c st ∪ g .content .labels) = path-and-trail-fit c st (g .content .labels) w h (λ z. f .content z .labels) y in
+      also (record { name = f .name y; content = record { value = f .content y .value; labels = words-union k (pathAndTrail c st ∪ g .content .labels) (l y) set } })
       (attributes-fit k c st l w h fs y)
 
   resource-sound : (k : Known) (p t m : ℕ) (l : Labels) {gs : List GivenValue} (c : Context) (st : State)
       → FitsName Given t → FitsName Given m → (Given → Words64 l) → Each GivenFits gs → PathFits c → Sound st → All Sound (addResource k p t m l gs c st)
   unfolding addResource entryFrom
   resource-sound k p t m l {gs} c st tf mf lf gf w h =
-      let set : Given → Words64 (storedLabels c st l) = stored-labels-fit c st l w h lf in
+      let set : Given → Words64 (withPathAndTrail c st l) = with-path-and-trail-fit c st l w h lf in
       allAny _ λ _. allBind (allPassed (any (isEntry t m) (st .entries)) _ _) λ _ new. allBind (named-once gs) λ _ names.
-      entry-sound p (entryFrom t m l c st gs) st new (unique-under (storedLabels c st l) c st names)
-      (λ y. record { type = tf y; title = mf y; labels = set y; attributes = attributes-fit (storedLabels c st l) c st set w h gf y }) h
+      entry-sound p (entryFrom t m l c st gs) st new (unique-under (withPathAndTrail c st l) c st names)
+      (λ y. record { type = tf y; title = mf y; labels = set y; attributes = attributes-fit (withPathAndTrail c st l) c st set w h gf y }) h
 
   -- ---- Statements
 
@@ -257,18 +252,18 @@ module _ (Given : Type 0) (limit room : ℕ) where
       run-sound (fitsAssignment {p = p} {n = n} _ e) c st w h = allBind (value-fits k c st e h) λ x f. store-sound c p n x st f w h
       run-sound (fitsConditional {p = p} {a = a} {b = b} e fa fb) c st w h =
           allBind (value-fits k c st e h) λ x f. allAny _ λ t.
-          let l : Given → Words64 (conditionLabels c st (x .labels)) = condition-labels-fit c st (x .labels) w h (λ y. f y .labels) in
-          let w′ : PathFits (inBranch (conditionLabels c st (x .labels)) c) = branch-path-fits (conditionLabels c st (x .labels)) c l w in
-          allBind (after-test-sound p c (λ n. assignsIn a n || assignsIn b n) (declaresIn a || declaresIn b) (conditionLabels c st (x .labels)) st l h) λ st′ h′.
-          allIf t (block-sound fa (inBranch (conditionLabels c st (x .labels)) c) st′ w′ h′) (block-sound fb (inBranch (conditionLabels c st (x .labels)) c) st′ w′ h′)
+          let l : Given → Words64 (withPathAndTrail c st (x .labels)) = with-path-and-trail-fit c st (x .labels) w h (λ y. f y .labels) in
+          let w′ : PathFits (inBranch (withPathAndTrail c st (x .labels)) c) = branch-path-fits (withPathAndTrail c st (x .labels)) c l w in
+          allBind (after-test-sound p c (λ n. assignsIn a n || assignsIn b n) (declaresIn a || declaresIn b) (withPathAndTrail c st (x .labels)) st l h) λ st′ h′.
+          allIf t (block-sound fa (inBranch (withPathAndTrail c st (x .labels)) c) st′ w′ h′) (block-sound fb (inBranch (withPathAndTrail c st (x .labels)) c) st′ w′ h′)
       run-sound (fitsChoice {p = p} {bs = bs} e fb) c st w h =
           allBind (value-fits k c st e h) λ x f.
           let set : Labels = x .labels ∪ triedLabels bs (x .value) in
-          let l : Given → Words64 (conditionLabels c st set) =
-          condition-labels-fit c st set w h (λ y. words-union (x .labels) (triedLabels bs (x .value)) (f y .labels) (tried-labels-fit bs (x .value))) in
-          let w′ : PathFits (inBranch (conditionLabels c st set) c) = branch-path-fits (conditionLabels c st set) c l w in
-          allBind (after-test-sound p c (assignsAny bs) (declaresAny bs) (conditionLabels c st set) st l h) λ st′ h′.
-          branch-sound fb (x .value) (inBranch (conditionLabels c st set) c) st′ w′ h′
+          let l : Given → Words64 (withPathAndTrail c st set) =
+          with-path-and-trail-fit c st set w h (λ y. words-union (x .labels) (triedLabels bs (x .value)) (f y .labels) (tried-labels-fit bs (x .value))) in
+          let w′ : PathFits (inBranch (withPathAndTrail c st set) c) = branch-path-fits (withPathAndTrail c st set) c l w in
+          allBind (after-test-sound p c (assignsAny bs) (declaresAny bs) (withPathAndTrail c st set) st l h) λ st′ h′.
+          branch-sound fb (x .value) (inBranch (withPathAndTrail c st set) c) st′ w′ h′
       run-sound (fitsResource {p = p} {t = t} tf e fs) c st w h =
           allBind (value-fits k c st e h) λ x f. allBind (allAt _ (string-fits Given (x .value) (λ y. f y .value))) λ m mf.
           allBind (given-fits k c st fs h) λ gs gf. resource-sound k p t m (x .labels) c st tf mf (λ y. f y .labels) gf w h
@@ -300,7 +295,7 @@ module _ (Given : Type 0) (limit room : ℕ) where
     unfolding enterClass inClass
     enter-sound {d} f g c st w h =
         let above : DeclaredClass = placedUnder (d .parent) c st in
-        allBind (store-all-sound (inClass (d .name) above c) (declared (d .name) above st) g w (declared-sound (d .name) above st h)) λ st′ h′.
+        allBind (store-all-sound (inClass (d .name) above c) (markDeclared (d .name) above st) g w (declared-sound (d .name) above st h)) λ st′ h′.
         block-sound (f .body) (inClass (d .name) above c) st′ w h′
 
   type-found : (n : ℕ) {ds : List Definition} → Each (FitsDefinition Given) ds → Perhaps (FitsType Given) (findType n ds)

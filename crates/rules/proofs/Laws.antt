@@ -9,7 +9,7 @@ use native.Mathlib.Omega.{arith}
 use lib.ListN.{length, length-append}
 use Rattle.labels.proofs.Laws.{words-none}
 use Rattle.rules.specs.Outcome.{done}
-use Rattle.rules.specs.Tree.{Devices, Item, node}
+use Rattle.rules.specs.Tree.{Devices, Item, statement, node, definition}
 use Rattle.rules.specs.Read.{manifestOf}
 use Rattle.rules.specs.State.{Attribute, Entry, State}
 use Rattle.rules.specs.Evaluate.{any, isEntry, isAttribute}
@@ -19,39 +19,41 @@ use Rattle.rules.specs.EditRule.{oneMore, howMany, IsBytes}
 use Rattle.rules.proofs.Lists.{Each, noneLeft, also, each-member, each-apply}
 use Rattle.rules.proofs.Outcome.{All, allDone, allBind, allAny, allGet}
 use Rattle.rules.proofs.ReadBack.{read-back}
-use Rattle.rules.proofs.Fits.{FitsItem, fitsStatementItem, fitsNode, fitsDefinitionItem, manifest-fits}
+use Rattle.rules.proofs.Fits.{manifest-fits}
 use Rattle.rules.proofs.Unique.{uniqueNone, entry-once, name-once}
 use Rattle.rules.proofs.Invariant.{Sound, no-cell-fits, items-sound}
 
 -- ---- The state at the start and at the end
 
-module _ (Given : Type 0) where
-  without-nodes-fit : {is : List Item} → Each (FitsItem Given) is → Each (FitsItem Given) (withoutNodes is)
+-- the items that run for a device are among the items
+module _ {P : Item → Type 0} where
+  without-nodes-each : {is : List Item} → Each P is → Each P (withoutNodes is)
   unfolding withoutNodes
-  without-nodes-fit noneLeft = noneLeft
-  without-nodes-fit (also (fitsStatementItem f) fs) = also (fitsStatementItem f) (without-nodes-fit fs)
-  without-nodes-fit (also (fitsNode d f) fs) = without-nodes-fit fs
-  without-nodes-fit (also (fitsDefinitionItem f) fs) = also (fitsDefinitionItem f) (without-nodes-fit fs)
+  without-nodes-each noneLeft = noneLeft
+  without-nodes-each (also {x = statement s} p ps) = also p (without-nodes-each ps)
+  without-nodes-each (also {x = node ds b} p ps) = without-nodes-each ps
+  without-nodes-each (also {x = definition d} p ps) = also p (without-nodes-each ps)
 
-  with-node-fits : (f : Devices → Bool) {is : List Item} → Each (FitsItem Given) is → Each (FitsItem Given) (withNode f is)
+  with-node-each : (f : Devices → Bool) {is : List Item} → Each P is → Each P (withNode f is)
   unfolding withNode
-  with-node-fits f noneLeft = noneLeft
-  with-node-fits f (also (fitsStatementItem g) gs) = also (fitsStatementItem g) (with-node-fits f gs)
-  with-node-fits f (also {xs = is} (fitsNode {ds = ds} {b = b} d g) gs) = go (f ds) (with-node-fits f gs)
+  with-node-each f noneLeft = noneLeft
+  with-node-each f (also {x = statement s} p ps) = also p (with-node-each f ps)
+  with-node-each f (also {x = node ds b} {xs = is} p ps) = go (f ds) (with-node-each f ps)
     where
-      go : (x : Bool) {js : List Item} → Each (FitsItem Given) js → Each (FitsItem Given) (elim x [ true ↦ node ds b ∷ withoutNodes is | false ↦ js ])
-      go true r = also (fitsNode d g) (without-nodes-fit gs)
+      go : (x : Bool) {js : List Item} → Each P js → Each P (elim x [ true ↦ node ds b ∷ withoutNodes is | false ↦ js ])
+      go true r = also p (without-nodes-each ps)
       go false r = r
-  with-node-fits f (also (fitsDefinitionItem g) gs) = also (fitsDefinitionItem g) (with-node-fits f gs)
+  with-node-each f (also {x = definition d} p ps) = also p (with-node-each f ps)
 
-  items-for-fit : (ss : List (List ℕ)) (device : List ℕ) {is : List Item} → Each (FitsItem Given) is → Each (FitsItem Given) (itemsFor ss device is)
+  pub items-for-each : (ss : List (List ℕ)) (device : List ℕ) {is : List Item} → Each P is → Each P (itemsFor ss device is)
   unfolding itemsFor
-  items-for-fit ss device {is} fs = go (any (isNode (names ss device)) is)
+  items-for-each ss device {is} ps = go (any (isNode (names ss device)) is)
     where
-      go : (x : Bool) → Each (FitsItem Given) (elim x [ true ↦ withNode (names ss device) is | false ↦ withNode isDefaultNode is ])
-      go true = with-node-fits (names ss device) fs
-      go false = with-node-fits isDefaultNode fs
+      go : (x : Bool) → Each P (elim x [ true ↦ withNode (names ss device) is | false ↦ withNode isDefaultNode is ])
+      go true = with-node-each (names ss device) ps
+      go false = with-node-each isDefaultNode ps
 
+module _ (Given : Type 0) where
   start-sound : (limit output : ℕ) → Sound Given limit (roomIn output) (start limit output)
   unfolding start catalogBytes
   start-sound limit output = record {
@@ -75,7 +77,7 @@ pub final-sound : (m device : List ℕ) (limit output memory : ℕ) → All (Sou
 unfolding finalState runManifest knownFirst
 final-sound m device limit output memory =
     allAny _ λ _. allAny _ λ _. allAny _ λ _.
-    items-sound (IsBytes m) limit (roomIn output) (knownFirst (manifestOf m .strings)) noneLeft (items-for-fit (IsBytes m) (manifestOf m .strings) device (manifest-fits m))
+    items-sound (IsBytes m) limit (roomIn output) (knownFirst (manifestOf m .strings)) noneLeft (items-for-each (manifestOf m .strings) device (manifest-fits m))
     (start limit output) (start-sound (IsBytes m) limit output)
 
 -- ---- Entries in order: the same entries

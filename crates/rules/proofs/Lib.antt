@@ -10,6 +10,8 @@ pub mod ReadBack
 pub mod Fits
 pub mod Ranges
 pub mod Invariant
+pub mod Counting
+pub mod Scopes
 pub mod Laws
 pub mod Within
 pub mod WriteBack

@@ -7,6 +7,7 @@ use mathlib.Core.Option.{Option, none, some}
 use lib.Dec.{T, eqb, eqb→eq, eqb-refl}
 use Rattle.rules.specs.State.{Scope, topScope, nodeScope, classScope, bodyScope, sameScope}
 use Rattle.rules.specs.Evaluate.{firstWith}
+pub use Rattle.rules.specs.Ranges.{Each, noneLeft, also}
 
 -- ---- Booleans
 
@@ -81,10 +82,6 @@ pub data Perhaps {A : Type 0} (P : A → Type 0) : Option A → Type 0 where
   there : {x : A} → P x → Perhaps P (some x)
 
 -- ---- Each element of a list
-
-pub data Each {A : Type 0} (P : A → Type 0) : List A → Type 0 where
-  noneLeft : Each P []
-  also : {x : A} {xs : List A} → P x → Each P xs → Each P (x ∷ xs)
 
 pub each-member : {A : Type 0} {P : A → Type 0} {x : A} {xs : List A} → Each P xs → List·Memᴰ x xs → P x
 each-member {P} (also p ps) (List·Memᴰ·head e) = subst P (sym e) p

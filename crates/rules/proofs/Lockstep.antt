@@ -16,16 +16,16 @@ use Rattle.rules.specs.Outcome.{Outcome, _>>=_, refuseIf}
 use Rattle.rules.specs.Arithmetic.{sameValue}
 use Rattle.rules.specs.Tree.{Constant, AttributeField, Statement, Block, Branches, branch}
 use Rattle.rules.specs.State.{Scope, sameScope, DeclaredClass, Cell, Cells, Entry, State, Context, Known, isDeclared, valueInto, markInto, assign, trailWith, tested, withEntry}
-use Rattle.rules.specs.Run.{assigns, assignsIn, assignsAny, declares, declaresIn, declaresAny, storedLabels, conditionLabels, inBranch, stored, store, Given, evaluateAll, attributesUnder, entryFrom, addEntry, addResource, triedLabels, afterTest, Declaration, ofType, ofClass, included, Declare, run, runBlock, runBranch}
-use Rattle.rules.proofs.Same.{High, Pairwise, nonePaired, paired, bothSome, sameConstant, SameAttributeField, sameAttributeField, SameStatement, sameAssignment, sameConditional, sameChoice, sameResource, sameDefined, sameClass, sameInclude, sameUnreadableStatement, SameBlock, sameEnd, sameNext, SameBranches, sameNoBranch, sameBranch, sameDefaultBranch}
+use Rattle.rules.specs.Run.{assigns, assignsIn, assignsAny, declares, declaresIn, declaresAny, withPathAndTrail, inBranch, stored, store, Given, evaluateAll, attributesUnder, entryFrom, addEntry, addResource, triedLabels, afterTest, Declaration, ofType, ofClass, included, Declare, run, runBlock, runBranch}
+use Rattle.rules.proofs.Same.{Edit, High, Pairwise, nonePaired, paired, bothSome, sameConstant, SameAttributeField, sameAttributeField, SameStatement, sameAssignment, sameConditional, sameChoice, sameResource, sameDefined, sameClass, sameInclude, sameUnreadableStatement, SameBlock, sameEnd, sameNext, SameBranches, sameNoBranch, sameBranch, sameDefaultBranch}
 use Rattle.rules.proofs.Outcome.{All, allThen, allMap, allBoth, allIf, allPassed, Two, leftRefused, rightRefused, bothDone, apart, twoBind, twoAny, twoAll, twoThen, twoAt, twoIf, twoStep}
 use Rattle.rules.proofs.Lists.{or-true-left, or-true-right, either-left, either-right, both-true, scope-same}
 use Rattle.rules.proofs.Unique.{UniqueEntries, unique, named-once, unique-under}
-use Rattle.rules.proofs.Evaluation.{high-one, high-left, high-right, SameLabelled, bothHigh, equals, SameCell, highCell, lowCell, SameCells, SameAttribute, sameAttribute, sameEntry, SameCatalog, entryBoth, entryLeft, entryRight, SameView, evaluate-same}
+use Rattle.rules.proofs.Evaluation.{high-one, high-left, high-right, under-same, SameLabelled, bothHigh, equals, SameCell, highCell, lowCell, SameCells, SameAttribute, sameAttribute, sameEntry, SameCatalog, entryBoth, entryLeft, entryRight, SameView, evaluate-same}
 use Rattle.rules.proofs.Quiet.{Growth, growth-left, growth-right, growth-unique, QuietFrom, QuietDeclare, entry-high, block-quiet, branch-quiet}
 use Rattle.rules.proofs.Frame.{mk, Keeps, keptCell, markedCell, keeps-high, Frame, frame, FrameFrom, block-frame, branch-frame}
 
-module _ (D : ℕ → Type 0) where
+module _ (D : Edit) where
   -- ---- Related states
 
   -- one set of declared classes and one trail: the same variables on both sides, so that no equation is carried
@@ -130,18 +130,14 @@ module _ (D : ℕ → Type 0) where
   evaluate-all-same k k′ c v nonePaired = bothDone nonePaired
   evaluate-all-same k k′ c v (paired (sameAttributeField e) r) = twoBind (evaluate-same D k k′ c v e) λ x y h. twoBind (evaluate-all-same k k′ c v r) λ gs gs′ g. bothDone (paired (sameGiven h) g)
 
-  add-labels : (k : Labels) {x y : Labelled} → SameLabelled D x y → SameLabelled D (record { value = x .value; labels = x .labels ∪ k }) (record { value = y .value; labels = y .labels ∪ k })
-  add-labels k (bothHigh h g) = bothHigh (high-left D k h) (high-left D k g)
-  add-labels k equals = equals
-
   pub store-low : (c : Context) (p q n : ℕ) {x y : Labelled} {st st′ : State} → SameLabelled D x y → Low st st′ → Two Related (store c p n x st) (store c q n y st′)
-  unfolding store assign stored storedLabels
-  store-low c p q n w (low {t = t} hc hk u u′) = twoAny _ _ λ _ _. twoAny _ _ λ _ _. bothDone (relatedLow (low (λ s m. value-same _ (hc s m) (add-labels (c .path ∪ t) w)) hk u u′))
+  unfolding store assign stored
+  store-low c p q n w (low {t = t} hc hk u u′) = twoAny _ _ λ _ _. twoAny _ _ λ _ _. bothDone (relatedLow (low (λ s m. value-same _ (hc s m) (under-same D (c .path ∪ t) w)) hk u u′))
 
-  under-same : (k s : Labels) (c : Context) {st st′ : State} → Low st st′ → {gs gs′ : List Given} → SameGivens gs gs′ → Pairwise (SameAttribute D) (attributesUnder k c st gs) (attributesUnder k c st′ gs′)
-  unfolding attributesUnder storedLabels
-  under-same k s c l nonePaired = nonePaired
-  under-same k s c (low {t = t} hc hk u u′) (paired (sameGiven w) r) = paired (sameAttribute (add-labels k (add-labels (c .path ∪ t) w))) (under-same k s c (low hc hk u u′) r)
+  attributes-under-same : (k : Labels) (c : Context) {st st′ : State} → Low st st′ → {gs gs′ : List Given} → SameGivens gs gs′ → Pairwise (SameAttribute D) (attributesUnder k c st gs) (attributesUnder k c st′ gs′)
+  unfolding attributesUnder stored
+  attributes-under-same k c l nonePaired = nonePaired
+  attributes-under-same k c (low {t = t} hc hk u u′) (paired (sameGiven w) r) = paired (sameAttribute (under-same D k (under-same D (c .path ∪ t) w))) (attributes-under-same k c (low hc hk u u′) r)
 
   -- a bind on two values with their sets, by cases
   by-value : {A B : Type 0} {S : A → B → Type 0} {m n : Outcome Labelled} {f : Labelled → Outcome A} {g : Labelled → Outcome B} → Two (SameLabelled D) m n → ((x y : Labelled) → High D (x .labels) → High D (y .labels) → Two S (f x) (g y)) → ((x : Labelled) → Two S (f x) (g x)) → Two S (m >>= f) (n >>= g)
@@ -159,14 +155,14 @@ module _ (D : ℕ → Type 0) where
 
   -- high on both sides: each catalog gets an entry of its own
   add-high : (k k′ : Known) (p q t m m′ : ℕ) (s s′ : Labels) (gs gs′ : List Given) (c : Context) {st st′ : State} → Low st st′ → High D s → High D s′ → Two Related (addResource k p t m s gs c st) (addResource k′ q t m′ s′ gs′ c st′)
-  unfolding addResource addEntry withEntry entryFrom storedLabels
+  unfolding addResource addEntry withEntry entryFrom withPathAndTrail
   add-high k k′ p q t m m′ s s′ gs gs′ c {st} {st′} (low hc hk u u′) h h′ = twoAny _ _ λ _ _. passed _ _ _ _ _ _ λ _ _ f f′. twoAny _ _ λ _ _. twoAny _ _ λ _ _.
-      bothDone (relatedLow (low hc (entryLeft (entry-high D t m s c st gs (high-left D _ h)) (entryRight (entry-high D t m′ s′ c st′ gs′ (high-left D _ h′)) hk)) (unique f u) (unique f′ u′)))
+      bothDone (relatedLow (low hc (entryLeft (entry-high D t m s c st gs (high-right D _ h)) (entryRight (entry-high D t m′ s′ c st′ gs′ (high-right D _ h′)) hk)) (unique f u) (unique f′ u′)))
 
   add-low : (k k′ : Known) (p q t m : ℕ) (s : Labels) {gs gs′ : List Given} (c : Context) {st st′ : State} → Low st st′ → SameGivens gs gs′ → Two Related (addResource k p t m s gs c st) (addResource k′ q t m s gs′ c st′)
-  unfolding addResource addEntry withEntry entryFrom storedLabels
+  unfolding addResource addEntry withEntry entryFrom withPathAndTrail
   add-low k k′ p q t m s {gs} {gs′} c {st} {st′} (low {t = w} hc hk u u′) g = twoAny _ _ λ _ _. passed _ _ _ _ _ _ λ _ _ f f′. twoAll (named-once gs) (named-once gs′) λ _ _ d d′. twoAny _ _ λ _ _.
-      bothDone (relatedLow (low hc (entryBoth (sameEntry (under-same (s ∪ (c .path ∪ w)) s c (low hc hk u u′) g) (unique-under _ c st d) (unique-under _ c st′ d′)) hk) (unique f u) (unique f′ u′)))
+      bothDone (relatedLow (low hc (entryBoth (sameEntry (attributes-under-same ((c .path ∪ w) ∪ s) c (low hc hk u u′) g) (unique-under _ c st d) (unique-under _ c st′ d′)) hk) (unique f u) (unique f′ u′)))
 
   -- ---- What a condition with a high set does to one run, whatever branch is taken
 
@@ -252,7 +248,7 @@ module _ (D : ℕ → Type 0) where
     highTried : High D (triedLabels bs x) → High D (triedLabels bs′ x) → Tried x bs bs′
     sameTried : triedLabels bs x ≡ triedLabels bs′ x → Agree x bs bs′ → Tried x bs bs′
 
-  tried-high : (b : Bool) (l : ℕ) (k : Labels) → D l → High D (elim b [ true ↦ oneLabel l | false ↦ oneLabel l ∪ k ])
+  tried-high : (b : Bool) (l : ℕ) (k : Labels) → D .differs l → High D (elim b [ true ↦ oneLabel l | false ↦ oneLabel l ∪ k ])
   tried-high true l k d = high-one D d
   tried-high false l k d = high-left D k (high-one D d)
 
@@ -264,19 +260,20 @@ module _ (D : ℕ → Type 0) where
   tried-false true l e h = absurd (true≢false e)
   tried-false false l e h = high-right D _ h
 
-  -- one pattern, the same on both sides, before the others
-  tried-first : (x : Value) (v : Constant) {b b′ : Block} {bs bs′ : Branches} (t : Bool) → sameValue x (v .value) ≡ t → Tried x bs bs′ → Tried x (branch v b bs) (branch v b′ bs′)
+  -- one pattern, the same on both sides but for its place, before the others
+  tried-first : (x : Value) (p q l : ℕ) (v : Value) {b b′ : Block} {bs bs′ : Branches} (t : Bool) → sameValue x v ≡ t → Tried x bs bs′
+      → Tried x (branch (record { place = p; label = l; value = v }) b bs) (branch (record { place = q; label = l; value = v }) b′ bs′)
   unfolding triedLabels
-  tried-first x v {bs = bs} {bs′ = bs′} true e r = sameTried (tried-true (sameValue x (v .value)) (v .label) (triedLabels bs x) (triedLabels bs′ x) e) (agreeHere e e)
-  tried-first x v false e (highTried h h′) = highTried (tried-false (sameValue x (v .value)) (v .label) e h) (tried-false (sameValue x (v .value)) (v .label) e h′)
-  tried-first x v false e (sameTried g a) = sameTried (ap (λ (k : Labels). elim (sameValue x (v .value)) [ true ↦ oneLabel (v .label) | false ↦ oneLabel (v .label) ∪ k ]) g) (agreeLater e e a)
+  tried-first x p q l v {bs = bs} {bs′ = bs′} true e r = sameTried (tried-true (sameValue x v) l (triedLabels bs x) (triedLabels bs′ x) e) (agreeHere e e)
+  tried-first x p q l v false e (highTried h h′) = highTried (tried-false (sameValue x v) l e h) (tried-false (sameValue x v) l e h′)
+  tried-first x p q l v false e (sameTried g a) = sameTried (ap (λ (k : Labels). elim (sameValue x v) [ true ↦ oneLabel l | false ↦ oneLabel l ∪ k ]) g) (agreeLater e e a)
 
   tried-same : {bs bs′ : Branches} (x : Value) → SameBranches D bs bs′ → Tried x bs bs′
   unfolding triedLabels
   tried-same x sameNoBranch = sameTried refl agreeNone
   tried-same x (sameDefaultBranch b bs) = sameTried refl agreeDefault
-  tried-same x (sameBranch (sameConstant {l = l} {v = v} {w = w} (inl d)) b bs) = highTried (tried-high (sameValue x v) l _ d) (tried-high (sameValue x w) l _ d)
-  tried-same x (sameBranch (sameConstant {l = l} {v = v} {w = w} (inr e)) b bs) = rw e (tried-first x (record { label = l; value = w }) (sameValue x w) refl (tried-same x bs))
+  tried-same x (sameBranch (sameConstant {l = l} {v = v} {w = w} z (inl d)) b bs) = highTried (tried-high (sameValue x v) l _ d) (tried-high (sameValue x w) l _ d)
+  tried-same x (sameBranch (sameConstant {l = l} {v = v} {w = w} z (inr e)) b bs) = rw e (tried-first x _ _ l w (sameValue x w) refl (tried-same x bs))
 
   chosen : {A B : Type 0} {S : A → B → Type 0} (b b′ : Bool) {m : Outcome A} (m′ : Outcome A) {n : Outcome B} (n′ : Outcome B) → b ≡ true → b′ ≡ true → Two S m n → Two S (elim b [ true ↦ m | false ↦ m′ ]) (elim b′ [ true ↦ n | false ↦ n′ ])
   chosen true true m′ n′ e e′ h = h
@@ -319,33 +316,33 @@ module _ (D : ℕ → Type 0) where
     -- a case whose scrutinee is the same on both sides; `inside` runs its branches where the patterns agree
     choice-low : (p q : ℕ) {bs bs′ : Branches} → SameBranches D bs bs′ → (c : Context) (x : Value) (s : Labels) {st st′ : State} → Low st st′
         → ((a : Agree x bs bs′) (c : Context) (st st′ : State) → Low st st′ → Two Related (runBranch k declare bs x c st) (runBranch k′ declare′ bs′ x c st′)) → Tried x bs bs′
-        → Two Related (afterTest p c (assignsAny bs) (declaresAny bs) (conditionLabels c st (s ∪ triedLabels bs x)) st >>= λ st₁. runBranch k declare bs x (inBranch (conditionLabels c st (s ∪ triedLabels bs x)) c) st₁)
-        (afterTest q c (assignsAny bs′) (declaresAny bs′) (conditionLabels c st′ (s ∪ triedLabels bs′ x)) st′ >>= λ st₁. runBranch k′ declare′ bs′ x (inBranch (conditionLabels c st′ (s ∪ triedLabels bs′ x)) c) st₁)
-    unfolding conditionLabels afterTest
+        → Two Related (afterTest p c (assignsAny bs) (declaresAny bs) (withPathAndTrail c st (s ∪ triedLabels bs x)) st >>= λ st₁. runBranch k declare bs x (inBranch (withPathAndTrail c st (s ∪ triedLabels bs x)) c) st₁)
+        (afterTest q c (assignsAny bs′) (declaresAny bs′) (withPathAndTrail c st′ (s ∪ triedLabels bs′ x)) st′ >>= λ st₁. runBranch k′ declare′ bs′ x (inBranch (withPathAndTrail c st′ (s ∪ triedLabels bs′ x)) c) st₁)
+    unfolding withPathAndTrail afterTest
     choice-low p q {bs} {bs′} rs c x s l inside (highTried h h′) = condition-two (c .scope) (assignsAny bs) (assignsAny bs′) (declaresAny bs) (declaresAny bs′) (declares-same-any rs) (assigns-same-any rs) l
-        (case-condition k declare quietly p bs x _ c _ (high-left D _ (high-right D _ h))) (case-condition k′ declare′ quietly′ q bs′ x _ c _ (high-left D _ (high-right D _ h′)))
+        (case-condition k declare quietly p bs x _ c _ (high-right D _ (high-right D _ h))) (case-condition k′ declare′ quietly′ q bs′ x _ c _ (high-right D _ (high-right D _ h′)))
     choice-low p q {bs} {bs′} rs c x s (low {t = t} hc hk u u′) inside (sameTried e a) =
-        let k : Labels = (s ∪ triedLabels bs′ x) ∪ (c .path ∪ t) in
+        let k : Labels = (c .path ∪ t) ∪ (s ∪ triedLabels bs′ x) in
         rw e (twoThen _ _ _ _ _ _ (go-on (quiet-branch bs x (inBranch k c)) (quiet-branch′ bs′ x (inBranch k c)) (λ st st′ l. inside a (inBranch k c) st st′ l)
         (tested-same (c .scope) (assignsAny bs) (assignsAny bs′) _ _ k (assigns-same-any rs) (declares-same-any rs) (low hc hk u u′))))
 
     mutual
-      unfolding run conditionLabels afterTest isDeclared
+      unfolding run withPathAndTrail afterTest isDeclared
 
       run-low : {s s′ : Statement} → SameStatement D s s′ → (c : Context) {st st′ : State} → Low st st′ → Two Related (run k declare s c st) (run k′ declare′ s′ c st′)
       run-low (sameAssignment {p = p} {q = q} {n = n} e) c l = twoBind (evaluate-same D k k′ c (low-view l) e) λ x y w. store-low c p q n w l
       run-low (sameConditional {p = p} {q = q} {b = a} {d = b} {b′ = a′} {d′ = b′} e ra rb) c (low {t = t} hc hk u u′) = by-value (evaluate-same D k k′ c (low-view (low hc hk u u′)) e)
           (λ x y h h′. twoAny _ _ λ z z′. condition-two (c .scope) (λ n. assignsIn a n || assignsIn b n) (λ n. assignsIn a′ n || assignsIn b′ n) (declaresIn a || declaresIn b) (declaresIn a′ || declaresIn b′) (ap₂ _||_ (declares-same-in ra) (declares-same-in rb)) (λ n. ap₂ _||_ (assigns-same-in ra n) (assigns-same-in rb n)) (low hc hk u u′)
-          (if-condition k declare quietly p a b z _ c _ (high-left D _ h)) (if-condition k′ declare′ quietly′ q a′ b′ z′ _ c _ (high-left D _ h′)))
+          (if-condition k declare quietly p a b z _ c _ (high-right D _ h)) (if-condition k′ declare′ quietly′ q a′ b′ z′ _ c _ (high-right D _ h′)))
           (λ x. twoAt _ _ _ λ z.
-          let s : Labels = x .labels ∪ (c .path ∪ t) in
+          let s : Labels = (c .path ∪ t) ∪ x .labels in
           let h = tested-same (c .scope) (λ n. assignsIn a n || assignsIn b n) (λ n. assignsIn a′ n || assignsIn b′ n) _ _ s (λ n. ap₂ _||_ (assigns-same-in ra n) (assigns-same-in rb n)) (ap₂ _||_ (declares-same-in ra) (declares-same-in rb)) (low hc hk u u′) in
           twoThen _ _ _ _ _ _ (twoIf z
           (go-on (quiet-block a (inBranch s c)) (quiet-block′ a′ (inBranch s c)) (λ st st′ l. block-low ra (inBranch s c) l) h)
           (go-on (quiet-block b (inBranch s c)) (quiet-block′ b′ (inBranch s c)) (λ st st′ l. block-low rb (inBranch s c) l) h)))
       run-low (sameChoice {p = p} {q = q} {bs = bs} {bs′ = bs′} e rs) c (low {t = t} hc hk u u′) = by-value (evaluate-same D k k′ c (low-view (low hc hk u u′)) e)
           (λ x y h h′. condition-two (c .scope) (assignsAny bs) (assignsAny bs′) (declaresAny bs) (declaresAny bs′) (declares-same-any rs) (assigns-same-any rs) (low hc hk u u′)
-          (case-condition k declare quietly p bs (x .value) _ c _ (high-left D _ (high-left D _ h))) (case-condition k′ declare′ quietly′ q bs′ (y .value) _ c _ (high-left D _ (high-left D _ h′))))
+          (case-condition k declare quietly p bs (x .value) _ c _ (high-right D _ (high-left D _ h))) (case-condition k′ declare′ quietly′ q bs′ (y .value) _ c _ (high-right D _ (high-left D _ h′))))
           (λ x. choice-low p q rs c (x .value) (x .labels) (low hc hk u u′) (λ a c st st′ l. branch-low rs (x .value) a c l) (tried-same (x .value) rs))
       run-low (sameResource {p = p} {q = q} {t = t} e fs) c l = by-value (evaluate-same D k k′ c (low-view l) e)
           (λ x y h h′. twoAny _ _ λ m m′. twoAny _ _ λ gs gs′. add-high k k′ p q t m m′ (x .labels) (y .labels) gs gs′ c l h h′)

@@ -17,7 +17,7 @@ use Rattle.rules.specs.Tree.{Expression, Arms, Statement, Block, Branche
 use Rattle.rules.specs.Read.{entryFor, valueFrom, constantFrom, isDefault, ExpressionTag, aConstant, aVariable, aTopVariable, aClassVariable, anOperation, aNegation, anAttributeRead, aSelector, noExpression, expressionTags, armFrom, armsFrom, expressionBy, expressionIn, expressionFrom, attributeFrom, attributesFrom, StatementTag, anAssignment, aConditional, aChoice, aResource, aDefined, aClass, anInclude, noStatement, statementTags, branchFrom, branchesFrom, statementBy, statementIn, statementsFrom, blockIn, blockFrom, defaultFrom, parameterFrom, parametersFrom, lastOf, lastBlock, parentFrom, afterParent, namesFrom, devicesFrom, ItemTag, aNode, aTypeDefinition, aClassDefinition, aStatement, itemTags, itemBy, itemFrom, itemsFrom, stringsFrom, manifestFrom, manifestOf}
 use Rattle.rules.specs.Compile.{sameBytes}
 use Rattle.rules.specs.EditRule.{opposite, sameField, sameFields, oneTree, differsHere, differsIn, differsAny, differing}
-use Rattle.rules.proofs.Same.{Pairwise, nonePaired, paired, Optional, bothNone, bothSome, SameConstant, sameConstant, SameExpression, sameConstants, sameVariable, sameTopVariable, sameClassVariable, sameOperation, sameNegation, sameAttributeRead, sameSelector, sameUnreadable, SameArms, sameNoArm, sameArm, sameDefaultArm, SameAttributeField, sameAttributeField, SameAttributeFields, SameStatement, sameAssignment, sameConditional, sameChoice, sameResource, sameDefined, sameClass, sameInclude, sameUnreadableStatement, SameBlock, sameEnd, sameNext, SameBranches, sameNoBranch, sameBranch, sameDefaultBranch, SameParameter, sameParameter, SameParent, sameParent, SameParameters, sameType, sameClassDefinition, sameTypeDefinition, sameClassDefinitions, SameItem, sameStatementItem, sameNode, sameDefinitionItem, SameItems}
+use Rattle.rules.proofs.Same.{Edit, anywhere, Pairwise, nonePaired, paired, Optional, bothNone, bothSome, SameConstant, sameConstant, SameExpression, sameConstants, sameVariable, sameTopVariable, sameClassVariable, sameOperation, sameNegation, sameAttributeRead, sameSelector, sameUnreadable, SameArms, sameNoArm, sameArm, sameDefaultArm, SameAttributeField, sameAttributeField, SameAttributeFields, SameStatement, sameAssignment, sameConditional, sameChoice, sameResource, sameDefined, sameClass, sameInclude, sameUnreadableStatement, SameBlock, sameEnd, sameNext, SameBranches, sameNoBranch, sameBranch, sameDefaultBranch, SameParameter, sameParameter, SameParent, sameParent, SameParameters, sameType, sameClassDefinition, sameTypeDefinition, sameClassDefinitions, SameItem, sameStatementItem, sameNode, sameDefinitionItem, SameItems}
 
 -- ---- Tests
 
@@ -93,20 +93,21 @@ constant-parent p t h ks a = ap (λ b. elim b [ true ↦ some (record { place = 
 
 -- ---- Fields alike
 
-module _ (D : ℕ → Type 0) where
-  -- two fields opposite each other in one tree: the same tag and head, or two constants with one label, which is in D; and so in them
+-- a field that is missing reads as one at place 0
+module _ (D : Edit) (missing : D .places 0 0) where
+  -- two fields opposite each other in one tree: the same tag and head, or two constants with one label, which differ; and so in them
   mutual
     pub data Alike : Field → Field → Type 0 where
-      alike : {p q t : ℕ} {h : List ℕ} {ks js : Fields} → AlikeFields ks js → Alike (field p t h ks) (field q t h js)
-      constants : {p q t u : ℕ} {h g : List ℕ} {ks js : Fields} → isConstant t ≡ true → isConstant u ≡ true → byte h 0 ≡ byte g 0 → D (byte h 0) → AlikeFields ks js → Alike (field p t h ks) (field q u g js)
+      alike : {p q t : ℕ} {h : List ℕ} {ks js : Fields} → D .places p q → AlikeFields ks js → Alike (field p t h ks) (field q t h js)
+      constants : {p q t u : ℕ} {h g : List ℕ} {ks js : Fields} → isConstant t ≡ true → isConstant u ≡ true → byte h 0 ≡ byte g 0 → D .differs (byte h 0) → D .places p q → AlikeFields ks js → Alike (field p t h ks) (field q u g js)
 
     pub data AlikeFields : Fields → Fields → Type 0 where
       alikeNone : AlikeFields noFields noFields
       alikeMore : {k j : Field} {ks js : Fields} → Alike k j → AlikeFields ks js → AlikeFields (more k ks) (more j js)
 
-  -- every label that passes a test is in D
+  -- every label that passes a test is that of a differing constant
   pub record Covers (test : ℕ → Bool) : Type 0 where
-    pub covers : (l : ℕ) → test l ≡ true → D l
+    pub covers : (l : ℕ) → test l ≡ true → D .differs l
 
   covers-left : (a b : ℕ → Bool) → Covers (λ l. a l || b l) → Covers a
   covers-left a b c = record { covers = λ l e. c .covers l (or-left (a l) (b l) e) }
@@ -115,47 +116,49 @@ module _ (D : ℕ → Type 0) where
   covers-right a b c = record { covers = λ l e. c .covers l (or-right (a l) (b l) e) }
 
   -- one pair of fields: by the first half of the test they are the same, by the second two constants that differ
-  opposite-alike : (p q t u : ℕ) (h g : List ℕ) (ks js : Fields) → opposite t h u g ≡ true → Covers (differsHere t h u g) → AlikeFields ks js → Alike (field p t h ks) (field q u g js)
+  opposite-alike : (p q t u : ℕ) (h g : List ℕ) (ks js : Fields) → opposite t h u g ≡ true → Covers (differsHere t h u g) → D .places p q → AlikeFields ks js → Alike (field p t h ks) (field q u g js)
   unfolding opposite differsHere
-  opposite-alike p q t u h g ks js o c r = go (eqb t u && sameBytes h g) refl o (c .covers (byte h 0))
+  opposite-alike p q t u h g ks js o c z r = go (eqb t u && sameBytes h g) refl o (c .covers (byte h 0))
     where
       equal : (eqb t u && sameBytes h g) ≡ true → Alike (field p t h ks) (field q u g js)
-      equal e = subst (λ x. Alike (field p t h ks) (field q x g js)) (eqb-true t u (and-left (eqb t u) (sameBytes h g) e)) (subst (λ x. Alike (field p t h ks) (field q t x js)) (sameBytes-equal h g (and-right (eqb t u) (sameBytes h g) e)) (alike r))
+      equal e = subst (λ x. Alike (field p t h ks) (field q x g js)) (eqb-true t u (and-left (eqb t u) (sameBytes h g) e)) (subst (λ x. Alike (field p t h ks) (field q t x js)) (sameBytes-equal h g (and-right (eqb t u) (sameBytes h g) e)) (alike z r))
 
-      differ : (isConstant t && isConstant u) ≡ true → byte h 0 ≡ byte g 0 → (((isConstant t && true) && eqb (byte h 0) (byte h 0)) ≡ true → D (byte h 0)) → Alike (field p t h ks) (field q u g js)
-      differ s e d = constants (and-left (isConstant t) (isConstant u) s) (and-right (isConstant t) (isConstant u) s) e (d (and-eq-true-iff (isConstant t && true) (eqb (byte h 0) (byte h 0)) .1 (and-eq-true-iff (isConstant t) true .1 (and-left (isConstant t) (isConstant u) s, refl), eq-eqb (byte h 0) (byte h 0) refl))) r
+      differ : (isConstant t && isConstant u) ≡ true → byte h 0 ≡ byte g 0 → (((isConstant t && true) && eqb (byte h 0) (byte h 0)) ≡ true → D .differs (byte h 0)) → Alike (field p t h ks) (field q u g js)
+      differ s e d = constants (and-left (isConstant t) (isConstant u) s) (and-right (isConstant t) (isConstant u) s) e (d (and-eq-true-iff (isConstant t && true) (eqb (byte h 0) (byte h 0)) .1 (and-eq-true-iff (isConstant t) true .1 (and-left (isConstant t) (isConstant u) s, refl), eq-eqb (byte h 0) (byte h 0) refl))) z r
 
-      go : (b : Bool) → (eqb t u && sameBytes h g) ≡ b → (b || ((isConstant t && isConstant u) && eqb (byte h 0) (byte g 0))) ≡ true → (((isConstant t && not b) && eqb (byte h 0) (byte h 0)) ≡ true → D (byte h 0)) → Alike (field p t h ks) (field q u g js)
+      go : (b : Bool) → (eqb t u && sameBytes h g) ≡ b → (b || ((isConstant t && isConstant u) && eqb (byte h 0) (byte g 0))) ≡ true → (((isConstant t && not b) && eqb (byte h 0) (byte h 0)) ≡ true → D .differs (byte h 0)) → Alike (field p t h ks) (field q u g js)
       go true e s d = equal e
       go false e s d = differ (and-left (isConstant t && isConstant u) (eqb (byte h 0) (byte g 0)) s) (eqb-true (byte h 0) (byte g 0) (and-right (isConstant t && isConstant u) (eqb (byte h 0) (byte g 0)) s)) d
 
-  -- two fields that are one tree by the tests are alike, for any D that has every label of a differing constant in them
-  mutual
-    unfolding sameField differsIn
+  -- two fields that are one tree by the tests are alike, for any edit that has every label of a differing constant in them, if all their places
+  -- belong together
+  module _ (placed : (p q : ℕ) → D .places p q) where
+    mutual
+      unfolding sameField differsIn
 
-    pub field-alike : (k j : Field) → sameField k j ≡ true → Covers (differsIn k j) → Alike k j
-    field-alike (field p t h ks) (field q u g js) s c =
-        opposite-alike p q t u h g ks js (and-left (opposite t h u g) (sameFields ks js) s) (covers-left (differsHere t h u g) (differsAny ks js) c)
-        (fields-alike ks js (and-right (opposite t h u g) (sameFields ks js) s) (covers-right (differsHere t h u g) (differsAny ks js) c))
+      pub field-alike : (k j : Field) → sameField k j ≡ true → Covers (differsIn k j) → Alike k j
+      field-alike (field p t h ks) (field q u g js) s c =
+          opposite-alike p q t u h g ks js (and-left (opposite t h u g) (sameFields ks js) s) (covers-left (differsHere t h u g) (differsAny ks js) c) (placed p q)
+          (fields-alike ks js (and-right (opposite t h u g) (sameFields ks js) s) (covers-right (differsHere t h u g) (differsAny ks js) c))
 
-    pub fields-alike : (ks js : Fields) → sameFields ks js ≡ true → Covers (differsAny ks js) → AlikeFields ks js
-    fields-alike noFields noFields s c = alikeNone
-    fields-alike noFields (more j js) s c = absurd (true≢false (sym s))
-    fields-alike (more k ks) noFields s c = absurd (true≢false (sym s))
-    fields-alike (more k ks) (more j js) s c =
-        alikeMore (field-alike k j (and-left (sameField k j) (sameFields ks js) s) (covers-left (differsIn k j) (differsAny ks js) c))
-        (fields-alike ks js (and-right (sameField k j) (sameFields ks js) s) (covers-right (differsIn k j) (differsAny ks js) c))
+      pub fields-alike : (ks js : Fields) → sameFields ks js ≡ true → Covers (differsAny ks js) → AlikeFields ks js
+      fields-alike noFields noFields s c = alikeNone
+      fields-alike noFields (more j js) s c = absurd (true≢false (sym s))
+      fields-alike (more k ks) noFields s c = absurd (true≢false (sym s))
+      fields-alike (more k ks) (more j js) s c =
+          alikeMore (field-alike k j (and-left (sameField k j) (sameFields ks js) s) (covers-left (differsIn k j) (differsAny ks js) c))
+          (fields-alike ks js (and-right (sameField k j) (sameFields ks js) s) (covers-right (differsIn k j) (differsAny ks js) c))
 
   -- ---- Parts of fields alike
 
   alike-inner : {k j : Field} → Alike k j → AlikeFields (inner k) (inner j)
   unfolding inner
-  alike-inner (alike r) = r
-  alike-inner (constants a b e d r) = r
+  alike-inner (alike z r) = r
+  alike-inner (constants a b e d z r) = r
 
   alike-first : {ks js : Fields} → AlikeFields ks js → Alike (first ks) (first js)
   unfolding first
-  alike-first alikeNone = alike alikeNone
+  alike-first alikeNone = alike missing alikeNone
   alike-first (alikeMore r rs) = r
 
   alike-others : {ks js : Fields} → AlikeFields ks js → AlikeFields (others ks) (others js)
@@ -171,8 +174,8 @@ module _ (D : ℕ → Type 0) where
   -- a test for a tag that is no constant's gives the same of both
   alike-tag : (n : ℕ) → isConstant n ≡ false → {k j : Field} → Alike k j → eqb (tagOf k) n ≡ eqb (tagOf j) n
   unfolding tagOf
-  alike-tag n i (alike r) = refl
-  alike-tag n i (constants {t = t} {u = u} a b e d r) = constant-tag n i t a ∙ sym (constant-tag n i u b)
+  alike-tag n i (alike z r) = refl
+  alike-tag n i (constants {t = t} {u = u} a b e d z r) = constant-tag n i t a ∙ sym (constant-tag n i u b)
 
   alike-default : {k j : Field} → Alike k j → isDefault k ≡ isDefault j
   unfolding isDefault
@@ -181,20 +184,20 @@ module _ (D : ℕ → Type 0) where
   -- a list of what f reads of the fields with tag n, which is no constant's: one more field at its head
   listed : {A : Type 0} (R : A → A → Type 0) (f : Field → A) (n : ℕ) → isConstant n ≡ false → ((p q t : ℕ) (h : List ℕ) (ks js : Fields) → AlikeFields ks js → R (f (field p t h ks)) (f (field q t h js))) → {k j : Field} → Alike k j → {xs ys zs ws : List A} → Pairwise R xs ys → Pairwise R zs ws → Pairwise R (elim (eqb (tagOf k) n) [ true ↦ f k ∷ xs | false ↦ zs ]) (elim (eqb (tagOf j) n) [ true ↦ f j ∷ ys | false ↦ ws ])
   unfolding tagOf
-  listed R f n i same (alike {p = p} {q = q} {t = t} {h = h} {ks = ks} {js = js} r) {xs} {ys} {zs} {ws} m o = go (eqb t n)
+  listed R f n i same (alike {p = p} {q = q} {t = t} {h = h} {ks = ks} {js = js} z r) {xs} {ys} {zs} {ws} m o = go (eqb t n)
     where
       go : (b : Bool) → Pairwise R (elim b [ true ↦ f (field p t h ks) ∷ xs | false ↦ zs ]) (elim b [ true ↦ f (field q t h js) ∷ ys | false ↦ ws ])
       go true = paired (same p q t h ks js r) m
       go false = o
-  listed R f n i same (constants {p = p} {q = q} {t = t} {u = u} {h = h} {g = g} {ks = ks} {js = js} a b e d r) {xs} {ys} {zs} {ws} m o =
+  listed R f n i same (constants {p = p} {q = q} {t = t} {u = u} {h = h} {g = g} {ks = ks} {js = js} a b e d z r) {xs} {ys} {zs} {ws} m o =
       subst₂ (λ x y. Pairwise R (elim x [ true ↦ f (field p t h ks) ∷ xs | false ↦ zs ]) (elim y [ true ↦ f (field q u g js) ∷ ys | false ↦ ws ])) (sym (constant-tag n i t a)) (sym (constant-tag n i u b)) o
 
   -- ---- Constants and expressions
 
   one-constant : {k j : Field} → Alike k j → SameConstant D (constantFrom k) (constantFrom j)
   unfolding constantFrom
-  one-constant (alike r) = sameConstant (inr refl)
-  one-constant (constants {t = t} {u = u} {h = h} {g = g} a b e d r) = subst (λ l. SameConstant D (record { label = byte h 0; value = valueFrom t h }) (record { label = l; value = valueFrom u g })) e (sameConstant (inl d))
+  one-constant (alike z r) = sameConstant z (inr refl)
+  one-constant (constants {p = p} {q = q} {t = t} {u = u} {h = h} {g = g} a b e d z r) = subst (λ l. SameConstant D (record { place = p; label = byte h 0; value = valueFrom t h }) (record { place = q; label = l; value = valueFrom u g })) e (sameConstant z (inl d))
 
   -- a reader that takes fields alike to parts in the relation R
   pub record Keeps {A : Type 0} (R : A → A → Type 0) (f : Field → A) : Type 0 where
@@ -227,13 +230,13 @@ module _ (D : ℕ → Type 0) where
 
   one-expression-none : (k j : Field) → Alike k j → SameExpression D (expressionIn zero k) (expressionIn zero j)
   unfolding expressionIn
-  one-expression-none k j (alike r) = sameUnreadable
-  one-expression-none k j (constants a b e l r) = sameUnreadable
+  one-expression-none k j (alike z r) = sameUnreadable
+  one-expression-none k j (constants a b e l z r) = sameUnreadable
 
   one-expression-next : (d : ℕ) → Keeps (SameExpression D) (expressionIn d) → (k j : Field) → Alike k j → SameExpression D (expressionIn (suc d) k) (expressionIn (suc d) j)
   unfolding expressionIn expressionBy
-  one-expression-next d o k j (alike {p = p} {q = q} {t = t} {h = h} r) = one-expression-by (expressionIn d) o (alike r) p q h r (entryFor expressionTags noExpression t)
-  one-expression-next d o k j (constants {t = t} {u = u} a b e l r) = rw (constant-expression t a, constant-expression u b) (sameConstants (one-constant (constants a b e l r)))
+  one-expression-next d o k j (alike {p = p} {q = q} {t = t} {h = h} z r) = one-expression-by (expressionIn d) o (alike z r) p q h r (entryFor expressionTags noExpression t)
+  one-expression-next d o k j (constants {t = t} {u = u} a b e l z r) = rw (constant-expression t a, constant-expression u b) (sameConstants (one-constant (constants a b e l z r)))
 
   one-expression-in : (d : ℕ) → Keeps (SameExpression D) (expressionIn d)
   one-expression-in zero = record { kept = one-expression-none }
@@ -280,8 +283,8 @@ module _ (D : ℕ → Type 0) where
 
   one-statement : (f : Field → Block) → Keeps (SameBlock D) f → (k j : Field) → Alike k j → SameStatement D (statementIn f k) (statementIn f j)
   unfolding statementIn statementBy
-  one-statement f o k j (alike {p = p} {q = q} {t = t} {h = h} r) = one-statement-by f o p q h r (entryFor statementTags noStatement t)
-  one-statement f o k j (constants {t = t} {u = u} a b e l r) = rw (constant-statement t a, constant-statement u b) sameUnreadableStatement
+  one-statement f o k j (alike {p = p} {q = q} {t = t} {h = h} z r) = one-statement-by f o p q h r (entryFor statementTags noStatement t)
+  one-statement f o k j (constants {t = t} {u = u} a b e l z r) = rw (constant-statement t a, constant-statement u b) sameUnreadableStatement
 
   one-statements : (f : Field → Statement) → Keeps (SameStatement D) f → {ks js : Fields} → AlikeFields ks js → SameBlock D (statementsFrom f ks) (statementsFrom f js)
   unfolding statementsFrom
@@ -294,8 +297,8 @@ module _ (D : ℕ → Type 0) where
 
   one-block-next : (d : ℕ) → Keeps (SameBlock D) (blockIn d) → (k j : Field) → Alike k j → SameBlock D (blockIn (suc d) k) (blockIn (suc d) j)
   unfolding blockIn
-  one-block-next d o k j (alike r) = one-statements (statementIn (blockIn d)) (record { kept = one-statement (blockIn d) o }) r
-  one-block-next d o k j (constants a b e l r) = one-statements (statementIn (blockIn d)) (record { kept = one-statement (blockIn d) o }) r
+  one-block-next d o k j (alike z r) = one-statements (statementIn (blockIn d)) (record { kept = one-statement (blockIn d) o }) r
+  one-block-next d o k j (constants a b e l z r) = one-statements (statementIn (blockIn d)) (record { kept = one-statement (blockIn d) o }) r
 
   one-block-in : (d : ℕ) → Keeps (SameBlock D) (blockIn d)
   one-block-in zero = record { kept = one-block-none }
@@ -327,12 +330,12 @@ module _ (D : ℕ → Type 0) where
 
   one-parent : {k j : Field} → Alike k j → Optional (SameParent D) (parentFrom k) (parentFrom j)
   unfolding parentFrom
-  one-parent (alike {p = p} {q = q} {t = t} {h = h} r) = go (eqb t 0x35)
+  one-parent (alike {p = p} {q = q} {t = t} {h = h} z r) = go (eqb t 0x35)
     where
       go : (b : Bool) → Optional (SameParent D) (elim b [ true ↦ some (record { place = p; name = two h 0 }) | false ↦ none ]) (elim b [ true ↦ some (record { place = q; name = two h 0 }) | false ↦ none ])
       go true = bothSome sameParent
       go false = bothNone
-  one-parent (constants {p = p} {q = q} {t = t} {u = u} {h = h} {g = g} {ks = ks} {js = js} a b e d r) = subst₂ (Optional (SameParent D)) (sym (constant-parent p t h ks a)) (sym (constant-parent q u g js b)) bothNone
+  one-parent (constants {p = p} {q = q} {t = t} {u = u} {h = h} {g = g} {ks = ks} {js = js} a b e d z r) = subst₂ (Optional (SameParent D)) (sym (constant-parent p t h ks a)) (sym (constant-parent q u g js b)) bothNone
 
   alike-after : {u u′ : Option Parent} → Optional (SameParent D) u u′ → {ks js : Fields} → AlikeFields ks js → AlikeFields (afterParent u ks) (afterParent u′ js)
   unfolding afterParent
@@ -361,8 +364,8 @@ module _ (D : ℕ → Type 0) where
 
   one-item : {k j : Field} → Alike k j → SameItem D (itemFrom k) (itemFrom j)
   unfolding itemFrom itemBy
-  one-item (alike {p = p} {q = q} {t = t} {h = h} r) = one-item-by (alike r) p q h r (entryFor itemTags aStatement t)
-  one-item (constants {t = t} {u = u} a b e l r) = rw (constant-item t a, constant-item u b) (sameStatementItem (one-statement blockFrom (record { kept = one-block }) _ _ (constants a b e l r)))
+  one-item (alike {p = p} {q = q} {t = t} {h = h} z r) = one-item-by (alike z r) p q h r (entryFor itemTags aStatement t)
+  one-item (constants {t = t} {u = u} a b e l z r) = rw (constant-item t a, constant-item u b) (sameStatementItem (one-statement blockFrom (record { kept = one-block }) _ _ (constants a b e l z r)))
 
   -- items of fields alike are the same
   pub alike-items : {ks js : Fields} → AlikeFields ks js → SameItems D (itemsFrom ks) (itemsFrom js)
@@ -382,25 +385,25 @@ module _ (D : ℕ → Type 0) where
 
 -- ---- Manifests
 
--- the labels of constants that differ between two trees of fields
-abbrev Differs : Fields → Fields → ℕ → Type 0
-Differs ks js l = differsAny ks js l ≡ true
+-- the edit from one tree of fields to another
+abbrev between : Fields → Fields → Edit
+between ks js = anywhere (λ l. differsAny ks js l ≡ true)
 
-one-fields : (ks js : Fields) → sameFields ks js ≡ true → AlikeFields (Differs ks js) ks js
-one-fields ks js e = fields-alike (Differs ks js) ks js e (record { covers = λ l d. d })
+one-fields : (ks js : Fields) → sameFields ks js ≡ true → AlikeFields (between ks js) tt ks js
+one-fields ks js e = fields-alike (between ks js) tt (λ p q. tt) ks js e (record { covers = λ l d. d })
 
 -- one tree of fields has one tree of items, but for constants with the label of a differing one
-pub one-items : (ks js : Fields) → sameFields ks js ≡ true → SameItems (λ l. differsAny ks js l ≡ true) (manifestFrom ks .items) (manifestFrom js .items)
+pub one-items : (ks js : Fields) → sameFields ks js ≡ true → SameItems (anywhere (λ l. differsAny ks js l ≡ true)) (manifestFrom ks .items) (manifestFrom js .items)
 unfolding manifestFrom
-one-items ks js e = alike-items (Differs ks js) (alike-others (Differs ks js) (one-fields ks js e))
+one-items ks js e = alike-items (between ks js) tt (alike-others (between ks js) tt (one-fields ks js e))
 
 -- one tree of fields has one string table
 pub one-strings : (ks js : Fields) → sameFields ks js ≡ true → manifestFrom ks .strings ≡ manifestFrom js .strings
 unfolding manifestFrom
-one-strings ks js e = pairwise-equal (alike-strings (Differs ks js) (alike-inner (Differs ks js) (alike-first (Differs ks js) (one-fields ks js e))))
+one-strings ks js e = pairwise-equal (alike-strings (between ks js) tt (alike-inner (between ks js) tt (alike-first (between ks js) tt (one-fields ks js e))))
 
 -- two manifests with one tree have the same items, but for constants with the label of a differing one
-pub one-tree : (m m′ : List ℕ) → oneTree m m′ ≡ true → SameItems (λ l. differing m m′ l ≡ true) (manifestOf m .items) (manifestOf m′ .items)
+pub one-tree : (m m′ : List ℕ) → oneTree m m′ ≡ true → SameItems (anywhere (λ l. differing m m′ l ≡ true)) (manifestOf m .items) (manifestOf m′ .items)
 unfolding oneTree differing manifestOf
 one-tree m m′ e = one-items (readAll m) (readAll m′) e
 

@@ -11,19 +11,19 @@ use Rattle.values.specs.declared.Value.{Value}
 use Rattle.values.specs.declared.Labelled.{Labelled}
 use Rattle.rules.specs.Outcome.{Outcome, _>>=_}
 use Rattle.rules.specs.Arithmetic.{sameValue}
-use Rattle.rules.specs.Tree.{Statement, assignment, conditional, choice, resource, defined, class, include, Block, end, next, Branches, noBranch, branch, defaultBranch, Parent, ClassDefinition}
+use Rattle.rules.specs.Tree.{Statement, assignment, conditional, choice, builtInResource, definedResource, classWithAttributes, include, Block, end, next, Branches, noBranch, branch, defaultBranch, Parent, ClassDefinition}
 use Rattle.rules.specs.Tree
-use Rattle.rules.specs.State.{Entry, State, Context, Known, isDeclared, assign, trailWith, tested, declared, free, withEntry}
+use Rattle.rules.specs.State.{Entry, State, Context, Known, isDeclared, assign, trailWith, tested, markDeclared, free, withEntry}
 use Rattle.rules.specs.Evaluate.{any}
-use Rattle.rules.specs.Run.{storedLabels, conditionLabels, inBranch, store, Given, storeAll, storeTitle, attributesUnder, entryFrom, addEntry, addResource, afterTest, Declaration, ofType, ofClass, included, Declare, run, runBlock, runBranch, placedUnder, inClass, inBody, parentFirst, enterClass, declaration}
-use Rattle.rules.proofs.Same.{High}
+use Rattle.rules.specs.Run.{withPathAndTrail, inBranch, store, Given, storeAll, storeTitle, attributesUnder, entryFrom, addEntry, addResource, afterTest, Declaration, ofType, ofClass, included, Declare, run, runBlock, runBranch, placedUnder, inClass, inBody, parentFirst, enterClass, declaration}
+use Rattle.rules.proofs.Same.{Edit, High}
 use Rattle.rules.proofs.Outcome.{All, allRefused, allDone, allBind, allAny, allThen, allMap, allIf, allPassed, allStep, withSteps}
 use Rattle.rules.proofs.Lists.{Each, noneLeft, also}
 use Rattle.rules.proofs.Lists.{Each, noneLeft, also}
 use Rattle.rules.proofs.Unique.{UniqueEntries, unique, keyOf, hasKey}
 use Rattle.rules.proofs.Evaluation.{high-left, high-right, HighAttribute, HighEntry, SameCatalog, entryLeft, entryRight}
 
-module _ (D : ℕ → Type 0) where
+module _ (D : Edit) where
   -- ---- A catalog that has grown by high entries only
 
   pub data Growth (c : List Entry) : List Entry → Type 0 where
@@ -102,25 +102,21 @@ module _ (D : ℕ → Type 0) where
   pub attributes-high : {k : Labels} (c : Context) (st : State) (gs : List Given) → High D k → Each (HighAttribute D) (attributesUnder k c st gs)
   unfolding attributesUnder
   attributes-high c st [] h = noneLeft
-  attributes-high c st (g ∷ gs) h = also (high-right D _ h) (attributes-high c st gs h)
+  attributes-high c st (g ∷ gs) h = also (high-left D _ h) (attributes-high c st gs h)
 
-  pub entry-high : (t m : ℕ) (k : Labels) (c : Context) (st : State) (gs : List Given) → High D (storedLabels c st k) → HighEntry D (entryFrom t m k c st gs)
+  pub entry-high : (t m : ℕ) (k : Labels) (c : Context) (st : State) (gs : List Given) → High D (withPathAndTrail c st k) → HighEntry D (entryFrom t m k c st gs)
   unfolding entryFrom
   entry-high t m k c st gs h = record { own = h; all = attributes-high c st gs h }
 
-  pub stored-high : (k : Labels) (c : Context) (st : State) → Under (c .path) (st .trail) → High D (storedLabels c st k)
-  unfolding storedLabels
-  stored-high k c st h = high-right D _ (under h)
-
-  pub condition-high : (k : Labels) (c : Context) (st : State) → Under (c .path) (st .trail) → High D (conditionLabels c st k)
-  unfolding conditionLabels
-  condition-high k c st h = high-right D _ (under h)
+  pub stored-high : (k : Labels) (c : Context) (st : State) → Under (c .path) (st .trail) → High D (withPathAndTrail c st k)
+  unfolding withPathAndTrail
+  stored-high k c st h = high-left D _ (under h)
 
   add-entry-quiet : (p : ℕ) (e : Entry) (st : State) → HighEntry D e → any (hasKey (keyOf e)) (st .entries) ≡ false → All (QuietFrom st) (addEntry p e st)
   unfolding addEntry withEntry
   add-entry-quiet p e st h f = allAny _ λ _. allDone (quiet (grown h f noGrowth) λ g. g)
 
-  pub add-resource-quiet : (k : Known) (p t m : ℕ) (s : Labels) (gs : List Given) (c : Context) (st : State) → High D (storedLabels c st s) → All (QuietFrom st) (addResource k p t m s gs c st)
+  pub add-resource-quiet : (k : Known) (p t m : ℕ) (s : Labels) (gs : List Given) (c : Context) (st : State) → High D (withPathAndTrail c st s) → All (QuietFrom st) (addResource k p t m s gs c st)
   unfolding addResource entryFrom
   add-resource-quiet k p t m s gs c st h = allAny _ λ _. allBind (allPassed _ _ _) λ _ f. allAny _ λ _. add-entry-quiet p _ st (entry-high t m s c st gs h) f
 
@@ -140,11 +136,11 @@ module _ (D : ℕ → Type 0) where
 
       pub run-quiet : (s : Statement) (c : Context) (st : State) → Under (c .path) (st .trail) → All (QuietFrom st) (run k declare s c st)
       run-quiet (assignment p n e) c st h = allAny _ λ x. store-quiet c p n x st
-      run-quiet (conditional p e a b) c st h = allAny _ λ x. allAny _ λ t. after-test-quiet p c _ _ _ st _ (allIf t (block-quiet a _ _ (inl (high-left D _ (condition-high (x .labels) c st h)))) (block-quiet b _ _ (inl (high-left D _ (condition-high (x .labels) c st h)))))
-      run-quiet (choice p e bs) c st h = allAny _ λ x. after-test-quiet p c _ _ _ st _ (branch-quiet bs (x .value) _ _ (inl (high-left D _ (condition-high _ c st h))))
-      run-quiet (resource p t e fs) c st h = allAny _ λ x. allAny _ λ m. allAny _ λ gs. add-resource-quiet k p t m (x .labels) gs c st (stored-high _ c st h)
-      run-quiet (defined p t e fs) c st h = allAny _ λ x. allAny _ λ m. allAny _ λ gs. quietly _ c st h
-      run-quiet (class p q fs) c st h = allAny _ λ gs. quietly _ c st h
+      run-quiet (conditional p e a b) c st h = allAny _ λ x. allAny _ λ t. after-test-quiet p c _ _ _ st _ (allIf t (block-quiet a _ _ (inl (high-left D _ (stored-high (x .labels) c st h)))) (block-quiet b _ _ (inl (high-left D _ (stored-high (x .labels) c st h)))))
+      run-quiet (choice p e bs) c st h = allAny _ λ x. after-test-quiet p c _ _ _ st _ (branch-quiet bs (x .value) _ _ (inl (high-left D _ (stored-high _ c st h))))
+      run-quiet (builtInResource p t e fs) c st h = allAny _ λ x. allAny _ λ m. allAny _ λ gs. add-resource-quiet k p t m (x .labels) gs c st (stored-high _ c st h)
+      run-quiet (definedResource p t e fs) c st h = allAny _ λ x. allAny _ λ m. allAny _ λ gs. quietly _ c st h
+      run-quiet (classWithAttributes p q fs) c st h = allAny _ λ gs. quietly _ c st h
       run-quiet (include p q) c st h = allIf (isDeclared q st) (allDone (quiet noGrowth λ g. g)) (quietly _ c st h)
       run-quiet (Statement.unreadable p) c st h = allRefused
 
@@ -165,8 +161,8 @@ module _ (D : ℕ → Type 0) where
     parent-quiet (some q) c st h = allIf (isDeclared (q .name) st) (allDone (quiet noGrowth λ g. g)) (allStep _ st _ λ n. quietly _ c (withSteps n st) h)
 
     pub enter-quiet : (d : ClassDefinition) (vs : List Given) (c : Context) (st : State) → Under (c .path) (st .trail) → All (QuietFrom st) (enterClass k declare d vs c st)
-    unfolding enterClass declared inClass
-    enter-quiet d vs c st h = allBind (store-all-quiet _ vs (declared (d .name) (placedUnder (d .parent) c st) st)) λ st′ q. allMap (block-quiet (d .body) _ st′ (still-under q h)) λ st″ q′. quiet-trans q q′
+    unfolding enterClass markDeclared inClass
+    enter-quiet d vs c st h = allBind (store-all-quiet _ vs (markDeclared (d .name) (placedUnder (d .parent) c st) st)) λ st′ q. allMap (block-quiet (d .body) _ st′ (still-under q h)) λ st″ q′. quiet-trans q q′
 
   -- ---- The levels
 

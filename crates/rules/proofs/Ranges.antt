@@ -13,11 +13,11 @@ use Rattle.values.specs.declared.Value.{Value}
 use Rattle.values.specs.declared.Value.the-variants.{Integer, String, Boolean}
 use Rattle.values.specs.declared.Labelled.{Labelled}
 use Rattle.values.specs.declared.Reason.the-variants.{Overflow, DivisionByZero}
-use Rattle.rules.specs.Outcome.{Outcome, Result, fails, gives, at, plain, joining, _▷_}
+use Rattle.rules.specs.Outcome.{Outcome, Result, fails, gives, at, plain, joining, _>>=_}
 use Rattle.rules.specs.Arithmetic.{integerIn, stringIn, booleanIn, fits64, inRange, isZero, floorDivide, sum, difference, quotient, isGreater, sameValue}
 use Rattle.rules.specs.Tree.{Constant, Operator, plus, minus, divide, greater, equal, and, or, Expression, Arms, placeOf}
 use Rattle.rules.specs.State.{Scope, topScope, classScope, Cell, Cells, Entry, State, Context, Known, scopesTried}
-use Rattle.rules.specs.Evaluate.{isEntry, isAttribute, orElse, readIn, readAttribute, integers, booleans, operate, ofConstant, evaluate, select}
+use Rattle.rules.specs.Evaluate.{isEntry, isAttribute, orElse, readIn, readAttribute, integers, booleans, equality, operate, ofConstant, evaluate, select}
 use Rattle.rules.proofs.Lists.{Perhaps, notThere, there, Each, found, each-under}
 use Rattle.rules.proofs.Outcome.{All, allRefused, allDone, allBind, allAny, allIf, allFound, Gives, givesNone, givesOne, allAt}
 use Rattle.rules.proofs.ReadBack.{FitsValue, fitsInteger, fitsString, fitsBoolean, FitsLabelled, FitsEntry}
@@ -65,10 +65,9 @@ module _ (Given : Type 0) where
   unfolding joining
   joining-fits k w h = allBind h λ x f. allDone (λ y. record { value = f y .value; labels = words-union k (x .labels) (w y) (f y .labels) })
 
-  -- an operand, then the rest with its value
-  operand-fits : {m : Outcome Labelled} {f : Value → Outcome Labelled} → All Ranged m → ((x : Value) → (Given → FitsValue x) → All Ranged (f x)) → All Ranged (m ▷ f)
-  unfolding _▷_
-  operand-fits h k = allBind h λ x f. joining-fits (x .labels) (λ y. f y .labels) (k (x .value) (λ y. f y .value))
+  -- an operand, then the rest under its set
+  operand-fits : {m : Outcome Labelled} {f : Labelled → Outcome Labelled} → All Ranged m → ((x : Labelled) → All Ranged (f x)) → All Ranged (m >>= λ x. joining (x .labels) (f x))
+  operand-fits h k = allBind h λ x f. joining-fits (x .labels) (λ y. f y .labels) (k x)
 
   -- constants
   pub constant-fits : {v : Constant} → FitsConstant Given v → Ranged (ofConstant v)
@@ -79,20 +78,20 @@ module _ (Given : Type 0) where
   integers-fit : (f : ℤ → ℤ → Result Value) → ((i j : ℤ) → Gives FitsValue (f i j)) → (p l r : ℕ) (x : Value) {right : Outcome Labelled} → All Ranged right → All Ranged (integers f p l r x right)
   unfolding integers
   integers-fit f g p l r x h =
-      allAny (at l (integerIn x)) λ i. operand-fits h λ v _. allAny (at r (integerIn v)) λ j. allBind (allAt p (g i j)) λ u k. plain-fits k
+      allAny (at l (integerIn x)) λ i. operand-fits h λ v. allAny (at r (integerIn (v .value))) λ j. allBind (allAt p (g i j)) λ u k. plain-fits k
 
   booleans-fit : (d : Bool) (l r : ℕ) (x : Value) {right : Outcome Labelled} → All Ranged right → All Ranged (booleans d l r x right)
   unfolding booleans
   booleans-fit d l r x h =
-      allAny (at l (booleanIn x)) λ i. allIf (Bool·beq i d) (plain-fits fitsBoolean) (operand-fits h λ v _. allAny (at r (booleanIn v)) λ j. plain-fits fitsBoolean)
+      allAny (at l (booleanIn x)) λ i. allIf (Bool·beq i d) (plain-fits fitsBoolean) (operand-fits h λ v. allAny (at r (booleanIn (v .value))) λ j. plain-fits fitsBoolean)
 
   operate-fits : (o : Operator) (p l r : ℕ) (x : Value) {right : Outcome Labelled} → All Ranged right → All Ranged (operate o p l r x right)
-  unfolding operate sum difference isGreater
+  unfolding operate equality sum difference isGreater
   operate-fits plus p l r x h = integers-fit sum (λ i j. range-fits (i +ℤ j)) p l r x h
   operate-fits minus p l r x h = integers-fit difference (λ i j. range-fits (i -ℤ j)) p l r x h
   operate-fits divide p l r x h = integers-fit quotient quotient-fits p l r x h
   operate-fits greater p l r x h = integers-fit isGreater (λ i j. givesOne fitsBoolean) p l r x h
-  operate-fits equal p l r x h = operand-fits h λ v _. plain-fits fitsBoolean
+  operate-fits equal p l r x h = operand-fits h λ v. plain-fits fitsBoolean
   operate-fits and p l r x h = booleans-fit false l r x h
   operate-fits or p l r x h = booleans-fit true l r x h
 
@@ -130,13 +129,13 @@ module _ (Given : Type 0) where
       evaluate-fits (fitsVariable {p = p} {n = n} f) = read-fits p (st .cells) n (scopesTried c st) cells
       evaluate-fits (fitsTopVariable {p = p} {n = n} f) = read-fits p (st .cells) n (topScope ∷ []) cells
       evaluate-fits (fitsClassVariable {p = p} {q = q} {n = n} f g) = allAny _ λ _. read-fits p (st .cells) n (classScope q ∷ []) cells
-      evaluate-fits (fitsOperation {p = p} {o = o} {a = a} {b = b} f g) = operand-fits (evaluate-fits f) λ x _. operate-fits o p (placeOf a) (placeOf b) x (evaluate-fits g)
-      evaluate-fits (fitsNegation f) = operand-fits (evaluate-fits f) λ x _. allAny _ λ b. plain-fits fitsBoolean
-      evaluate-fits (fitsAttributeRead {p = p} {t = t} {n = n} f g h) = operand-fits (evaluate-fits h) λ x _. allAny _ λ m. allAny _ λ _. attribute-read-fits p t m n (st .entries) entries
-      evaluate-fits (fitsSelector {p = p} f g) = operand-fits (evaluate-fits f) λ x _. select-fits g p x
+      evaluate-fits (fitsOperation {p = p} {o = o} {a = a} {b = b} f g) = operand-fits (evaluate-fits f) λ x. operate-fits o p (placeOf a) (placeOf b) (x .value) (evaluate-fits g)
+      evaluate-fits (fitsNegation f) = operand-fits (evaluate-fits f) λ x. allAny _ λ b. plain-fits fitsBoolean
+      evaluate-fits (fitsAttributeRead {p = p} {t = t} {n = n} f g h) = operand-fits (evaluate-fits h) λ x. allAny _ λ m. allAny _ λ _. attribute-read-fits p t m n (st .entries) entries
+      evaluate-fits (fitsSelector {p = p} f g) = operand-fits (evaluate-fits f) λ x. select-fits g p (x .value)
       evaluate-fits fitsUnreadable = allRefused
 
       select-fits : {s : Arms} → FitsArms Given s → (p : ℕ) (x : Value) → All Ranged (select k c st s p x)
       select-fits fitsNoArm p x = allRefused
-      select-fits (fitsArm v f g) p x = operand-fits (allDone (constant-fits v)) λ w _. allIf (sameValue x w) (evaluate-fits f) (select-fits g p x)
+      select-fits (fitsArm {v = v} w f g) p x = joining-fits _ (λ y. words-one (v .label)) (allIf (sameValue x (v .value)) (evaluate-fits f) (select-fits g p x))
       select-fits (fitsDefaultArm f g) p x = evaluate-fits f

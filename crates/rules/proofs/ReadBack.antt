@@ -22,28 +22,7 @@ use Rattle.rules.specs.State.{Attribute, Entry}
 use Rattle.rules.specs.Catalog.{highBytes, fieldBytes, word64, booleanByte, valueBytes, attributeBytes, attributesBytes, entryBytes, catalogBytes, bodiesUp, bodies, valueOf, attributeOf, attributesOf, entryOf, entriesOf, readCatalog}
 use Rattle.wire.proofs.Laws.{number-back}
 use Rattle.rules.proofs.Lists.{Each, noneLeft, also}
-
--- ---- What fits
-
--- an integer in 64 bits, a string's number in two bytes
-pub data FitsValue : Value → Type 0 where
-  fitsInteger : {z : ℤ} → fits64 z ≡ true → FitsValue (Integer z)
-  fitsString : {n : ℕ} → n < 65536 → FitsValue (String n)
-  fitsBoolean : {b : Bool} → FitsValue (Boolean b)
-
-pub record FitsLabelled (x : Labelled) : Type 0 where
-  pub value : FitsValue (x .value)
-  pub labels : Words64 (x .labels)
-
-pub record FitsAttribute (a : Attribute) : Type 0 where
-  pub name : a .name < 65536
-  pub content : FitsLabelled (a .content)
-
-pub record FitsEntry (e : Entry) : Type 0 where
-  pub type : e .type < 65536
-  pub title : e .title < 65536
-  pub labels : Words64 (e .labels)
-  pub attributes : Each FitsAttribute (e .attributes)
+pub use Rattle.rules.specs.Ranges.{FitsValue, fitsInteger, fitsString, fitsBoolean, FitsLabelled, FitsAttribute, FitsEntry}
 
 -- ---- Numbers
 

@@ -595,10 +595,67 @@ row26 = record {
   expected = refused 2 0;
 }
 
+-- 27. x = 1 (1); node default: case 7 (2) {8 (3): {x = 5 (4)}}; kiosk "k" (5): a = x.
+-- "A case without a match does nothing", and its set, 2 and the pattern tried, 3, all the same joins the mark in node of the name that its branch
+-- assigns. x is read from top, {1}, past node's mark, {2,3}. So a = 1 has 1,2,3,5 and the kiosk 5. Steps: 21, 23, 25.
+-- Kills: a case without a match joining nothing (a loses 2 and 3).
+unfoldable pub row27 : Row
+row27 = record {
+  manifest =
+      1 ∷ 0 ∷ 20 ∷ 2 ∷ 0 ∷ 1 ∷ 97 ∷ 2 ∷ 0 ∷ 1 ∷ 107 ∷ 2 ∷ 0 ∷ 5 ∷ 107 ∷ 105 ∷ 111 ∷ 115 ∷ 107 ∷ 2 ∷ 0 ∷ 1 ∷ 120 ∷
+      33 ∷ 0 ∷ 14 ∷ 0 ∷ 3 ∷ 16 ∷ 0 ∷ 9 ∷ 1 ∷ 0 ∷ 0 ∷ 0 ∷ 0 ∷ 0 ∷ 0 ∷ 0 ∷ 1 ∷
+      48 ∷ 0 ∷ 77 ∷ 27 ∷ 0 ∷ 0 ∷ 32 ∷ 0 ∷ 71 ∷
+      35 ∷ 0 ∷ 47 ∷ 16 ∷ 0 ∷ 9 ∷ 2 ∷ 0 ∷ 0 ∷ 0 ∷ 0 ∷ 0 ∷ 0 ∷ 0 ∷ 7 ∷
+      36 ∷ 0 ∷ 32 ∷ 16 ∷ 0 ∷ 9 ∷ 3 ∷ 0 ∷ 0 ∷ 0 ∷ 0 ∷ 0 ∷ 0 ∷ 0 ∷ 8 ∷ 32 ∷ 0 ∷ 17 ∷
+      33 ∷ 0 ∷ 14 ∷ 0 ∷ 3 ∷ 16 ∷ 0 ∷ 9 ∷ 4 ∷ 0 ∷ 0 ∷ 0 ∷ 0 ∷ 0 ∷ 0 ∷ 0 ∷ 5 ∷
+      37 ∷ 0 ∷ 18 ∷ 0 ∷ 2 ∷ 17 ∷ 0 ∷ 3 ∷ 5 ∷ 0 ∷ 1 ∷
+      38 ∷ 0 ∷ 7 ∷ 0 ∷ 0 ∷ 19 ∷ 0 ∷ 2 ∷ 0 ∷ 3 ∷ [];
+  device = 100 ∷ 101 ∷ 115 ∷ 107 ∷ [];
+  limit = 65535;
+  output = 300;
+  memory = 65536;
+  expected = accepted 3 (
+      64 ∷ 0 ∷ 84 ∷ 0 ∷ 2 ∷ 0 ∷ 1 ∷
+      32 ∷ 0 ∷ 0 ∷ 0 ∷ 0 ∷ 0 ∷ 0 ∷ 0 ∷ 0 ∷ 0 ∷ 0 ∷ 0 ∷ 0 ∷ 0 ∷ 0 ∷ 0 ∷ 0 ∷ 0 ∷ 0 ∷ 0 ∷ 0 ∷ 0 ∷ 0 ∷ 0 ∷ 0 ∷ 0 ∷ 0 ∷ 0 ∷ 0 ∷ 0 ∷ 0 ∷ 0 ∷
+      65 ∷ 0 ∷ 45 ∷ 0 ∷ 0 ∷
+      46 ∷ 0 ∷ 0 ∷ 0 ∷ 0 ∷ 0 ∷ 0 ∷ 0 ∷ 0 ∷ 0 ∷ 0 ∷ 0 ∷ 0 ∷ 0 ∷ 0 ∷ 0 ∷ 0 ∷ 0 ∷ 0 ∷ 0 ∷ 0 ∷ 0 ∷ 0 ∷ 0 ∷ 0 ∷ 0 ∷ 0 ∷ 0 ∷ 0 ∷ 0 ∷ 0 ∷ 0 ∷
+      66 ∷ 0 ∷ 8 ∷ 0 ∷ 0 ∷ 0 ∷ 0 ∷ 0 ∷ 0 ∷ 0 ∷ 1 ∷ []);
+}
+
+-- 28. kiosk "a" (1): f = 5 (2); kiosk "c" (3): f = kiosk["a" (4)] f.
+-- An attribute that is read is given with its set, {1,2}, and the title's, {4}; the resource's, {3}, is in every attribute's. So f of kiosk "c"
+-- is 5 with 1,2,3,4. Steps: 25, 25.
+-- Kills: an attribute read that leaves out its title's labels (f of "c" loses 4).
+unfoldable pub row28 : Row
+row28 = record {
+  manifest =
+      1 ∷ 0 ∷ 20 ∷ 2 ∷ 0 ∷ 1 ∷ 97 ∷ 2 ∷ 0 ∷ 1 ∷ 99 ∷ 2 ∷ 0 ∷ 1 ∷ 102 ∷ 2 ∷ 0 ∷ 5 ∷ 107 ∷ 105 ∷ 111 ∷ 115 ∷ 107 ∷
+      37 ∷ 0 ∷ 25 ∷ 0 ∷ 3 ∷ 17 ∷ 0 ∷ 3 ∷ 1 ∷ 0 ∷ 0 ∷
+      38 ∷ 0 ∷ 14 ∷ 0 ∷ 2 ∷ 16 ∷ 0 ∷ 9 ∷ 2 ∷ 0 ∷ 0 ∷ 0 ∷ 0 ∷ 0 ∷ 0 ∷ 0 ∷ 5 ∷
+      37 ∷ 0 ∷ 26 ∷ 0 ∷ 3 ∷ 17 ∷ 0 ∷ 3 ∷ 3 ∷ 0 ∷ 1 ∷
+      38 ∷ 0 ∷ 15 ∷ 0 ∷ 2 ∷ 24 ∷ 0 ∷ 10 ∷ 0 ∷ 3 ∷ 0 ∷ 2 ∷ 17 ∷ 0 ∷ 3 ∷ 4 ∷ 0 ∷ 0 ∷ [];
+  device = 100 ∷ 101 ∷ 115 ∷ 107 ∷ [];
+  limit = 65535;
+  output = 300;
+  memory = 65536;
+  expected = accepted 2 (
+      64 ∷ 0 ∷ 84 ∷ 0 ∷ 3 ∷ 0 ∷ 0 ∷
+      2 ∷ 0 ∷ 0 ∷ 0 ∷ 0 ∷ 0 ∷ 0 ∷ 0 ∷ 0 ∷ 0 ∷ 0 ∷ 0 ∷ 0 ∷ 0 ∷ 0 ∷ 0 ∷ 0 ∷ 0 ∷ 0 ∷ 0 ∷ 0 ∷ 0 ∷ 0 ∷ 0 ∷ 0 ∷ 0 ∷ 0 ∷ 0 ∷ 0 ∷ 0 ∷ 0 ∷ 0 ∷
+      65 ∷ 0 ∷ 45 ∷ 0 ∷ 2 ∷
+      6 ∷ 0 ∷ 0 ∷ 0 ∷ 0 ∷ 0 ∷ 0 ∷ 0 ∷ 0 ∷ 0 ∷ 0 ∷ 0 ∷ 0 ∷ 0 ∷ 0 ∷ 0 ∷ 0 ∷ 0 ∷ 0 ∷ 0 ∷ 0 ∷ 0 ∷ 0 ∷ 0 ∷ 0 ∷ 0 ∷ 0 ∷ 0 ∷ 0 ∷ 0 ∷ 0 ∷ 0 ∷
+      66 ∷ 0 ∷ 8 ∷ 0 ∷ 0 ∷ 0 ∷ 0 ∷ 0 ∷ 0 ∷ 0 ∷ 5 ∷
+      64 ∷ 0 ∷ 84 ∷ 0 ∷ 3 ∷ 0 ∷ 1 ∷
+      8 ∷ 0 ∷ 0 ∷ 0 ∷ 0 ∷ 0 ∷ 0 ∷ 0 ∷ 0 ∷ 0 ∷ 0 ∷ 0 ∷ 0 ∷ 0 ∷ 0 ∷ 0 ∷ 0 ∷ 0 ∷ 0 ∷ 0 ∷ 0 ∷ 0 ∷ 0 ∷ 0 ∷ 0 ∷ 0 ∷ 0 ∷ 0 ∷ 0 ∷ 0 ∷ 0 ∷ 0 ∷
+      65 ∷ 0 ∷ 45 ∷ 0 ∷ 2 ∷
+      30 ∷ 0 ∷ 0 ∷ 0 ∷ 0 ∷ 0 ∷ 0 ∷ 0 ∷ 0 ∷ 0 ∷ 0 ∷ 0 ∷ 0 ∷ 0 ∷ 0 ∷ 0 ∷ 0 ∷ 0 ∷ 0 ∷ 0 ∷ 0 ∷ 0 ∷ 0 ∷ 0 ∷ 0 ∷ 0 ∷ 0 ∷ 0 ∷ 0 ∷ 0 ∷ 0 ∷ 0 ∷
+      66 ∷ 0 ∷ 8 ∷ 0 ∷ 0 ∷ 0 ∷ 0 ∷ 0 ∷ 0 ∷ 0 ∷ 5 ∷ []);
+}
+
 unfoldable pub table : List Row
 table =
     row1 ∷ row2 ∷ row3 ∷ row4 ∷ row5 ∷ row6 ∷ row7 ∷ row8 ∷ row9 ∷ row10 ∷ row11 ∷ row12 ∷ row13 ∷
-    row14 ∷ row15 ∷ row16 ∷ row17 ∷ row18 ∷ row19 ∷ row20 ∷ row21 ∷ row22 ∷ row23 ∷ row24 ∷ row25 ∷ row26 ∷ []
+    row14 ∷ row15 ∷ row16 ∷ row17 ∷ row18 ∷ row19 ∷ row20 ∷ row21 ∷ row22 ∷ row23 ∷ row24 ∷ row25 ∷ row26 ∷
+    row27 ∷ row28 ∷ []
 
 -- What the schedule printer writes for the manifests of rows 1 and 2 and device "desk". Each line ends in a line feed.
 

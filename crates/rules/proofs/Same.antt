@@ -1,4 +1,4 @@
--- Two trees that are one tree: the same but for places, and for constants whose labels are in D, the labels of differing constants.
+-- Two trees that are one tree: the same but for places, and for constants whose labels are those of differing constants.
 use Prim.Native.Nat.{ℕ}
 use mathlib.Core.Path.{_≡_}
 use mathlib.Core.Logic.{_⊎_}
@@ -8,7 +8,7 @@ use Rattle.labels.specs.declared.Labels.{Labels}
 use Rattle.labels.specs.Sets.{has}
 use Rattle.values.specs.declared.Value.{Value}
 use mathlib.Core.Bool.{true}
-use Rattle.rules.specs.Tree.{Constant, Operator, Expression, constant, variable, topVariable, classVariable, operation, negation, attributeRead, selector, Arms, noArm, arm, defaultArm, AttributeField, Statement, assignment, conditional, choice, resource, defined, class, include, Block, end, next, Branches, noBranch, branch, defaultBranch, Parameter, Parent, TypeDefinition, ClassDefinition, Definition, typeDefinition, classDefinition, Devices, Item, statement, node, definition}
+use Rattle.rules.specs.Tree.{Constant, Operator, Expression, constant, variable, topVariable, classVariable, operation, negation, attributeRead, selector, Arms, noArm, arm, defaultArm, AttributeField, Statement, assignment, conditional, choice, builtInResource, definedResource, classWithAttributes, include, Block, end, next, Branches, noBranch, branch, defaultBranch, Parameter, Parent, TypeDefinition, ClassDefinition, Definition, typeDefinition, classDefinition, Devices, Item, statement, node, definition}
 use Rattle.rules.specs.Tree
 
 -- the elements of two lists, pairwise
@@ -21,19 +21,28 @@ pub data Optional {A : Type 0} (R : A → A → Type 0) : Option A → Option A 
   bothNone : Optional R none none
   bothSome : {x y : A} → R x y → Optional R (some x) (some y)
 
-module _ (D : ℕ → Type 0) where
+-- an edit: the labels of differing constants, and which places of the two trees' constants belong together
+pub record Edit : Type 1 where
+  pub differs : ℕ → Type 0
+  pub places : ℕ → ℕ → Type 0
+
+-- the edit of these labels, where nothing is said of places
+abbrev pub anywhere : (ℕ → Type 0) → Edit
+anywhere differs = record { differs = differs; places = λ p q. Unit {0} }
+
+module _ (D : Edit) where
   -- a set that holds a label of a differing constant
   pub record High (s : Labels) : Type 0 where
     pub label : ℕ
-    pub differs : D label
+    pub differs : D .differs label
     pub within : has s label ≡ true
 
   pub data SameConstant : Constant → Constant → Type 0 where
-    sameConstant : {l : ℕ} {v w : Value} → D l ⊎ (v ≡ w) → SameConstant (record { label = l; value = v }) (record { label = l; value = w })
+    sameConstant : {p q l : ℕ} {v w : Value} → D .places p q → D .differs l ⊎ (v ≡ w) → SameConstant (record { place = p; label = l; value = v }) (record { place = q; label = l; value = w })
 
   mutual
     pub data SameExpression : Expression → Expression → Type 0 where
-      sameConstants : {p q : ℕ} {v w : Constant} → SameConstant v w → SameExpression (constant p v) (constant q w)
+      sameConstants : {v w : Constant} → SameConstant v w → SameExpression (constant v) (constant w)
       sameVariable : {p q n : ℕ} → SameExpression (variable p n) (variable q n)
       sameTopVariable : {p q n : ℕ} → SameExpression (topVariable p n) (topVariable q n)
       sameClassVariable : {p q c n : ℕ} → SameExpression (classVariable p c n) (classVariable q c n)
@@ -59,9 +68,9 @@ module _ (D : ℕ → Type 0) where
       sameAssignment : {p q n : ℕ} {a a′ : Expression} → SameExpression a a′ → SameStatement (assignment p n a) (assignment q n a′)
       sameConditional : {p q : ℕ} {a a′ : Expression} {b d b′ d′ : Block} → SameExpression a a′ → SameBlock b b′ → SameBlock d d′ → SameStatement (conditional p a b d) (conditional q a′ b′ d′)
       sameChoice : {p q : ℕ} {a a′ : Expression} {bs bs′ : Branches} → SameExpression a a′ → SameBranches bs bs′ → SameStatement (choice p a bs) (choice q a′ bs′)
-      sameResource : {p q t : ℕ} {a a′ : Expression} {f f′ : List AttributeField} → SameExpression a a′ → SameAttributeFields f f′ → SameStatement (resource p t a f) (resource q t a′ f′)
-      sameDefined : {p q t : ℕ} {a a′ : Expression} {f f′ : List AttributeField} → SameExpression a a′ → SameAttributeFields f f′ → SameStatement (defined p t a f) (defined q t a′ f′)
-      sameClass : {p q c : ℕ} {f f′ : List AttributeField} → SameAttributeFields f f′ → SameStatement (class p c f) (class q c f′)
+      sameResource : {p q t : ℕ} {a a′ : Expression} {f f′ : List AttributeField} → SameExpression a a′ → SameAttributeFields f f′ → SameStatement (builtInResource p t a f) (builtInResource q t a′ f′)
+      sameDefined : {p q t : ℕ} {a a′ : Expression} {f f′ : List AttributeField} → SameExpression a a′ → SameAttributeFields f f′ → SameStatement (definedResource p t a f) (definedResource q t a′ f′)
+      sameClass : {p q c : ℕ} {f f′ : List AttributeField} → SameAttributeFields f f′ → SameStatement (classWithAttributes p c f) (classWithAttributes q c f′)
       sameInclude : {p q c : ℕ} → SameStatement (include p c) (include q c)
       sameUnreadableStatement : {p q : ℕ} → SameStatement (Statement.unreadable p) (Statement.unreadable q)
 

@@ -16,7 +16,7 @@ use Rattle.rules.specs.Bytes.{byte, two}
 use Rattle.rules.specs.Format.{allowed, forms, formIn, formOf, size, headSize, three, pieceRight}
 use Rattle.rules.specs.Check.{check}
 use Rattle.rules.specs.Fields.{Field, field, Fields, none as noFields, more, readAll, wrap, write, writeAll, headOf, tagOf, inner, first, others}
-use Rattle.rules.specs.Tree.{Constant, Operator, plus, minus, divide, greater, equal, and, or, Expression, constant, variable, topVariable, classVariable, operation, negation, attributeRead, selector, Arms, noArm, arm, defaultArm, AttributeField, Statement, assignment, conditional, choice, resource, defined, class, include, Block, end, next, Branches, noBranch, branch, defaultBranch, Parameter, Parent, Definition, typeDefinition, classDefinition, Devices, named, byDefault, Item, statement, node, definition, Manifest}
+use Rattle.rules.specs.Tree.{Constant, Operator, plus, minus, divide, greater, equal, and, or, Expression, constant, variable, topVariable, classVariable, operation, negation, attributeRead, selector, Arms, noArm, arm, defaultArm, AttributeField, Statement, assignment, conditional, choice, builtInResource, definedResource, classWithAttributes, include, Block, end, next, Branches, noBranch, branch, defaultBranch, Parameter, Parent, Definition, typeDefinition, classDefinition, Devices, named, byDefault, Item, statement, node, definition, Manifest}
 use Rattle.rules.specs.Tree
 use Rattle.rules.specs.Read.{entryFor, number, signed64, valueFrom, constantFrom, operators, operatorFrom, isDefault, noExpression, expressionTags, armFrom, armsFrom, expressionBy, expressionIn, expressionFrom, attributeFrom, attributesFrom, noStatement, statementTags, branchFrom, branchesFrom, statementBy, statementIn, statementsFrom, blockIn, blockFrom, defaultFrom, parameterFrom, parametersFrom, lastOf, lastBlock, parentFrom, afterParent, namesFrom, devicesFrom, aStatement, itemTags, itemBy, itemFrom, itemsFrom, stringsFrom, manifestFrom, manifestOf}
 use Rattle.rules.specs.Catalog.{highBytes, word64, booleanByte}
@@ -63,7 +63,7 @@ defaultField = bare 0x1b [] noFields
 
 unfoldable mutual
   pub expressionField : Expression → Field
-  expressionField (constant p c) = constantField c
+  expressionField (constant c) = constantField c
   expressionField (variable p n) = bare 0x13 (nameBytes n) noFields
   expressionField (topVariable p n) = bare 0x14 (nameBytes n) noFields
   expressionField (classVariable p c n) = bare 0x15 (nameBytes c ++ nameBytes n) noFields
@@ -87,9 +87,9 @@ unfoldable mutual
   statementField (assignment p n a) = bare 0x21 (nameBytes n) (single (expressionField a))
   statementField (conditional p a b c) = bare 0x22 [] (more (expressionField a) (more (bare 0x20 [] (blockFields b)) (single (bare 0x20 [] (blockFields c)))))
   statementField (choice p a bs) = bare 0x23 [] (more (expressionField a) (branchFields bs))
-  statementField (resource p t a fs) = bare 0x25 (nameBytes t) (more (expressionField a) (attributeFields fs))
-  statementField (defined p t a fs) = bare 0x27 (nameBytes t) (more (expressionField a) (attributeFields fs))
-  statementField (class p c fs) = bare 0x28 (nameBytes c) (attributeFields fs)
+  statementField (builtInResource p t a fs) = bare 0x25 (nameBytes t) (more (expressionField a) (attributeFields fs))
+  statementField (definedResource p t a fs) = bare 0x27 (nameBytes t) (more (expressionField a) (attributeFields fs))
+  statementField (classWithAttributes p c fs) = bare 0x28 (nameBytes c) (attributeFields fs)
   statementField (include p c) = bare 0x29 (nameBytes c) noFields
   statementField (Statement.unreadable p) = bare 0 [] noFields
 

@@ -10,14 +10,9 @@ use Rattle.rules.specs.Evaluate.{any, isEntry, isAttribute}
 use Rattle.rules.specs.Outcome.{_>>=_}
 use Rattle.rules.specs.Run.{Given, isGiven, namedOnce, attributesUnder}
 use Rattle.rules.specs.EditRule.{oneMore, howMany}
+pub use Rattle.rules.specs.Once.{Unique, uniqueNone, unique, Key, keyOf, hasKey, nameOf, UniqueEntries, UniqueNames}
 use Rattle.rules.proofs.Lists.{either-left, either-right, neither, or-true-left, or-true-right, both-left, both-right, both-true, eqb-true, eqb-same, eqb-sym, Each, noneLeft, also}
 use Rattle.rules.proofs.Outcome.{All, allDone, allBind, allMap, allPassed}
-
--- ---- A test by a key: `keyed k e` says whether e has the key k
-
-pub data Unique {A K : Type 0} (key : A → K) (keyed : K → A → Bool) : List A → Type 0 where
-  uniqueNone : Unique key keyed []
-  unique : {e : A} {c : List A} → any (keyed (key e)) c ≡ false → Unique key keyed c → Unique key keyed (e ∷ c)
 
 module _ {A K : Type 0} (key : A → K) (keyed : K → A → Bool) (own : (e : A) → keyed (key e) e ≡ true) (only : (k : K) (e : A) → keyed k e ≡ true → key e ≡ k) where
   not-more : (a b : Bool) (n : ℕ) → (a || b) ≡ false → (b ≡ false → n ≡ 0) → oneMore a n ≡ 0
@@ -53,16 +48,6 @@ module _ {A K : Type 0} (key : A → K) (keyed : K → A → Bool) (own : (e : A
 
 -- ---- Entries by type and title, attributes by name
 
-pub record Key : Type 0 where
-  pub type : ℕ
-  pub title : ℕ
-
-abbrev pub keyOf : Entry → Key
-keyOf e = record { type = e .type; title = e .title }
-
-abbrev pub hasKey : Key → Entry → Bool
-hasKey k e = isEntry (k .type) (k .title) e
-
 own-key : (e : Entry) → hasKey (keyOf e) e ≡ true
 unfolding isEntry
 own-key e = both-true (eqb (e .type) (e .type)) _ (eqb-same (e .type)) (eqb-same (e .title))
@@ -71,9 +56,6 @@ pub only-key : (k : Key) (e : Entry) → hasKey k e ≡ true → keyOf e ≡ k
 unfolding isEntry
 only-key k e h = λ i. record { type = eqb-true (e .type) (k .type) (both-left _ (eqb (e .title) (k .title)) h) i; title = eqb-true (e .title) (k .title) (both-right (eqb (e .type) (k .type)) _ h) i }
 
-abbrev pub nameOf : Attribute → ℕ
-nameOf a = a .name
-
 own-name : (a : Attribute) → isAttribute (nameOf a) a ≡ true
 unfolding isAttribute
 own-name a = eqb-same (a .name)
@@ -81,12 +63,6 @@ own-name a = eqb-same (a .name)
 only-name : (n : ℕ) (a : Attribute) → isAttribute n a ≡ true → nameOf a ≡ n
 unfolding isAttribute
 only-name n a h = eqb-true (a .name) n h
-
-abbrev pub UniqueEntries : List Entry → Type 0
-UniqueEntries c = Unique keyOf hasKey c
-
-abbrev pub UniqueNames : List Attribute → Type 0
-UniqueNames l = Unique nameOf isAttribute l
 
 pub entry-once : {e : Entry} {c : List Entry} → UniqueEntries c → List·Memᴰ e c → howMany (isEntry (e .type) (e .title)) c ≡ 1
 entry-once u m = exactly-once keyOf hasKey own-key only-key u m

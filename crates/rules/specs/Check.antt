@@ -22,10 +22,25 @@ use Rattle.values.specs.declared.Reason.the-variants.{Malformed, TooDeep, Strin
 
 -- ---- 3 and 4: the fields are as listed, and none is deeper than 32
 
--- the header of the field at q, where ps may come and what surrounds it ends at e: its three bytes are there, its body ends within, its
--- length is right, its tag may stand here; and what may come after it
-unfoldable pub header : List ℕ → Parts → ℕ → ℕ → Next
-header m ps q e = pick (leb (q + 3) e && (leb (endOf m q) e && lengthRight (formOf (byte m q)) (two m (q + 1)))) (follow ps (byte m q)) Wrong
+-- the header of the field at q, where what surrounds it ends at e: a test for each clause
+-- "the three bytes are there"
+abbrev pub headerThere : (q e : ℕ) → Bool
+headerThere q e = leb (q + 3) e
+
+-- "the body ends within the field (or manifest) around it"
+abbrev pub bodyWithin : (manifest : List ℕ) → (q e : ℕ) → Bool
+bodyWithin m q e = leb (endOf m q) e
+
+-- "for tags whose body has one length only .., that length"
+abbrev pub lengthListed : (manifest : List ℕ) → (q : ℕ) → Bool
+lengthListed m q = lengthRight (formOf (byte m q)) (two m (q + 1))
+
+-- "the tag is one that may stand at this position", where ps may come: what may come after it
+abbrev pub tagAllowed : (manifest : List ℕ) → Parts → (q : ℕ) → Next
+tagAllowed m ps q = follow ps (byte m q)
+
+unfoldable pub header : (manifest : List ℕ) → Parts → (q e : ℕ) → Next
+header m ps q e = pick (headerThere q e && (bodyWithin m q e && lengthListed m q)) (tagAllowed m ps q) Wrong
 
 -- the first fault counts
 abbrev pub andThen : Verdict → Verdict → Verdict

@@ -30,7 +30,7 @@ sameBytes (x ∷ xs) (y ∷ ys) = eqb x y && sameBytes xs ys
 
 -- the string with this number
 unfoldable pub stringAt : List (List ℕ) → ℕ → List ℕ
-stringAt ss n = getD ss n []
+stringAt strings n = getD strings n []
 
 -- the number of a string in the table, counted from i
 unfoldable pub stringNumber : List ℕ → List (List ℕ) → (i : ℕ) → Option ℕ
@@ -55,83 +55,84 @@ unfoldable pub titleText : List ℕ
 titleText = 116 ∷ 105 ∷ 116 ∷ 108 ∷ 101 ∷ []
 
 unfoldable pub isBuiltIn : List (List ℕ) → ℕ → Bool
-isBuiltIn ss n = any (sameBytes (stringAt ss n)) builtInTypes
+isBuiltIn strings n = any (sameBytes (stringAt strings n)) builtInTypes
 
 -- before the first item runs
 unfoldable pub knownFirst : List (List ℕ) → Known
-knownFirst ss = record { builtIn = isBuiltIn ss; title = stringNumber titleText ss 0; definitions = [] }
+knownFirst strings = record { builtIn = isBuiltIn strings; title = stringNumber titleText strings 0; definitions = [] }
 
 -- ---- The node that runs
 
-unfoldable pub names : List (List ℕ) → (device : List ℕ) → Devices → Bool
-names ss device (named ns) = any (λ n. sameBytes (stringAt ss n) device) ns
-names ss device byDefault = false
+unfoldable pub names : (strings : List (List ℕ)) → (device : List ℕ) → Devices → Bool
+names strings device (named devices) = any (λ n. sameBytes (stringAt strings n) device) devices
+names strings device byDefault = false
 
 unfoldable pub isDefaultNode : Devices → Bool
-isDefaultNode (named ns) = false
+isDefaultNode (named devices) = false
 isDefaultNode byDefault = true
 
 -- the items without their nodes, and with the first node only that passes a test
 unfoldable pub withoutNodes : List Item → List Item
 withoutNodes [] = []
-withoutNodes (statement s ∷ is) = statement s ∷ withoutNodes is
-withoutNodes (node ds b ∷ is) = withoutNodes is
-withoutNodes (definition d ∷ is) = definition d ∷ withoutNodes is
+withoutNodes (statement s ∷ items) = statement s ∷ withoutNodes items
+withoutNodes (node devices block ∷ items) = withoutNodes items
+withoutNodes (definition d ∷ items) = definition d ∷ withoutNodes items
 
 unfoldable pub withNode : (Devices → Bool) → List Item → List Item
-withNode f [] = []
-withNode f (statement s ∷ is) = statement s ∷ withNode f is
-withNode f (node ds b ∷ is) = elim (f ds) [ true ↦ node ds b ∷ withoutNodes is | false ↦ withNode f is ]
-withNode f (definition d ∷ is) = definition d ∷ withNode f is
+withNode test [] = []
+withNode test (statement s ∷ items) = statement s ∷ withNode test items
+withNode test (node devices block ∷ items) = elim (test devices) [ true ↦ node devices block ∷ withoutNodes items | false ↦ withNode test items ]
+withNode test (definition d ∷ items) = definition d ∷ withNode test items
 
 unfoldable pub isNode : (Devices → Bool) → Item → Bool
-isNode f (statement s) = false
-isNode f (node ds b) = f ds
-isNode f (definition d) = false
+isNode test (statement s) = false
+isNode test (node devices block) = test devices
+isNode test (definition d) = false
 
 -- "The first node item naming the device, or else the first default one, runs its block in node scope, where it stands; other node items
 -- do nothing."
-unfoldable pub itemsFor : List (List ℕ) → (device : List ℕ) → List Item → List Item
-itemsFor ss device is = elim (any (isNode (names ss device)) is) [ true ↦ withNode (names ss device) is | false ↦ withNode isDefaultNode is ]
+unfoldable pub itemsFor : (strings : List (List ℕ)) → (device : List ℕ) → List Item → List Item
+itemsFor strings device items = elim (any (isNode (names strings device)) items) [ true ↦ withNode (names strings device) items | false ↦ withNode isDefaultNode items ]
 
 -- ---- The run
 
 -- "The finished entry passes the output's end or 65,535 bytes in all": what may be written
-unfoldable pub roomIn : ℕ → ℕ
-roomIn output = min output 65535
+unfoldable pub roomIn : (outputLength : ℕ) → ℕ
+roomIn outputLength = min outputLength 65535
 
-unfoldable pub start : (limit output : ℕ) → State
-start limit output = record {
-  cells = λ s n. noCell;
+unfoldable pub start : (limit outputLength : ℕ) → State
+start limit outputLength = record {
+  cells = λ scope n. noCell;
   used = 0;
   classes = λ n. none;
   trail = noLabels;
   entries = [];
   stepsLeft = limit;
-  room = roomIn output;
+  room = roomIn outputLength;
 }
 
-unfoldable pub runManifest : Manifest → (device : List ℕ) → (limit output : ℕ) → Outcome State
-runManifest m device limit output = runItems (knownFirst (m .strings)) (itemsFor (m .strings) device (m .items)) (start limit output)
+unfoldable pub runManifest : Manifest → (device : List ℕ) → (limit outputLength : ℕ) → Outcome State
+runManifest manifest device limit outputLength =
+    runItems (knownFirst (manifest .strings)) (itemsFor (manifest .strings) device (manifest .items)) (start limit outputLength)
 
 -- ---- The whole
 
 unfoldable pub checked : Verdict → Outcome (Unit {0})
 checked Sound = done tt
-checked (Fault r p) = refused r p
+checked (Fault reason place) = refused reason place
 
 -- 1, 2, then 3 to 5, then the run
-unfoldable pub finalState : (manifest device : List ℕ) → (limit output memory : ℕ) → Outcome State
-finalState m device limit output memory = do
-  _ ← refuseIf (ltb memory 65536) MemoryTooShort 0
-  _ ← refuseIf (eqb (length m) 0 || ltb 65535 (length m)) ManifestLength 0
-  _ ← checked (check m)
-  runManifest (manifestOf m) device limit output
+unfoldable pub finalState : (manifest device : List ℕ) → (limit outputLength memoryLength : ℕ) → Outcome State
+finalState manifest device limit outputLength memoryLength = do
+  _ ← refuseIf (ltb memoryLength 65536) MemoryTooShort 0
+  _ ← refuseIf (eqb (length manifest) 0 || ltb 65535 (length manifest)) ManifestLength 0
+  _ ← checked (check manifest)
+  runManifest (manifestOf manifest) device limit outputLength
 
 -- "Entries in declaration order": the state has the latest first
 unfoldable pub onto : List Entry → List Entry → List Entry
 onto [] later = later
-onto (e ∷ es) later = onto es (e ∷ later)
+onto (entry ∷ entries) later = onto entries (entry ∷ later)
 
 unfoldable pub entriesInOrder : State → List Entry
 entriesInOrder st = onto (st .entries) []
@@ -144,32 +145,34 @@ pub record Compiled : Type 0 where
 unfoldable pub compiledFrom : (limit : ℕ) → State → Compiled
 compiledFrom limit st = record { catalog = catalogBytes (entriesInOrder st); steps = limit - st .stepsLeft }
 
-unfoldable pub compiled : (manifest device : List ℕ) → (limit output memory : ℕ) → Outcome Compiled
-compiled m device limit output memory = finalState m device limit output memory >>= λ st. done (compiledFrom limit st)
+unfoldable pub compiled : (manifest device : List ℕ) → (limit outputLength memoryLength : ℕ) → Outcome Compiled
+compiled manifest device limit outputLength memoryLength = do
+  st ← finalState manifest device limit outputLength memoryLength
+  done (compiledFrom limit st)
 
 -- the answer: number and place, or the catalog's length and the steps
 unfoldable pub answerOf : Outcome Compiled → Answer
-answerOf (refused r p) = Refused r p
+answerOf (refused reason place) = Refused reason place
 answerOf (done c) = Catalog (length (c .catalog)) (c .steps)
 
 -- "Bytes after the catalog are zero"; "after a refusal the output and the working memory are zero throughout"
-unfoldable pub outputAfter : ℕ → Outcome Compiled → List ℕ
-outputAfter output (refused r p) = replicate output 0
-outputAfter output (done c) = c .catalog ++ replicate (output - length (c .catalog)) 0
+unfoldable pub outputOf : (outputLength : ℕ) → Outcome Compiled → List ℕ
+outputOf outputLength (refused reason place) = replicate outputLength 0
+outputOf outputLength (done c) = c .catalog ++ replicate (outputLength - length (c .catalog)) 0
 
 -- "The working memory is zero after every call."
-unfoldable pub memoryAfter : ℕ → List ℕ
-memoryAfter memory = replicate memory 0
+unfoldable pub memoryOf : (memoryLength : ℕ) → List ℕ
+memoryOf memoryLength = replicate memoryLength 0
 
--- what a call answers, and all bytes of the output and of the memory lent to it
+-- what a call answers, and all bytes of the output and of the memory lent to it, as they are after it
 pub record Effect : Type 0 where
   pub answer : Answer
-  pub output : List ℕ
-  pub memory : List ℕ
+  pub outputAfter : List ℕ
+  pub memoryAfter : List ℕ
 
-unfoldable pub compile : (manifest device : List ℕ) → (limit output memory : ℕ) → Effect
-compile m device limit output memory = record {
-  answer = answerOf (compiled m device limit output memory);
-  output = outputAfter output (compiled m device limit output memory);
-  memory = memoryAfter memory;
+unfoldable pub compile : (manifest device : List ℕ) → (limit outputLength memoryLength : ℕ) → Effect
+compile manifest device limit outputLength memoryLength = record {
+  answer = answerOf (compiled manifest device limit outputLength memoryLength);
+  outputAfter = outputOf outputLength (compiled manifest device limit outputLength memoryLength);
+  memoryAfter = memoryOf memoryLength;
 }

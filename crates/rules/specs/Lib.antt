@@ -13,3 +13,5 @@ pub mod Run
 pub mod Compile
 pub mod Schedule
 pub mod EditRule
+pub mod Ranges
+pub mod Once

@@ -5,10 +5,11 @@ use mathlib.Core.Option.{Option, none, some}
 use Rattle.values.specs.declared.Reason.{Reason}
 use Rattle.values.specs.declared.Labelled.{Labelled}
 use Rattle.values.specs.declared.Value.{Value}
+pub use Rattle.values.specs.Labelled.{under}
 use Rattle.labels.specs.declared.Labels.{Labels}
-use Rattle.labels.specs.Sets.{noLabels, _∪_}
+use Rattle.labels.specs.Sets.{noLabels}
 
-infixl 10 _>>=_ _▷_
+infixl 10 _>>=_
 pub data Outcome (A : Type 0) : Type 0 where
   refused : Reason → (place : ℕ) → Outcome A
   done : A → Outcome A
@@ -37,14 +38,12 @@ unfoldable pub at : {A : Type 0} → ℕ → Result A → Outcome A
 at p (fails r) = refused r p
 at p (gives a) = done a
 
+-- ---- Values with their sets
+
 -- a value that no label decides by itself
 abbrev pub plain : Value → Outcome Labelled
 plain v = done (record { value = v; labels = noLabels })
 
--- labels joined to an outcome's
+-- the same outcome, its value under more labels
 unfoldable pub joining : Labels → Outcome Labelled → Outcome Labelled
-joining k m = m >>= λ y. done (record { value = y .value; labels = k ∪ y .labels })
-
--- an operand evaluated, then the rest with its value: the set is "the union over operands evaluated"
-unfoldable pub _▷_ : Outcome Labelled → (Value → Outcome Labelled) → Outcome Labelled
-_▷_ m f = m >>= λ x. joining (x .labels) (f (x .value))
+joining set m = m >>= λ x. done (under set x)

@@ -10,7 +10,7 @@ use Rattle.values.specs.declared.Value.the-variants.{Integer, String, Boolean}
 unfoldable pub use Rattle.wire.specs.Numbers.{number, signed64}
 use Rattle.rules.specs.Bytes.{byte, two}
 use Rattle.rules.specs.Fields.{Field, field, Fields, none as noFields, more, readAll, headOf, tagOf, inner, first, others}
-use Rattle.rules.specs.Tree.{Constant, Operator, plus, minus, divide, greater, equal, and, or, Expression, constant, variable, topVariable, classVariable, operation, negation, attributeRead, selector, Arms, noArm, arm, defaultArm, AttributeField, Statement, assignment, conditional, choice, resource, defined, class, include, Block, end, next, Branches, noBranch, branch, defaultBranch, Parameter, Parent, typeDefinition, classDefinition, Devices, named, byDefault, Item, statement, node, definition, Manifest}
+use Rattle.rules.specs.Tree.{Constant, Operator, plus, minus, divide, greater, equal, and, or, Expression, constant, variable, topVariable, classVariable, operation, negation, attributeRead, selector, Arms, noArm, arm, defaultArm, AttributeField, Statement, assignment, conditional, choice, builtInResource, definedResource, classWithAttributes, include, Block, end, next, Branches, noBranch, branch, defaultBranch, Parameter, Parent, typeDefinition, classDefinition, Devices, named, byDefault, Item, statement, node, definition, Manifest}
 use Rattle.rules.specs.Tree
 
 -- what a list of numbers has for n
@@ -24,7 +24,7 @@ unfoldable pub valueFrom : ℕ → List ℕ → Value
 valueFrom t h = elim (eqb t 0x10) [ true ↦ Integer (signed64 (number (drop 1 h) 0)) | false ↦ elim (eqb t 0x11) [ true ↦ String (two h 1) | false ↦ Boolean (eqb (byte h 1) 1) ] ]
 
 unfoldable pub constantFrom : Field → Constant
-constantFrom (field p t h ks) = record { label = byte h 0; value = valueFrom t h }
+constantFrom (field p t h ks) = record { place = p; label = byte h 0; value = valueFrom t h }
 
 unfoldable pub operators : List (ℕ × Operator)
 operators = (0, plus) ∷ (1, minus) ∷ (2, divide) ∷ (3, greater) ∷ (4, equal) ∷ (5, and) ∷ (6, or) ∷ []
@@ -57,7 +57,7 @@ armsFrom f (more k ks) = armFrom f (isDefault (first (inner k))) (inner k) (arms
 
 -- the expression at p, by its tag; f reads the expressions in it
 unfoldable pub expressionBy : (Field → Expression) → Field → ℕ → List ℕ → Fields → ExpressionTag → Expression
-expressionBy f k p h ks aConstant = constant p (constantFrom k)
+expressionBy f k p h ks aConstant = constant (constantFrom k)
 expressionBy f k p h ks aVariable = variable p (two h 0)
 expressionBy f k p h ks aTopVariable = topVariable p (two h 0)
 expressionBy f k p h ks aClassVariable = classVariable p (two h 0) (two h 2)
@@ -106,9 +106,9 @@ unfoldable pub statementBy : (Field → Block) → ℕ → List ℕ → Fields �
 statementBy f p h ks anAssignment = assignment p (two h 0) (expressionFrom (first ks))
 statementBy f p h ks aConditional = conditional p (expressionFrom (first ks)) (f (first (others ks))) (f (first (others (others ks))))
 statementBy f p h ks aChoice = choice p (expressionFrom (first ks)) (branchesFrom f (others ks))
-statementBy f p h ks aResource = resource p (two h 0) (expressionFrom (first ks)) (attributesFrom (others ks))
-statementBy f p h ks aDefined = defined p (two h 0) (expressionFrom (first ks)) (attributesFrom (others ks))
-statementBy f p h ks aClass = class p (two h 0) (attributesFrom ks)
+statementBy f p h ks aResource = builtInResource p (two h 0) (expressionFrom (first ks)) (attributesFrom (others ks))
+statementBy f p h ks aDefined = definedResource p (two h 0) (expressionFrom (first ks)) (attributesFrom (others ks))
+statementBy f p h ks aClass = classWithAttributes p (two h 0) (attributesFrom ks)
 statementBy f p h ks anInclude = include p (two h 0)
 statementBy f p h ks noStatement = Statement.unreadable p
 

@@ -20,8 +20,8 @@ use Rattle.rules.specs.Catalog.{readCatalog}
 
 -- "true/false"
 unfoldable pub booleanText : Bool → List ℕ
-booleanText true = 116 ∷ 114 ∷ 117 ∷ 101 ∷ []
-booleanText false = 102 ∷ 97 ∷ 108 ∷ 115 ∷ 101 ∷ []
+booleanText true = 116 ∷ 114 ∷ 117 ∷ 101 ∷ []  -- true
+booleanText false = 102 ∷ 97 ∷ 108 ∷ 115 ∷ 101 ∷ []  -- false
 
 -- "value (decimal, bytes, or true/false)"
 unfoldable pub valueText : List (List ℕ) → Value → List ℕ
@@ -39,7 +39,7 @@ withCommas [] = []
 withCommas (n ∷ []) = decimal n
 withCommas (n ∷ m ∷ ns) = decimal n ++ (44 ∷ withCommas (m ∷ ns))
 
--- "how many labels, the labels rising", and the line's end
+-- "how many labels, the labels rising", each after a space, and the line's end
 unfoldable pub labelsText : Labels → List ℕ
 labelsText s = 32 ∷ decimal (countOf s) ++ (32 ∷ withCommas (labelsUp s 256 0) ++ (10 ∷ []))
 
@@ -57,7 +57,7 @@ attributeLines ss e (a ∷ ats) = attributeLine ss e a ++ attributeLines ss e at
 
 -- "A resource without attributes has "-" for attribute and value."
 unfoldable pub entryLinesBy : List (List ℕ) → Entry → List Attribute → List ℕ
-entryLinesBy ss e [] = lineStart ss e ++ (45 ∷ 32 ∷ 45 ∷ labelsText (e .labels))
+entryLinesBy ss e [] = lineStart ss e ++ (45 ∷ 32 ∷ 45 ∷ labelsText (e .labels))  -- "- -"
 entryLinesBy ss e (a ∷ ats) = attributeLines ss e (a ∷ ats)
 
 unfoldable pub entryLines : List (List ℕ) → List Entry → List ℕ
@@ -66,11 +66,12 @@ entryLines ss (e ∷ es) = entryLinesBy ss e (e .attributes) ++ entryLines ss es
 
 -- "The last line is "steps" and their number."
 unfoldable pub stepsLine : ℕ → List ℕ
-stepsLine n = 115 ∷ 116 ∷ 101 ∷ 112 ∷ 115 ∷ 32 ∷ decimal n ++ (10 ∷ [])
+stepsLine n = 115 ∷ 116 ∷ 101 ∷ 112 ∷ 115 ∷ 32 ∷ decimal n ++ (10 ∷ [])  -- "steps n"
 
 -- "A refusal prints only "refused", number, "at", place."
 unfoldable pub refusalLine : (number place : ℕ) → List ℕ
-refusalLine n p = 114 ∷ 101 ∷ 102 ∷ 117 ∷ 115 ∷ 101 ∷ 100 ∷ 32 ∷ decimal n ++ (32 ∷ 97 ∷ 116 ∷ 32 ∷ decimal p ++ (10 ∷ []))
+refusalLine n p =
+    114 ∷ 101 ∷ 102 ∷ 117 ∷ 115 ∷ 101 ∷ 100 ∷ 32 ∷ decimal n ++ (32 ∷ 97 ∷ 116 ∷ 32 ∷ decimal p ++ (10 ∷ []))  -- "refused n at p"
 
 unfoldable pub textOf : List (List ℕ) → Outcome Compiled → List ℕ
 textOf ss (refused r p) = refusalLine (numberOf r) p

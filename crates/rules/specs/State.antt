@@ -16,7 +16,7 @@ use Rattle.rules.specs.Tree.{Definition}
 pub data Scope : Type 0 where
   topScope nodeScope : Scope
   classScope : (class : ℕ) → Scope
-  bodyScope : (levelsLeft : ℕ) → Scope  -- no two bodies run at one level
+  bodyScope : (levelsLeft : ℕ) → Scope  -- no two bodies run at one level, so this one is empty when it is entered (proofs/Scopes.antt)
 
 unfoldable pub sameScope : Scope → Scope → Bool
 sameScope topScope topScope = true
@@ -51,19 +51,19 @@ pub record DeclaredClass : Type 0 where
 
 unfoldable pub parentOfClass : Option DeclaredClass → Option Scope
 parentOfClass none = none
-parentOfClass (some d) = some (d .parent)
+parentOfClass (some class) = some (class .parent)
 
--- the parent of a scope; b is the base of the code that reads: "Node's parent is top.", "A type body's parent is its base."
+-- the parent of a scope; `base` is that of the code that reads: "Node's parent is top.", "A type body's parent is its base."
 unfoldable pub parentOf : (classes : ℕ → Option DeclaredClass) → Base → Scope → Option Scope
-parentOf classes b topScope = none
-parentOf classes b nodeScope = some topScope
-parentOf classes b (classScope c) = parentOfClass (classes c)
-parentOf classes b (bodyScope n) = some (baseScope b)
+parentOf classes base topScope = none
+parentOf classes base nodeScope = some topScope
+parentOf classes base (classScope class) = parentOfClass (classes class)
+parentOf classes base (bodyScope n) = some (baseScope base)
 
--- a scope, "then the parents upward"; k is at least how many they are
-unfoldable pub upward : ℕ → (classes : ℕ → Option DeclaredClass) → Base → Scope → List Scope
-upward zero classes b s = []
-upward (suc k) classes b s = s ∷ elim (parentOf classes b s) [ none ↦ [] | some t ↦ upward k classes b t ]
+-- a scope, "then the parents upward", at most so many
+unfoldable pub upward : (most : ℕ) → (classes : ℕ → Option DeclaredClass) → Base → Scope → List Scope
+upward zero classes base scope = []
+upward (suc most) classes base scope = scope ∷ elim (parentOf classes base scope) [ none ↦ [] | some parent ↦ upward most classes base parent ]
 
 -- ---- Cells: "A cell is a scope and name with a value or a mark." A mark is kept for each scope and variable name.
 
@@ -80,25 +80,25 @@ Cells = Scope → ℕ → Cell
 
 -- a value goes into the cell; a mark is joined; the cell is freed: each where the test holds
 unfoldable pub valueInto : Bool → Labelled → Cell → Cell
-valueInto true x c = record { exists = true; value = some x; mark = c .mark }
-valueInto false x c = c
+valueInto true x cell = record { exists = true; value = some x; mark = cell .mark }
+valueInto false x cell = cell
 
 unfoldable pub markInto : Bool → Labels → Cell → Cell
-markInto true k c = record { exists = true; value = c .value; mark = k ∪ c .mark }
-markInto false k c = c
+markInto true set cell = record { exists = true; value = cell .value; mark = set ∪ cell .mark }
+markInto false set cell = cell
 
 unfoldable pub freed : Bool → Cell → Cell
-freed true c = noCell
-freed false c = c
+freed true cell = noCell
+freed false cell = cell
 
 -- how many of the n lowest names pass a test
 unfoldable pub count : ℕ → (ℕ → Bool) → ℕ
-count zero f = 0
-count (suc n) f = elim (f n) [ true ↦ suc (count n f) | false ↦ count n f ]
+count zero test = 0
+count (suc n) test = elim (test n) [ true ↦ suc (count n test) | false ↦ count n test ]
 
 -- how many of the names given have no cell yet: a table has at most 1,024 strings
 unfoldable pub newCells : (ℕ → Bool) → (ℕ → Cell) → ℕ
-newCells f c = count 1024 (λ n. f n && not (c n .exists))
+newCells names cells = count 1024 (λ n. names n && not (cells n .exists))
 
 -- ---- The catalog so far
 
@@ -135,24 +135,24 @@ pub record Known : Type 0 where
   pub title : Option ℕ  -- the number of the string "title"
   pub definitions : List Definition  -- those that have run, the latest first
 
--- the scopes that a plain read tries: at most 1,024 classes, node and top
+-- the scopes that a plain read tries: at most 1,024 classes, node and top (more of them change no read: proofs/Scopes.antt)
 unfoldable pub scopesTried : Context → State → List Scope
-scopesTried c st = upward 1026 (st .classes) (c .base) (c .scope)
+scopesTried here st = upward 1026 (st .classes) (here .base) (here .scope)
 
-unfoldable pub isDeclared : ℕ → State → Bool
-isDeclared c st = elim (st .classes c) [ none ↦ false | some d ↦ true ]
+unfoldable pub isDeclared : (class : ℕ) → State → Bool
+isDeclared class st = elim (st .classes class) [ none ↦ false | some declared ↦ true ]
 
--- ---- Changes of the state
+-- ---- Changes of the state. Each says which fields it changes; the others stay.
 
--- step: "A further step would pass the limit" (6)
-unfoldable pub takeStep : ℕ → State → Outcome State
+-- changes `stepsLeft`: "A further step would pass the limit" (6)
+unfoldable pub takeStep : (place : ℕ) → State → Outcome State
 takeStep p st = elim (st .stepsLeft) [
   | zero ↦ refused StepLimit p
   | suc n ↦ done (record { cells = st .cells; used = st .used; classes = st .classes; trail = st .trail; entries = st .entries; stepsLeft = n; room = st .room })
 ]
 
 -- "A 513th cell is needed" (22)
-unfoldable pub cellsFor : ℕ → ℕ → ℕ → Outcome (Unit {0})
+unfoldable pub cellsFor : (used more place : ℕ) → Outcome (Unit {0})
 cellsFor used more p = refuseIf (ltb 512 (used + more)) CellLimit p
 
 unfoldable pub isSome : {A : Type 0} → Option A → Bool
@@ -163,14 +163,14 @@ unfoldable pub oneIf : Bool → ℕ
 oneIf true = 1
 oneIf false = 0
 
--- a value goes to a name in a scope: "The variable has a value in this scope" (14), and 22
+-- changes `cells` and `used`: a value goes to a name in a scope; "The variable has a value in this scope" (14), and 22
 unfoldable pub assign : (place : ℕ) → Scope → (name : ℕ) → Labelled → State → Outcome State
-assign p s n x st = do
-  _ ← refuseIf (isSome (st .cells s n .value)) AssignedAgain p
-  _ ← cellsFor (st .used) (oneIf (not (st .cells s n .exists))) p
+assign p scope name x st = do
+  _ ← refuseIf (isSome (st .cells scope name .value)) AssignedAgain p
+  _ ← cellsFor (st .used) (oneIf (not (st .cells scope name .exists))) p
   done (record {
-    cells = λ t m. valueInto (sameScope t s && eqb m n) x (st .cells t m);
-    used = st .used + oneIf (not (st .cells s n .exists));
+    cells = λ s n. valueInto (sameScope s scope && eqb n name) x (st .cells s n);
+    used = st .used + oneIf (not (st .cells scope name .exists));
     classes = st .classes;
     trail = st .trail;
     entries = st .entries;
@@ -178,40 +178,41 @@ assign p s n x st = do
     room = st .room;
   })
 
--- the trail, where a branch holds a declaration
+-- the trail, with a condition's set where a branch holds a declaration
 unfoldable pub trailWith : Bool → Labels → Labels → Labels
-trailWith true k t = k ∪ t
-trailWith false k t = t
+trailWith true set trail = set ∪ trail
+trailWith false set trail = trail
 
--- a condition with the set k was tested in scope s: its marks, of the names given, and the trail
-unfoldable pub tested : Scope → (ℕ → Bool) → Bool → Labels → State → State
-tested s names declares k st = record {
-  cells = λ t m. markInto (sameScope t s && names m) k (st .cells t m);
-  used = st .used + newCells names (st .cells s);
+-- changes `cells`, `used` and `trail`: a condition was tested in a scope. Its set joins the marks of the names that its branches assign, and
+-- the trail if one of them declares something
+unfoldable pub tested : Scope → (names : ℕ → Bool) → (declares : Bool) → Labels → State → State
+tested scope names declares set st = record {
+  cells = λ s n. markInto (sameScope s scope && names n) set (st .cells s n);
+  used = st .used + newCells names (st .cells scope);
   classes = st .classes;
-  trail = trailWith declares k (st .trail);
+  trail = trailWith declares set (st .trail);
   entries = st .entries;
   stepsLeft = st .stepsLeft;
   room = st .room;
 }
 
--- a class is marked declared
-unfoldable pub declared : ℕ → DeclaredClass → State → State
-declared c d st = record {
+-- changes `classes`: a class "is marked declared"
+unfoldable pub markDeclared : (class : ℕ) → DeclaredClass → State → State
+markDeclared class declared st = record {
   cells = st .cells;
   used = st .used;
-  classes = λ n. elim (eqb n c) [ true ↦ some d | false ↦ st .classes n ];
+  classes = λ n. elim (eqb n class) [ true ↦ some declared | false ↦ st .classes n ];
   trail = st .trail;
   entries = st .entries;
   stepsLeft = st .stepsLeft;
   room = st .room;
 }
 
--- the cells of a scope "are used again"
+-- changes `cells` and `used`: the cells of a scope "are used again"
 unfoldable pub free : Scope → State → State
-free s st = record {
-  cells = λ t m. freed (sameScope t s) (st .cells t m);
-  used = st .used - count 1024 (λ n. st .cells s n .exists);
+free scope st = record {
+  cells = λ s n. freed (sameScope s scope) (st .cells s n);
+  used = st .used - count 1024 (λ n. st .cells scope n .exists);
   classes = st .classes;
   trail = st .trail;
   entries = st .entries;
@@ -219,6 +220,6 @@ free s st = record {
   room = st .room;
 }
 
--- a finished entry; `room` is what is left after it
-unfoldable pub withEntry : Entry → ℕ → State → State
-withEntry e r st = record { cells = st .cells; used = st .used; classes = st .classes; trail = st .trail; entries = e ∷ st .entries; stepsLeft = st .stepsLeft; room = r }
+-- changes `entries` and `room`: a finished entry, and the room left after it
+unfoldable pub withEntry : Entry → (room : ℕ) → State → State
+withEntry entry room st = record { cells = st .cells; used = st .used; classes = st .classes; trail = st .trail; entries = entry ∷ st .entries; stepsLeft = st .stepsLeft; room = room }

@@ -6,6 +6,7 @@ use Rattle.values.specs.declared.Value.{Value}
 
 -- "10 integer (label, 8 bytes, signed); 11 string (label, name); 12 boolean (label, 00 or 01)"
 pub record Constant : Type 0 where
+  pub place : ℕ
   pub label : ℕ
   pub value : Value
 
@@ -16,7 +17,7 @@ pub data Operator : Type 0 where
 -- Expressions. `unreadable` is a field that is not as listed: the check before running lets none pass.
 mutual
   pub data Expression : Type 0 where
-    constant : (place : ℕ) → Constant → Expression  -- 10, 11, 12
+    constant : Constant → Expression  -- 10, 11, 12
     variable : (place name : ℕ) → Expression  -- 13
     topVariable : (place name : ℕ) → Expression  -- 14
     classVariable : (place class name : ℕ) → Expression  -- 15
@@ -44,9 +45,9 @@ mutual
     assignment : (place name : ℕ) → Expression → Statement  -- 21
     conditional : (place : ℕ) → Expression → (yes no : Block) → Statement  -- 22
     choice : (place : ℕ) → Expression → Branches → Statement  -- 23
-    resource : (place type : ℕ) → (title : Expression) → List AttributeField → Statement  -- 25
-    defined : (place type : ℕ) → (title : Expression) → List AttributeField → Statement  -- 27
-    class : (place class : ℕ) → List AttributeField → Statement  -- 28
+    builtInResource : (place type : ℕ) → (title : Expression) → List AttributeField → Statement  -- 25
+    definedResource : (place type : ℕ) → (title : Expression) → List AttributeField → Statement  -- 27
+    classWithAttributes : (place class : ℕ) → List AttributeField → Statement  -- 28
     include : (place class : ℕ) → Statement  -- 29
     unreadable : (place : ℕ) → Statement
 
@@ -107,7 +108,7 @@ pub record Manifest : Type 0 where
 
 -- the place of an expression
 unfoldable pub placeOf : Expression → ℕ
-placeOf (constant p c) = p
+placeOf (constant c) = c .place
 placeOf (variable p n) = p
 placeOf (topVariable p n) = p
 placeOf (classVariable p c n) = p

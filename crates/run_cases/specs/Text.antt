@@ -13,6 +13,13 @@ pub record FirstAt (text : List ℕ) (p b r : ℕ) : Type 0 where
   pub before : (k : ℕ) → k < r → p ≤ k → byte text k ≡ b → ⊥
   pub found : r < length text → byte text r ≡ b
 
+-- r is the place after the first space from p on, or the end where there is none
+pub record AfterSpace (text : List ℕ) (p r : ℕ) : Type 0 where
+  pub space : ℕ
+  pub first : FirstAt text p 32 space
+  pub after : r ≡ min (space + 1) (length text)
+  pub within : r ≤ length text
+
 -- the value of a hexadecimal digit, 0 to 9 and a to f; 16 for any other byte
 unfoldable pub hexValue : ℕ → ℕ
 hexValue b = pick (ltb b 48) 16 (pick (ltb b 58) (b - 48) (pick (ltb b 97) 16 (pick (ltb b 103) (b - 87) 16)))

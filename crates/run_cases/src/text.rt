@@ -4,7 +4,7 @@ ghost use Prim.Native.Nat.{_+_, _*_, _/_, _≤_, _<_, min};
 ghost use lib.ListN.{length};
 ghost use Rattle.io.specs.Counts.{Counts};
 ghost use Rattle.wire.specs.Runs.{over};
-ghost use Rattle.run_cases.specs.Text.{FirstAt, hexValue, hexDigit, pairAt, pairs, hexText, numberUpTo};
+ghost use Rattle.run_cases.specs.Text.{FirstAt, AfterSpace, hexValue, hexDigit, pairAt, pairs, hexText, numberUpTo};
 
 // ---- Places
 
@@ -26,7 +26,7 @@ pub fn find(text: &[u8], from: usize, wanted: u8) -> usize
 // The place after the next space, or the end.
 pub fn next_part(line: &[u8], from: usize) -> usize
     requires { ⌜ from ≤ length (now line) ⌝ }
-    ensures { λ r. ⌜ r ≤ length (now (line .entry)) ⌝ }
+    ensures { λ r. ⌜ AfterSpace (now (line .entry)) from r ⌝ }
 {
     let end = find(line, from, b' ');
     if end < line.len() { end + 1 } else { end }
@@ -151,6 +151,7 @@ fn least(a: usize, b: usize) -> usize
 pub fn put_hex(into: &mut [u8], bytes: &[u8], count: usize) -> usize
     ensures { λ r. ⌜ now (into .exit) ≡ over (now (into .entry)) 0 (hexText (min (min count (length (now (bytes .entry)))) (length (now (into .entry)) / 2)) (now (bytes .entry)) 0) ⌝ }
     ensures { λ r. ⌜ Counts r (now (into .exit)) ⌝ }
+    ensures { λ r. ⌜ r ≡ 2 * min (min count (length (now (bytes .entry)))) (length (now (into .entry)) / 2) ⌝ }
 {
     let some = least(count, bytes.len());
     let all = least(some, into.len() / 2);

@@ -14,7 +14,9 @@ use Rattle.wire.specs.Runs.{zeros}
 use Rattle.rules.specs.Compile.{stringAt}
 use Rattle.rules.specs.Schedule.{valueText, labelsText, lineStart, attributeLine, entryLinesBy}
 use Rattle.rules.proofs.Lists.{both-right}
-use Rattle.catalog.specs.Finding.{labelsAt, contentAt}
+use Rattle.labels.specs.Bytes.{setAt}
+use Rattle.catalog.specs.Layout.{entryType, entryTitle, entryLabels, entryAttributes}
+use Rattle.catalog.specs.Finding.{contentAt}
 use Rattle.catalog.specs.Making.{stored, clearedFrom}
 use Rattle.schedule.specs.declared.Position.{Position}
 use Rattle.schedule.specs.declared.Subject.{Subject}
@@ -31,7 +33,7 @@ use Rattle.schedule.proofs.Tests.{stands-within, stands-sized, attribut
 -- ---- The texts, piece by piece
 
 module _ (ss : List (List ℕ)) (m : List ℕ) (p : ℕ) where
-  pub start-pieces : {t u : ℕ} → t ≡ two m (p + 3) → u ≡ two m (p + 5) → (stringAt ss t ++ (32 ∷ [])) ++ (stringAt ss u ++ (32 ∷ [])) ≡ lineStart ss (headAt m p)
+  pub start-pieces : {t u : ℕ} → t ≡ two m (p + entryType) → u ≡ two m (p + entryTitle) → (stringAt ss t ++ (32 ∷ [])) ++ (stringAt ss u ++ (32 ∷ [])) ≡ lineStart ss (headAt m p)
   unfolding lineStart headAt
   start-pieces type title = rw (type, title) (simp append-assoc)
 
@@ -40,7 +42,7 @@ module _ (ss : List (List ℕ)) (m : List ℕ) (p : ℕ) where
   unfolding attributeLine attributeAt
   attribute-pieces q name content = rw (name, content) (simp append-assoc)
 
-  pub resource-pieces : {k : Labels} → k ≡ labelsAt m (p + 7) → lineStart ss (headAt m p) ++ ((45 ∷ 32 ∷ 45 ∷ []) ++ labelsText k) ≡ entryLinesBy ss (headAt m p) []
+  pub resource-pieces : {k : Labels} → k ≡ setAt m (p + entryLabels) → lineStart ss (headAt m p) ++ ((45 ∷ 32 ∷ 45 ∷ []) ++ labelsText k) ≡ entryLinesBy ss (headAt m p) []
   unfolding entryLinesBy headAt
   resource-pieces labels = rw labels
 
@@ -100,26 +102,26 @@ inside m at s told some good = go (ltb 65535 (length m)) refl (leb (length m) (a
 module _ (m : List ℕ) (p q e : ℕ) (next : Position) where
   in-attribute : subjectIn m p q e ≡ AnAttribute next → (q < e) × (attributeStands m q e ≡ true) × (next ≡ nextIn p (endOf m q) e)
   unfolding subjectIn
-  in-attribute h = go (ltb q e) refl (leb (p + 39) q && attributeStands m q e) refl (eqb q (p + 39)) h
+  in-attribute h = go (ltb q e) refl (leb (p + entryAttributes) q && attributeStands m q e) refl (eqb q (p + entryAttributes)) h
     where
-      go : (x : Bool) → ltb q e ≡ x → (y : Bool) → (leb (p + 39) q && attributeStands m q e) ≡ y → (z : Bool)
+      go : (x : Bool) → ltb q e ≡ x → (y : Bool) → (leb (p + entryAttributes) q && attributeStands m q e) ≡ y → (z : Bool)
           → pick x (pick y (AnAttribute (nextIn p (endOf m q) e)) Unreadable) (pick z (NoAttributes (entryPosition e)) Unreadable) ≡ AnAttribute next
           → (q < e) × (attributeStands m q e ≡ true) × (next ≡ nextIn p (endOf m q) e)
-      go true hx true hy z h = (ltb-true q e hx, both-right (leb (p + 39) q) (attributeStands m q e) hy, cc)
+      go true hx true hy z h = (ltb-true q e hx, both-right (leb (p + entryAttributes) q) (attributeStands m q e) hy, cc)
       go true hx false hy z h = let n : _≡_ {A = ℕ} 0 1 = cc in absurd (omega arith)
       go false hx y hy true h = let n : _≡_ {A = ℕ} 0 1 = cc in absurd (omega arith)
       go false hx y hy false h = let n : _≡_ {A = ℕ} 0 1 = cc in absurd (omega arith)
 
-  in-header-only : subjectIn m p q e ≡ NoAttributes next → (e ≤ q) × (q ≡ p + 39) × (next ≡ entryPosition e)
+  in-header-only : subjectIn m p q e ≡ NoAttributes next → (e ≤ q) × (q ≡ p + entryAttributes) × (next ≡ entryPosition e)
   unfolding subjectIn
-  in-header-only h = go (ltb q e) refl (leb (p + 39) q && attributeStands m q e) (eqb q (p + 39)) refl h
+  in-header-only h = go (ltb q e) refl (leb (p + entryAttributes) q && attributeStands m q e) (eqb q (p + entryAttributes)) refl h
     where
-      go : (x : Bool) → ltb q e ≡ x → (y : Bool) → (z : Bool) → eqb q (p + 39) ≡ z
+      go : (x : Bool) → ltb q e ≡ x → (y : Bool) → (z : Bool) → eqb q (p + entryAttributes) ≡ z
           → pick x (pick y (AnAttribute (nextIn p (endOf m q) e)) Unreadable) (pick z (NoAttributes (entryPosition e)) Unreadable) ≡ NoAttributes next
-          → (e ≤ q) × (q ≡ p + 39) × (next ≡ entryPosition e)
+          → (e ≤ q) × (q ≡ p + entryAttributes) × (next ≡ entryPosition e)
       go true hx true z hz h = let n : _≡_ {A = ℕ} 0 1 = cc in absurd (omega arith)
       go true hx false z hz h = let n : _≡_ {A = ℕ} 0 1 = cc in absurd (omega arith)
-      go false hx y true hz h = (ltb-false q e hx, eqb-true q (p + 39) hz, cc)
+      go false hx y true hz h = (ltb-false q e hx, eqb-true q (p + entryAttributes) hz, cc)
       go false hx y false hz h = let n : _≡_ {A = ℕ} 0 1 = cc in absurd (omega arith)
 
 next-further : (m : List ℕ) (p q e : ℕ) → endOf m q ≤ e → q < nextIn p (endOf m q) e .attribute
@@ -146,6 +148,6 @@ module _ (m : List ℕ) (at next : Position) where
       let i = inside m at (NoAttributes next) told (λ e. let n : _≡_ {A = ℕ} 0 1 = cc in omega arith) (λ e. let n : _≡_ {A = ℕ} 0 1 = cc in omega arith) in
       let t = in-header-only m (at .entry) (at .attribute) (endOf m (at .entry)) next (i .is) in
       let ends : endOf m (at .entry) ≤ length m = stands-within m (at .entry) refl (i .stands) in
-      let wide : at .entry + 39 ≤ endOf m (at .entry) = stands-sized m (at .entry) (i .stands) in
-      let here : at .attribute ≡ at .entry + 39 = t .1 in
+      let wide : at .entry + entryAttributes ≤ endOf m (at .entry) = stands-sized m (at .entry) (i .stands) in
+      let here : at .attribute ≡ at .entry + entryAttributes = t .1 in
       record { short = i .short; entry = i .entry; attribute = omega arith; rises = rw (t .2) (omega arith) }

@@ -6,10 +6,9 @@ use mathlib.Core.List.{List, [], _∷_, _++_, append-assoc, append-nil}
 use Prim.Native.Nat.{ℕ, _+_, _-_, _≤_, _<_}
 use native.Mathlib.Omega.{arith}
 use borrow.Author.Tests.{le-ltb, le-leb}
-use lib.ListN.{length, length-append}
+use lib.ListN.{length}
 use lib.Seq.{take-append-seam}
-use Rattle.labels.specs.Bytes.{labelBytes}
-use Rattle.labels.proofs.Laws.{label-length}
+use Rattle.labels.specs.Bytes.{setAt}
 use Rattle.values.specs.declared.Value.{Value}
 use Rattle.values.specs.declared.Value.the-variants.{Integer, String, Boolean}
 use Rattle.wire.specs.Bytes.{byte, two, endOf}
@@ -17,15 +16,17 @@ use Rattle.wire.specs.Numbers.{highBytes, word64}
 use Rattle.wire.specs.Runs.{zeros}
 use Rattle.wire.proofs.Laws.{high-length}
 use Rattle.rules.specs.State.{Attribute, Entry}
+use Rattle.catalog.specs.Layout.{entryTitle, entryLabels, entryAttributes, attributeValue}
 use Rattle.rules.specs.Catalog.{fieldBytes, booleanByte, valueBytes, attributeBytes, attributesBytes, entryBytes, catalogBytes}
 use Rattle.rules.specs.Schedule.{lineStart, attributeLine, attributeLines, entryLinesBy, entryLines}
 use Rattle.rules.proofs.Lists.{Each}
 use Rattle.rules.proofs.ReadBack.{FitsAttribute, FitsEntry, field-length}
 use Rattle.syntax.proofs.StringsRead.{Short}
-use Rattle.catalog.specs.Finding.{Stands, EntryAt, Listed, labelsAt}
+use Rattle.catalog.specs.Finding.{Stands, EntryAt, Listed}
 use Rattle.catalog.specs.Making.{stored}
 use Rattle.catalog.proofs.Standing.{stands-byte, stands-two, stands-within, field-end}
 use Rattle.catalog.proofs.Search.{FirstListed}
+use Rattle.catalog.proofs.Making.{attribute-size}
 use Rattle.catalog.proofs.Entries.{entry-body, after-type, after-title, attribute-body, after-labels, attributes-listed, labels-back, content-back, entry-first, attribute-first}
 use Rattle.schedule.specs.declared.Position.{Position}
 use Rattle.schedule.specs.declared.Subject.{Subject}
@@ -65,14 +66,6 @@ module _ (m : List ℕ) {p : ℕ} where
       record { right = right-value 0x43 (highBytes 2 n) (omega arith) s (rw size); ends = field-end m 0x43 (highBytes 2 n) (omega arith) s }
   value-stands (Boolean b) s = record { right = right-value 0x44 (booleanByte b ∷ []) (omega arith) s refl; ends = field-end m 0x44 (booleanByte b ∷ []) (omega arith) s }
 
-attribute-length : (a : Attribute) → length (attributeBytes a) ≡ 37 + length (valueBytes (a .content .value))
-unfolding attributeBytes
-attribute-length a =
-    let value : List ℕ = valueBytes (a .content .value) in
-    let rest : List ℕ = labelBytes (a .content .labels) ++ value in
-    omega
-    (arith, field-length 0x41 (highBytes 2 (a .name) ++ rest), length-append (highBytes 2 (a .name)) rest, high-length 2 (a .name), length-append (labelBytes (a .content .labels)) value, label-length (a .content .labels))
-
 module _ (m : List ℕ) {q end : ℕ} (a : Attribute) (ats : List Attribute) (f : FirstListed attributeBytes FitsAttribute attributesBytes m q end a ats) where
   attribute-ends : endOf m q + length (attributesBytes ats) ≡ end
   attribute-ends = f .others .ends
@@ -81,7 +74,7 @@ module _ (m : List ℕ) {q end : ℕ} (a : Attribute) (ats : List Attribute) (f 
   unfolding attributeBytes
   attribute-stands =
       let v = value-stands m (a .content .value) (after-labels m a (f .stands)) in
-      let same : endOf m (q + 37) ≡ endOf m q = omega (arith, v .ends, f .ends, attribute-length a) in
+      let same : endOf m (q + attributeValue) ≡ endOf m q = omega (arith, v .ends, f .ends, attribute-size (a .name) (a .content)) in
       sym (value-tested m q end refl (field-tag m 0x41 _ (f .stands)) refl (omega (arith, attribute-ends)) refl same refl refl refl) ∙ v .right
 
   attribute-back : attributeAt m q ≡ a
@@ -94,7 +87,7 @@ module _ (m : List ℕ) {p end : ℕ} (e : Entry) (es : List Entry) (f : FirstLi
   entry-at : EntryAt m p e
   entry-at = record { stands = f .stands; short = f .short; fits = f .fits }
 
-  its-attributes : Listed FitsAttribute attributesBytes m (p + 39) (endOf m p) (e .attributes)
+  its-attributes : Listed FitsAttribute attributesBytes m (p + entryAttributes) (endOf m p) (e .attributes)
   its-attributes = attributes-listed m p e refl entry-at
 
   entry-within : endOf m p ≤ length m
@@ -108,11 +101,11 @@ module _ (m : List ℕ) {p end : ℕ} (e : Entry) (es : List Entry) (f : FirstLi
   entry-type : two m (p + 3) ≡ e .type
   entry-type = stands-two m (e .type) _ (f .fits .type) (entry-body m e (f .stands))
 
-  entry-title : two m (p + 5) ≡ e .title
+  entry-title : two m (p + entryTitle) ≡ e .title
   entry-title = stands-two m (e .title) _ (f .fits .title) (after-type m e (f .stands))
 
-  entry-labels : labelsAt m (p + 7) ≡ e .labels
-  entry-labels = labels-back m (p + 7) (e .labels) _ (f .fits .labels) (after-title m e (f .stands))
+  entry-labels : setAt m (p + entryLabels) ≡ e .labels
+  entry-labels = labels-back m (p + entryLabels) (e .labels) _ (f .fits .labels) (after-title m e (f .stands))
 
   -- what a line says of it
   attribute-text : (ss : List (List ℕ)) (a : Attribute) → attributeLine ss (headAt m p) a ≡ attributeLine ss e a
@@ -140,14 +133,14 @@ module _ (ss : List (List ℕ)) (m : List ℕ) (room : ℕ) where
       in-catalog q is = sym (in-entry m (position p q) size (omega (arith, entry-within m e es f)) (sym (entry-stands m e es f)) refl refl is)
 
       -- the line of one attribute, then those after it
-      attribute-print : (q : ℕ) (a : Attribute) (ats : List Attribute) {next : Position} {rest : List ℕ} → p + 39 ≤ q → FirstListed attributeBytes FitsAttribute attributesBytes m q (endOf m p) a ats → next ≡ nextIn p (endOf m q) (endOf m p) → Prints ss m room next rest → Prints ss m room (position p q) (attributeLine ss e a ++ rest)
+      attribute-print : (q : ℕ) (a : Attribute) (ats : List Attribute) {next : Position} {rest : List ℕ} → p + entryAttributes ≤ q → FirstListed attributeBytes FitsAttribute attributesBytes m q (endOf m p) a ats → next ≡ nextIn p (endOf m q) (endOf m p) → Prints ss m room next rest → Prints ss m room (position p q) (attributeLine ss e a ++ rest)
       unfolding nextLine lineFor
       attribute-print q a ats {next} after g n rest =
           let is = an-attribute m p q (endOf m p) (omega (arith, attribute-ends m a ats g)) after (sym (attribute-stands m a ats g)) refl refl n in
           let text : attributeLine ss (headAt m p) (attributeAt m q) ≡ attributeLine ss e a = ap (attributeLine ss (headAt m p)) (attribute-back m a ats g) ∙ attribute-text m e es f ss a in
           shown (attributeLine ss e a) (omega (arith, attribute-line-short short e a (g .fits .content .value))) (ap (lineFor ss m (position p q) room) (in-catalog q is) ∙ ap (λ (t : List ℕ). withNext next (fitted t room)) text) rest
 
-      attributes-print : (a : Attribute) (ats : List Attribute) (q : ℕ) {rest : List ℕ} → p + 39 ≤ q → Listed FitsAttribute attributesBytes m q (endOf m p) (a ∷ ats) → Prints ss m room (entryPosition (endOf m p)) rest → Prints ss m room (position p q) (attributeLines ss e (a ∷ ats) ++ rest)
+      attributes-print : (a : Attribute) (ats : List Attribute) (q : ℕ) {rest : List ℕ} → p + entryAttributes ≤ q → Listed FitsAttribute attributesBytes m q (endOf m p) (a ∷ ats) → Prints ss m room (entryPosition (endOf m p)) rest → Prints ss m room (position p q) (attributeLines ss e (a ∷ ats) ++ rest)
       unfolding attributeLines attributesBytes
       attributes-print a [] q {rest} after l p′ =
           let g = attribute-first m a [] l in
@@ -161,21 +154,21 @@ module _ (ss : List (List ℕ)) (m : List ℕ) (room : ℕ) where
           (attribute-print q a (b ∷ ats) after g (next-attribute p (endOf m q) (endOf m p) (λ e. omega arith)) (attributes-print b ats (endOf m q) (omega arith) (g .others) p′))
 
       -- an entry without attributes
-      resource-print : {rest : List ℕ} → Listed FitsAttribute attributesBytes m (p + 39) (endOf m p) [] → Prints ss m room (entryPosition (endOf m p)) rest → Prints ss m room (entryPosition p) (entryLinesBy ss e [] ++ rest)
+      resource-print : {rest : List ℕ} → Listed FitsAttribute attributesBytes m (p + entryAttributes) (endOf m p) [] → Prints ss m room (entryPosition (endOf m p)) rest → Prints ss m room (entryPosition p) (entryLinesBy ss e [] ++ rest)
       unfolding nextLine lineFor attributesBytes
       resource-print l p′ =
-          let last : endOf m p ≡ p + 39 = omega (arith, l .ends) in
-          let is = no-attributes m p (p + 39) (endOf m p) (omega arith) refl (next-entry p (endOf m p) (endOf m p) refl) in
-          shown (entryLinesBy ss e []) (omega (arith, resource-line-short short e)) (ap (lineFor ss m (entryPosition p) room) (in-catalog (p + 39) is) ∙ ap (λ (t : List ℕ). withNext (entryPosition (endOf m p)) (fitted t room)) (resource-text m e es f ss)) p′
+          let last : endOf m p ≡ p + entryAttributes = omega (arith, l .ends) in
+          let is = no-attributes m p (p + entryAttributes) (endOf m p) (omega arith) refl (next-entry p (endOf m p) (endOf m p) refl) in
+          shown (entryLinesBy ss e []) (omega (arith, resource-line-short short e)) (ap (lineFor ss m (entryPosition p) room) (in-catalog (p + entryAttributes) is) ∙ ap (λ (t : List ℕ). withNext (entryPosition (endOf m p)) (fitted t room)) (resource-text m e es f ss)) p′
 
       -- the lines of the entry, then those after it
       entry-print : {rest : List ℕ} → Prints ss m room (entryPosition (endOf m p)) rest → Prints ss m room (entryPosition p) (entryLinesBy ss e (e .attributes) ++ rest)
       unfolding entryLinesBy
       entry-print {rest} p′ = go (e .attributes) (its-attributes m e es f)
         where
-          go : (ats : List Attribute) → Listed FitsAttribute attributesBytes m (p + 39) (endOf m p) ats → Prints ss m room (entryPosition p) (entryLinesBy ss e ats ++ rest)
+          go : (ats : List Attribute) → Listed FitsAttribute attributesBytes m (p + entryAttributes) (endOf m p) ats → Prints ss m room (entryPosition p) (entryLinesBy ss e ats ++ rest)
           go [] l = resource-print l p′
-          go (a ∷ ats) l = attributes-print a ats (p + 39) (omega arith) l p′
+          go (a ∷ ats) l = attributes-print a ats (p + entryAttributes) (omega arith) l p′
 
     -- the lines of the entries that are left
     entries-print : (es : List Entry) (p : ℕ) → Listed FitsEntry catalogBytes m p (length m) es → Prints ss m room (entryPosition p) (entryLines ss es)

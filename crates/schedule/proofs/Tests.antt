@@ -13,6 +13,7 @@ use Rattle.schedule.specs.declared.Position.{Position}
 use Rattle.schedule.specs.declared.Subject.{Subject}
 use Rattle.schedule.specs.declared.Subject.the-variants.{AnAttribute, NoAttributes, End, NotACatalog}
 use Rattle.schedule.specs.Subjects.{position, entryPosition, valueRight, entryStands, attributeStands, nextIn, subjectIn, subjectAt}
+use Rattle.catalog.specs.Layout.{entryAttributes, beforeAttributes, attributeValue}
 
 -- ---- The value's field
 
@@ -41,13 +42,13 @@ module _ (m : List ℕ) (p : ℕ) {tag : ℕ} (is : tag ≡ byte m p) where
   no-entry h = rw (ne-eqb (byte m p) 0x40 (λ e. h (is ∙ e)))
 
   module _ (entry : tag ≡ 0x40) {size : ℕ} (sized : size ≡ two m (p + 1)) where
-    pub short-entry : size < 36 → false ≡ entryStands m p
+    pub short-entry : size < beforeAttributes → false ≡ entryStands m p
     unfolding entryStands
-    short-entry h = rw (eq-eqb (byte m p) 0x40 (sym is ∙ entry), lt-leb 36 (two m (p + 1)) (omega arith))
+    short-entry h = rw (eq-eqb (byte m p) 0x40 (sym is ∙ entry), lt-leb beforeAttributes (two m (p + 1)) (omega arith))
 
-    pub entry-end : {end : ℕ} → 36 ≤ size → end ≡ endOf m p → leb end (length m) ≡ entryStands m p
+    pub entry-end : {end : ℕ} → beforeAttributes ≤ size → end ≡ endOf m p → leb end (length m) ≡ entryStands m p
     unfolding entryStands
-    entry-end h e = rw (eq-eqb (byte m p) 0x40 (sym is ∙ entry), le-leb 36 (two m (p + 1)) (omega arith), e)
+    entry-end h e = rw (eq-eqb (byte m p) 0x40 (sym is ∙ entry), le-leb beforeAttributes (two m (p + 1)) (omega arith), e)
 
 -- ---- An attribute
 
@@ -61,16 +62,16 @@ module _ (m : List ℕ) (q e : ℕ) {tag : ℕ} (is : tag ≡ byte m q) where
     unfolding attributeStands
     past-entry h = rw (eq-eqb (byte m q) 0x41 (sym is ∙ attribute), lt-leb (endOf m q) e (omega arith))
 
-    module _ (within : end ≤ e) {last : ℕ} (value : last ≡ endOf m (q + 37)) where
+    module _ (within : end ≤ e) {last : ℕ} (value : last ≡ endOf m (q + attributeValue)) where
       pub other-end : (last ≡ end → ⊥) → false ≡ attributeStands m q e
       unfolding attributeStands
       other-end h =
-          rw (eq-eqb (byte m q) 0x41 (sym is ∙ attribute), le-leb (endOf m q) e (omega arith), ne-eqb (endOf m (q + 37)) (endOf m q) (λ x. h (value ∙ x ∙ sym ends)))
+          rw (eq-eqb (byte m q) 0x41 (sym is ∙ attribute), le-leb (endOf m q) e (omega arith), ne-eqb (endOf m (q + attributeValue)) (endOf m q) (λ x. h (value ∙ x ∙ sym ends)))
 
-      pub value-tested : {kind size : ℕ} {r : Bool} → last ≡ end → kind ≡ byte m (q + 37) → size ≡ two m (q + 37 + 1) → r ≡ valueRight kind size → r ≡ attributeStands m q e
+      pub value-tested : {kind size : ℕ} {r : Bool} → last ≡ end → kind ≡ byte m (q + attributeValue) → size ≡ two m (q + attributeValue + 1) → r ≡ valueRight kind size → r ≡ attributeStands m q e
       unfolding attributeStands
       value-tested h k n r =
-          rw (eq-eqb (byte m q) 0x41 (sym is ∙ attribute), le-leb (endOf m q) e (omega arith), eq-eqb (endOf m (q + 37)) (endOf m q) (sym value ∙ h ∙ ends))
+          rw (eq-eqb (byte m q) 0x41 (sym is ∙ attribute), le-leb (endOf m q) e (omega arith), eq-eqb (endOf m (q + attributeValue)) (endOf m q) (sym value ∙ h ∙ ends))
           (rw (k, n) at r)
 
 -- ---- A position
@@ -86,27 +87,27 @@ module _ (p q e : ℕ) where
 
 module _ (m : List ℕ) (p q e : ℕ) where
   module _ (past : e ≤ q) where
-    pub no-attributes : {next : Position} → q ≡ p + 39 → next ≡ nextIn p e e → NoAttributes next ≡ subjectIn m p q e
+    pub no-attributes : {next : Position} → q ≡ p + entryAttributes → next ≡ nextIn p e e → NoAttributes next ≡ subjectIn m p q e
     unfolding subjectIn
-    no-attributes h n = rw (le-ltb q e past, eq-eqb q (p + 39) h, n) (ap NoAttributes (sym (next-entry p e e refl)))
+    no-attributes h n = rw (le-ltb q e past, eq-eqb q (p + entryAttributes) h, n) (ap NoAttributes (sym (next-entry p e e refl)))
 
-    pub past-attributes : (q ≡ p + 39 → ⊥) → NotACatalog ≡ subjectIn m p q e
+    pub past-attributes : (q ≡ p + entryAttributes → ⊥) → NotACatalog ≡ subjectIn m p q e
     unfolding subjectIn
-    past-attributes h = rw (le-ltb q e past, ne-eqb q (p + 39) h)
+    past-attributes h = rw (le-ltb q e past, ne-eqb q (p + entryAttributes) h)
 
   module _ (before : q < e) where
-    pub in-header : q < p + 39 → NotACatalog ≡ subjectIn m p q e
+    pub in-header : q < p + entryAttributes → NotACatalog ≡ subjectIn m p q e
     unfolding subjectIn
-    in-header h = rw (lt-ltb q e before, lt-leb (p + 39) q h)
+    in-header h = rw (lt-ltb q e before, lt-leb (p + entryAttributes) q h)
 
-    module _ (after : p + 39 ≤ q) {b : Bool} (tested : b ≡ attributeStands m q e) where
+    module _ (after : p + entryAttributes ≤ q) {b : Bool} (tested : b ≡ attributeStands m q e) where
       pub an-attribute : {end : ℕ} {next : Position} → b ≡ true → end ≡ endOf m q → next ≡ nextIn p end e → AnAttribute next ≡ subjectIn m p q e
       unfolding subjectIn
-      an-attribute h end n = rw (lt-ltb q e before, le-leb (p + 39) q after, ← tested, h, n, end)
+      an-attribute h end n = rw (lt-ltb q e before, le-leb (p + entryAttributes) q after, ← tested, h, n, end)
 
       pub broken-attribute : b ≡ false → NotACatalog ≡ subjectIn m p q e
       unfolding subjectIn
-      broken-attribute h = rw (lt-ltb q e before, le-leb (p + 39) q after, ← tested, h)
+      broken-attribute h = rw (lt-ltb q e before, le-leb (p + entryAttributes) q after, ← tested, h)
 
 module _ (m : List ℕ) (at : Position) where
   pub too-long : 65535 < length m → NotACatalog ≡ subjectAt m at
@@ -134,21 +135,21 @@ module _ (m : List ℕ) (p : ℕ) where
   pub stands-within : {b : Bool} → b ≡ entryStands m p → b ≡ true → endOf m p ≤ length m
   unfolding entryStands
   stands-within is h =
-      let sized : Bool = leb 36 (two m (p + 1)) in
+      let sized : Bool = leb beforeAttributes (two m (p + 1)) in
       let ends : Bool = leb (endOf m p) (length m) in
       leb-true (endOf m p) (length m) (both-right sized ends (both-right (eqb (byte m p) 0x40) (sized && ends) (sym is ∙ h)))
 
-  pub stands-sized : entryStands m p ≡ true → p + 39 ≤ endOf m p
+  pub stands-sized : entryStands m p ≡ true → p + entryAttributes ≤ endOf m p
   unfolding entryStands
   stands-sized h =
-      let sized : Bool = leb 36 (two m (p + 1)) in
+      let sized : Bool = leb beforeAttributes (two m (p + 1)) in
       let ends : Bool = leb (endOf m p) (length m) in
-      omega (arith, leb-true 36 (two m (p + 1)) (both-left sized ends (both-right (eqb (byte m p) 0x40) (sized && ends) h)))
+      omega (arith, leb-true beforeAttributes (two m (p + 1)) (both-left sized ends (both-right (eqb (byte m p) 0x40) (sized && ends) h)))
 
 -- an attribute ends within its entry
 pub attribute-within : (m : List ℕ) (q e : ℕ) → attributeStands m q e ≡ true → endOf m q ≤ e
 unfolding attributeStands
 attribute-within m q e h =
     let ends : Bool = leb (endOf m q) e in
-    let value : Bool = eqb (endOf m (q + 37)) (endOf m q) && valueRight (byte m (q + 37)) (two m (q + 37 + 1)) in
+    let value : Bool = eqb (endOf m (q + attributeValue)) (endOf m q) && valueRight (byte m (q + attributeValue)) (two m (q + attributeValue + 1)) in
     leb-true (endOf m q) e (both-left ends value (both-right (eqb (byte m q) 0x41) (ends && value) h))

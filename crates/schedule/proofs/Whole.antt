@@ -21,7 +21,7 @@ use Rattle.rules.specs.Read.{manifestOf}
 use Rattle.rules.specs.Outcome.{Outcome, refused, done}
 use Rattle.rules.specs.State.{State}
 use Rattle.rules.specs.Catalog.{catalogBytes, readCatalog}
-use Rattle.rules.specs.Compile.{checked, finalState, entriesInOrder, Compiled, compiledFrom, compiled, outputAfter}
+use Rattle.rules.specs.Compile.{checked, finalState, entriesInOrder, Compiled, compiledFrom, compiled, outputOf}
 use Rattle.rules.specs.EditRule.{IsBytes}
 use Rattle.rules.specs.Schedule.{entryLines, stepsLine, refusalLine, textOf}
 use Rattle.rules.proofs.Lists.{Each, noneLeft, each-apply, either-right}
@@ -65,19 +65,15 @@ strings-indexed m index strings i =
 pub index-right : (m table : List ℕ) → check m ≡ Sound → length m ≤ 65535 → 2048 ≤ length table → stringsBy m (indexed m table) (length (stringPlaces m)) ≡ manifestOf m .strings
 index-right m table w short room = strings-indexed m (indexed m table) (length (stringPlaces m)) (table-holds m table w short room) ∙ sym (strings-read m w)
 
--- ---- A text that fits
-
--- the whole text, and zeros after it
-abbrev pub whole : List ℕ → (room : ℕ) → Stored Written
-whole text room = stored (Length (length text)) (text ++ zeros (room - length text))
-
-fits-whole : {room : ℕ} (text : List ℕ) → length text ≤ room → fitted text room ≡ whole text room
-unfolding fitted
-fits-whole {room} text h = rw (le-ltb room (length text) h)
+-- ---- The line of a refusal is short
 
 number-small : (r : Reason) → numberOf r ≤ 23
 unfolding numberOf
 number-small r = elim r [ MemoryTooShort ↦ lit≤ tt | ManifestLength ↦ lit≤ tt | Malformed ↦ lit≤ tt | TooDeep ↦ lit≤ tt | StringOrder ↦ lit≤ tt | StepLimit ↦ lit≤ tt | LevelLimit ↦ lit≤ tt | DefinedAgain ↦ lit≤ tt | Unknown ↦ lit≤ tt | DeclaredAgain ↦ lit≤ tt | UnknownParameter ↦ lit≤ tt | MissingParameter ↦ lit≤ tt | NoValue ↦ lit≤ tt | AssignedAgain ↦ lit≤ tt | WrongKind ↦ lit≤ tt | Overflow ↦ lit≤ tt | DivisionByZero ↦ lit≤ tt | NoMatch ↦ lit≤ tt | NotInCatalog ↦ lit≤ tt | ResourceAgain ↦ lit≤ tt | AttributeAgain ↦ lit≤ tt | CellLimit ↦ lit≤ tt | OutputFull ↦ lit≤ tt ]
+
+-- its place has 16 bits
+pub refusal-short : (r : Reason) (p : ℕ) → p < 65536 → length (refusalLine (numberOf r) p) ≤ 2048
+refusal-short r p h = refusal-line-short (numberOf r) p (omega (arith, number-small r)) (omega arith)
 
 -- ---- What is accepted was checked
 
@@ -108,8 +104,8 @@ module _ (m device : List ℕ) (limit output memory : ℕ) where
   -- ---- The lines of an accepted compile
 
   -- the catalog's part of the output that a compile leaves
-  pub catalog-part : (c : Compiled) → take (length (c .catalog)) (outputAfter output (done c)) ≡ c .catalog
-  unfolding outputAfter
+  pub catalog-part : (c : Compiled) → take (length (c .catalog)) (outputOf output (done c)) ≡ c .catalog
+  unfolding outputOf
   catalog-part c = take-append-seam (c .catalog) _
 
   -- the entries of a catalog fit their fields, if the manifest is a byte string
@@ -148,22 +144,14 @@ module _ (m device : List ℕ) (limit output memory : ℕ) where
         let lines : List ℕ = entryLines (manifestOf m .strings) (readCatalog (c .catalog)) in
         subst⁻¹ (λ (ss : List (List ℕ)). Prints ss (c .catalog) room start lines) (index-right m table (k .sound) (k .short) long) (accepted-prints b)
 
-    -- the last line fits
-    pub steps-fit : limit ≤ 65535 → fitted (stepsLine (c .steps)) room ≡ whole (stepsLine (c .steps)) room
-    steps-fit h = fits-whole _ (omega (arith, steps-line-short (c .steps) (omega (arith, steps-within-limit m device limit output memory accepted))))
+  -- ---- The text
 
-    -- the lines and the last line are the definition's text
-    pub accepted-text : entryLines (manifestOf m .strings) (readCatalog (c .catalog)) ++ stepsLine (c .steps) ≡ textOf (manifestOf m .strings) (compiled m device limit output memory)
-    unfolding textOf
-    accepted-text = sym (ap (textOf (manifestOf m .strings)) accepted)
+  -- the lines and the last line are the definition's text
+  pub accepted-text : {c : Compiled} → compiled m device limit output memory ≡ done c → entryLines (manifestOf m .strings) (readCatalog (c .catalog)) ++ stepsLine (c .steps) ≡ textOf (manifestOf m .strings) (compiled m device limit output memory)
+  unfolding textOf
+  accepted-text e = sym (ap (textOf (manifestOf m .strings)) e)
 
-  -- ---- The line of a refusal
-
-  module _ {r : Reason} {p : ℕ} (no : compiled m device limit output memory ≡ refused r p) where
-    -- it fits, as the place has 16 bits
-    pub refusal-fits : (room : ℕ) → 2048 ≤ room → p < 65536 → fitted (refusalLine (numberOf r) p) room ≡ whole (refusalLine (numberOf r) p) room
-    refusal-fits room wide h = fits-whole _ (omega (arith, refusal-line-short (numberOf r) p (omega (arith, number-small r)) (omega arith)))
-
-    pub refusal-text : refusalLine (numberOf r) p ≡ textOf (manifestOf m .strings) (compiled m device limit output memory)
-    unfolding textOf
-    refusal-text = sym (ap (textOf (manifestOf m .strings)) no)
+  -- and so is the line of a refusal
+  pub refusal-text : {r : Reason} {p : ℕ} → compiled m device limit output memory ≡ refused r p → refusalLine (numberOf r) p ≡ textOf (manifestOf m .strings) (compiled m device limit output memory)
+  unfolding textOf
+  refusal-text e = sym (ap (textOf (manifestOf m .strings)) e)

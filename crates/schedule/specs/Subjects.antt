@@ -7,7 +7,9 @@ use lib.Dec.{eqb, ltb, leb}
 use lib.ListN.{length}
 use Rattle.wire.specs.Bytes.{pick, byte, two, endOf}
 use Rattle.rules.specs.State.{Attribute, Entry}
-use Rattle.catalog.specs.Finding.{labelsAt, contentAt}
+use Rattle.labels.specs.Bytes.{setAt}
+use Rattle.catalog.specs.Layout.{entryType, entryTitle, entryLabels, entryAttributes, beforeAttributes, attributeName, attributeValue}
+use Rattle.catalog.specs.Finding.{contentAt}
 use Rattle.schedule.specs.declared.Position.{Position}
 use Rattle.schedule.specs.declared.Subject.{Subject}
 use Rattle.schedule.specs.declared.Subject.the-variants.{AnAttribute, NoAttributes, End, NotACatalog}
@@ -17,13 +19,13 @@ use Rattle.schedule.specs.declared.Subject.the-variants.{AnAttribute, No
 abbrev pub position : (entry attribute : ℕ) → Position
 position p q = record { entry = p; attribute = q }
 
--- the first line of the entry at p: its attributes begin after its 39 bytes of header
+-- the first line of the entry at p: its attributes begin after what stands before them
 abbrev pub entryPosition : ℕ → Position
-entryPosition p = position p (p + 39)
+entryPosition p = position p (p + entryAttributes)
 
 -- the first line of a catalog
 unfoldable pub start : Position
-start = position 0 39
+start = position 0 entryAttributes
 
 -- ---- What is right of an entry and of an attribute
 
@@ -33,11 +35,11 @@ valueRight t n = pick (eqb t 0x42) (eqb n 8) (pick (eqb t 0x43) (eqb n 2) (pick 
 
 -- a 40 stands at p, with its header, within the bytes
 unfoldable pub entryStands : List ℕ → ℕ → Bool
-entryStands m p = eqb (byte m p) 0x40 && (leb 36 (two m (p + 1)) && leb (endOf m p) (length m))
+entryStands m p = eqb (byte m p) 0x40 && (leb beforeAttributes (two m (p + 1)) && leb (endOf m p) (length m))
 
 -- a 41 stands at q, within the entry that ends at e, and a value is all that follows its name and labels
 unfoldable pub attributeStands : List ℕ → (q e : ℕ) → Bool
-attributeStands m q e = eqb (byte m q) 0x41 && (leb (endOf m q) e && (eqb (endOf m (q + 37)) (endOf m q) && valueRight (byte m (q + 37)) (two m (q + 37 + 1))))
+attributeStands m q e = eqb (byte m q) 0x41 && (leb (endOf m q) e && (eqb (endOf m (q + attributeValue)) (endOf m q) && valueRight (byte m (q + attributeValue)) (two m (q + attributeValue + 1))))
 
 -- ---- What a line tells of
 
@@ -48,8 +50,8 @@ nextIn p q e = pick (eqb q e) (entryPosition e) (position p q)
 -- in the entry from p to e, at q: an attribute; or, where its header ends the entry, that it has none
 unfoldable pub subjectIn : List ℕ → (p q e : ℕ) → Subject
 subjectIn m p q e =
-    pick (ltb q e) (pick (leb (p + 39) q && attributeStands m q e) (AnAttribute (nextIn p (endOf m q) e)) NotACatalog)
-    (pick (eqb q (p + 39)) (NoAttributes (entryPosition e)) NotACatalog)
+    pick (ltb q e) (pick (leb (p + entryAttributes) q && attributeStands m q e) (AnAttribute (nextIn p (endOf m q) e)) NotACatalog)
+    (pick (eqb q (p + entryAttributes)) (NoAttributes (entryPosition e)) NotACatalog)
 
 -- at a position of any bytes; a catalog has at most 65,535
 unfoldable pub subjectAt : List ℕ → Position → Subject
@@ -62,8 +64,8 @@ subjectAt m at =
 
 -- the attribute at q
 unfoldable pub attributeAt : List ℕ → ℕ → Attribute
-attributeAt m q = record { name = two m (q + 3); content = contentAt m q }
+attributeAt m q = record { name = two m (q + attributeName); content = contentAt m q }
 
 -- the entry at p, without its attributes: a line names its type and title, and its labels if it has none
 unfoldable pub headAt : List ℕ → ℕ → Entry
-headAt m p = record { type = two m (p + 3); title = two m (p + 5); labels = labelsAt m (p + 7); attributes = [] }
+headAt m p = record { type = two m (p + entryType); title = two m (p + entryTitle); labels = setAt m (p + entryLabels); attributes = [] }

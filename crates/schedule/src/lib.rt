@@ -17,6 +17,12 @@ use crate::pieces::put_text;
 use crate::pieces::put_value;
 use crate::pieces::put_word;
 use crate::subjects::subject_at;
+use catalog::layout::ATTRIBUTE_NAME;
+use catalog::layout::ENTRY_ATTRIBUTES;
+use catalog::layout::ENTRY_LABELS;
+use catalog::layout::ENTRY_TITLE;
+use catalog::layout::ENTRY_TYPE;
+use labels::Labels;
 use values::Reason;
 
 mod pieces; // pieces.rt: a line made of pieces
@@ -32,7 +38,7 @@ impl Position {
     // The first line of a catalog.
     pub const START: Position = Position {
         entry: 0,
-        attribute: 39,
+        attribute: ENTRY_ATTRIBUTES,
     };
 }
 
@@ -73,8 +79,8 @@ fn put_start(
     requires { ⌜ p ≤ 65535 ⌝ }
     ensures { λ r. ⌜ stored r (now (line .exit)) ≡ appended (lineStart (stringsBy (now (manifest .entry)) (now (index .entry)) strings) (headAt (now (catalog .entry)) p)) 0 (now (line .entry)) ⌝ }
 {
-    let kind = wire::two_at(catalog, p + 3);
-    let title = wire::two_at(catalog, p + 5);
+    let kind = wire::two_at(catalog, p + ENTRY_TYPE);
+    let title = wire::two_at(catalog, p + ENTRY_TITLE);
     let end = put_word(line, 0, manifest, index, strings, kind);
     put_word(line, end, manifest, index, strings, title)
 }
@@ -92,7 +98,7 @@ fn attribute_line(
     requires { ⌜ (p ≤ 65535) × (q ≤ 65535) ⌝ }
     ensures { λ r. ⌜ stored r (now (line .exit)) ≡ fitted (attributeLine (stringsBy (now (manifest .entry)) (now (index .entry)) strings) (headAt (now (catalog .entry)) p) (attributeAt (now (catalog .entry)) q)) (length (now (line .entry))) ⌝ }
 {
-    let name = wire::two_at(catalog, q + 3);
+    let name = wire::two_at(catalog, q + ATTRIBUTE_NAME);
     let content = catalog::read_attribute(catalog, q);
     let value = content.value;
     let labels = content.labels;
@@ -115,7 +121,7 @@ fn resource_line(
     requires { ⌜ p ≤ 65535 ⌝ }
     ensures { λ r. ⌜ stored r (now (line .exit)) ≡ fitted (entryLinesBy (stringsBy (now (manifest .entry)) (now (index .entry)) strings) (headAt (now (catalog .entry)) p) []) (length (now (line .entry))) ⌝ }
 {
-    let labels = catalog::labels_at(catalog, p + 7);
+    let labels = Labels::read_at(catalog, p + ENTRY_LABELS);
     let start = put_start(catalog, p, manifest, index, strings, line);
     let none = put_text(line, start, b"- -");
     let end = put_labels(line, none, labels);

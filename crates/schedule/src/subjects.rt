@@ -1,10 +1,12 @@
 // What stands at a position of a catalog. Any bytes may be given for one.
 ghost use mathlib.Core.Path.{_≡_};
 ghost use Prim.Native.Nat.{_≤_};
-ghost use lib.ListN.{length};
 ghost use Rattle.schedule.specs.Subjects.{valueRight, entryStands, attributeStands, nextIn, subjectIn, subjectAt};
 use crate::Position;
 use crate::Subject;
+use catalog::layout::ATTRIBUTE_VALUE;
+use catalog::layout::BEFORE_ATTRIBUTES;
+use catalog::layout::ENTRY_ATTRIBUTES;
 use wire::byte_at;
 use wire::end_of;
 use wire::length_at;
@@ -30,7 +32,7 @@ fn entry_stands(catalog: &[u8], p: usize) -> bool
     if byte_at(catalog, p) != 0x40 {
         return false;
     }
-    if length_at(catalog, p) < 36 {
+    if length_at(catalog, p) < BEFORE_ATTRIBUTES {
         return false;
     }
     end_of(catalog, p) <= catalog.len()
@@ -48,10 +50,13 @@ fn attribute_stands(catalog: &[u8], q: usize, e: usize) -> bool
     if e < end {
         return false;
     }
-    if end_of(catalog, q + 37) != end {
+    if end_of(catalog, q + ATTRIBUTE_VALUE) != end {
         return false;
     }
-    value_right(byte_at(catalog, q + 37), length_at(catalog, q + 37))
+    value_right(
+        byte_at(catalog, q + ATTRIBUTE_VALUE),
+        length_at(catalog, q + ATTRIBUTE_VALUE),
+    )
 }
 
 fn next_in(p: usize, q: usize, e: usize) -> Position
@@ -61,7 +66,7 @@ fn next_in(p: usize, q: usize, e: usize) -> Position
     if q == e {
         return Position {
             entry: e,
-            attribute: e + 39,
+            attribute: e + ENTRY_ATTRIBUTES,
         };
     }
     Position {
@@ -76,12 +81,12 @@ fn subject_in(catalog: &[u8], p: usize, q: usize, e: usize) -> Subject
     ensures { λ r. ⌜ r ≡ subjectIn (now (catalog .entry)) p q e ⌝ }
 {
     if e <= q {
-        if q == p + 39 {
+        if q == p + ENTRY_ATTRIBUTES {
             return Subject::NoAttributes(next_in(p, e, e));
         }
         return Subject::NotACatalog;
     }
-    if q < p + 39 {
+    if q < p + ENTRY_ATTRIBUTES {
         return Subject::NotACatalog;
     }
     if attribute_stands(catalog, q, e) {

@@ -7,20 +7,22 @@ use Rattle.labels.specs.declared.Labels.{Labels}
 use Rattle.labels.specs.Sets.{_∪_}
 use Rattle.values.specs.declared.Labelled.{Labelled}
 use Rattle.values.specs.declared.Value.{Value}
-use Rattle.values.specs.declared.Reason.{Reason}
+use Rattle.values.specs.declared.Refusal.{Refusal}
 use Rattle.wire.specs.Bytes.{byte, endOf, fieldsIn}
 use Rattle.rules.specs.Outcome.{Outcome, refused, done, _>>=_}
 use Rattle.rules.specs.Arithmetic.{sameValue}
 use Rattle.rules.specs.Tree.{Expression, Statement, Block, Branches, noBranch, branch, defaultBranch, choice}
 use Rattle.rules.specs.State.{Entry, State, Context, Known}
 use Rattle.rules.specs.Evaluate.{evaluate}
-use Rattle.rules.specs.Run.{Declare, run, runBlock, runBranch, inBranch, triedLabels, conditionLabels, afterTest, assignsAny, declaresAny}
+use Rattle.rules.specs.Run.{Declare, run, runBlock, runBranch, inBranch, triedLabels, withPathAndTrail, afterTest, assignsAny, declaresAny}
 use Rattle.rules.specs.declared.Kind.the-variants.{Statement as StatementKind, Expression as ExpressionKind, Branch as BranchKind}
 use Rattle.places.specs.At.{expressionAt, statementAt, blockAt, branchesAt, StandsAs, Siblings}
 use Rattle.places.proofs.Statements.{ChoiceAt, choice-opens}
 use Rattle.cells.specs.Layout.{trailOf}
-use Rattle.cells.specs.Scopes.{scopeOf}
-use Rattle.cells.specs.Memory.{baseFor, stateOf}
+use Rattle.cells.specs.Memory.{stateOf}
+use Rattle.memory.specs.declared.Context.{Context as Here}
+use Rattle.memory.specs.Contexts.{contextOf}
+use Rattle.evaluator.specs.Answers.{refusedBy}
 use Rattle.evaluator.specs.declared.Evaluated.{Evaluated}
 use Rattle.evaluator.specs.declared.Evaluated.the-variants.{Value as Yields, Refused as Fails}
 use Rattle.evaluator.specs.Answers.{evaluated}
@@ -69,7 +71,7 @@ case-runs k declare p e bs c st = go (evaluate k c st e)
     entered v set (done st′) = branch-runs k declare bs v (inBranch set c) st′
 
     setOf : Labelled → Labels
-    setOf x = conditionLabels c st (x .labels ∪ triedLabels bs (x .value))
+    setOf x = withPathAndTrail c st (x .labels ∪ triedLabels bs (x .value))
 
     go : (o : Outcome Labelled) → (o >>= λ x. after (setOf x) >>= λ st′. runBranch k declare bs (x .value) (inBranch (setOf x) c) st′) ≡ ((o >>= λ x. after (setOf x) >>= λ st′. done (passed (chosenBlock bs (x .value)) (setOf x) st′)) >>= intoBlock k declare c)
     go (refused r q) = refl
@@ -81,49 +83,49 @@ case-runs k declare p e bs c st = go (evaluate k c st e)
 pub branches-from : {m : List ℕ} {d f e a b : ℕ} → f ≡ a → e ≡ b → Siblings m d BranchKind a b × Small (namesAny (branchesAt m d (fieldsIn m a b))) → Siblings m d BranchKind f e × Small (namesAny (branchesAt m d (fieldsIn m f e)))
 branches-from found ends i = rw (found, ends) i
 
-module _ (m : List ℕ) (d p : ℕ) {f e : ℕ} (w : List ℕ) (scope : ℕ) (path : Labels) (x : Labelled) (found : f ≡ endOf m (p + 3)) (ends : e ≡ endOf m p) where
-  module _ {w′ : List ℕ} {r : Matched} {own set : Labels} (entered : Ran) (matches : Matches m d f e (x .value) r) (both : own ≡ x .labels ∪ r .labels) (joined : set ≡ own ∪ (path ∪ trailOf w)) (enter : (path : Labels) → Does w w′ scope path (ranAs entered) (afterCase p (branchesAt m d (fieldsIn m f e)) set)) where
-    same-set : (c : Context) (es : List Entry) (n i : ℕ) → c .path ≡ path → set ≡ conditionLabels c (stateOf w es n i) (x .labels ∪ triedLabels (branchesAt m d (fieldsIn m f e)) (x .value))
-    unfolding conditionLabels stateOf
-    same-set c es n i way = joined ∙ ap₂ (λ (k q : Labels). k ∪ (q ∪ trailOf w)) (both ∙ ap (λ (k : Labels). x .labels ∪ k) (matches .labels)) (sym way)
+module _ (m : List ℕ) (d p : ℕ) {f e : ℕ} (w : List ℕ) (here : Here) (x : Labelled) (found : f ≡ endOf m (p + 3)) (ends : e ≡ endOf m p) where
+  module _ {w′ : List ℕ} {r : Matched} {own set : Labels} (entered : Ran) (matches : Matches m d f e (x .value) r) (both : own ≡ x .labels ∪ r .labels) (joined : set ≡ (here .path ∪ trailOf w) ∪ own) (enter : Does w w′ here (ranAs entered) (afterCase p (branchesAt m d (fieldsIn m f e)) set)) where
+    same-set : (es : List Entry) (n i : ℕ) → set ≡ withPathAndTrail (contextOf here) (stateOf w es n i) (x .labels ∪ triedLabels (branchesAt m d (fieldsIn m f e)) (x .value))
+    unfolding withPathAndTrail stateOf
+    same-set es n i = joined ∙ ap (λ (k : Labels). (here .path ∪ trailOf w) ∪ k) (both ∙ ap (λ (k : Labels). x .labels ∪ k) (matches .labels))
 
     -- what follows the marks and the trail
     abbrev after : Choice → Ran → State → Outcome (Passed Block)
     after y o st = ranAs o st >>= λ st′. done (passed (blockFor m (d - 1) y) set st′)
 
-    case-decided : (c : Context) (es : List Entry) (n i : ℕ) → c .scope ≡ scopeOf scope → c .path ≡ path → after (r .at) entered (stateOf w′ es n i) ≡ decideCase p (branchesOf m d p) x c (stateOf w es n i)
+    case-decided : (es : List Entry) (n i : ℕ) → after (r .at) entered (stateOf w′ es n i) ≡ decideCase p (branchesOf m d p) x (contextOf here) (stateOf w es n i)
     unfolding decideCase
-    case-decided c es n i here way =
-        ap₂ (λ (o : Outcome State) (b : Block). o >>= λ st′. done (passed b set st′)) (enter path .says c es n i here way) (matches .block)
-        ∙ ap (λ (k : Labels). afterCase p (branchesAt m d (fieldsIn m f e)) k c (stateOf w es n i) >>= λ st′. done (passed (chosenBlock (branchesAt m d (fieldsIn m f e)) (x .value)) k st′)) (same-set c es n i way)
-        ∙ ap₂ (λ (a b : ℕ). decideCase p (branchesAt m d (fieldsIn m a b)) x c (stateOf w es n i)) found ends
+    case-decided es n i =
+        ap₂ (λ (o : Outcome State) (b : Block). o >>= λ st′. done (passed b set st′)) (enter .says es n i) (matches .block)
+        ∙ ap (λ (k : Labels). afterCase p (branchesAt m d (fieldsIn m f e)) k (contextOf here) (stateOf w es n i) >>= λ st′. done (passed (chosenBlock (branchesAt m d (fieldsIn m f e)) (x .value)) k st′)) (same-set es n i)
+        ∙ ap₂ (λ (a b : ℕ). decideCase p (branchesAt m d (fieldsIn m a b)) x (contextOf here) (stateOf w es n i)) found ends
 
-    pub case-stopped : (reason : Reason) (q : ℕ) → entered ≡ Stopped reason q → Does w w′ scope path (caseAs m (d - 1) (Refused reason q)) (decideCase p (branchesOf m d p) x) × blockStands m (d - 1) p (Refused reason q)
+    pub case-stopped : (why : Refusal) → entered ≡ Stopped why → Does w w′ here (caseAs m (d - 1) (Refused why)) (decideCase p (branchesOf m d p) x) × blockStands m (d - 1) p (Refused why)
     unfolding caseAs ranAs _>>=_ blockStands
-    case-stopped reason q h = (
+    case-stopped why h = (
       record {
-        says = λ c es n i here way. sym (ap (λ (o : Ran). after (r .at) o (stateOf w′ es n i)) h) ∙ case-decided c es n i here way;
-        keeps = enter path .keeps;
+        says = λ es n i. sym (ap (λ (o : Ran). after (r .at) o (stateOf w′ es n i)) h) ∙ case-decided es n i;
+        keeps = enter .keeps;
       },
       tt,
     )
 
-    pub case-entered : (q : ℕ) → entered ≡ Entered → r .at ≡ At q → Does w w′ scope path (caseAs m (d - 1) (Branch q set)) (decideCase p (branchesOf m d p) x) × blockStands m (d - 1) p (Branch q set)
+    pub case-entered : (q : ℕ) → entered ≡ Entered → r .at ≡ At q → Does w w′ here (caseAs m (d - 1) (Branch q set)) (decideCase p (branchesOf m d p) x) × blockStands m (d - 1) p (Branch q set)
     unfolding caseAs ranAs _>>=_ blockStands blockFor choiceStands
     case-entered q h g = (
       record {
-        says = λ c es n i here way. sym (ap₂ (λ (y : Choice) (o : Ran). after y o (stateOf w′ es n i)) g h) ∙ case-decided c es n i here way;
-        keeps = enter path .keeps;
+        says = λ es n i. sym (ap₂ (λ (y : Choice) (o : Ran). after y o (stateOf w′ es n i)) g h) ∙ case-decided es n i;
+        keeps = enter .keeps;
       },
       rw (sym found, sym ends) (subst (choiceStands m (d - 1) f e) g (matches .stands)),
     )
 
-    pub case-unmatched : entered ≡ Entered → r .at ≡ Nothing → Does w w′ scope path (caseAs m (d - 1) (NoBlock set)) (decideCase p (branchesOf m d p) x) × blockStands m (d - 1) p (NoBlock set)
+    pub case-unmatched : entered ≡ Entered → r .at ≡ Nothing → Does w w′ here (caseAs m (d - 1) (NoBlock set)) (decideCase p (branchesOf m d p) x) × blockStands m (d - 1) p (NoBlock set)
     unfolding caseAs ranAs _>>=_ blockStands blockFor
     case-unmatched h g = (
       record {
-        says = λ c es n i here way. sym (ap₂ (λ (y : Choice) (o : Ran). after y o (stateOf w′ es n i)) g h) ∙ case-decided c es n i here way;
-        keeps = enter path .keeps;
+        says = λ es n i. sym (ap₂ (λ (y : Choice) (o : Ran). after y o (stateOf w′ es n i)) g h) ∙ case-decided es n i;
+        keeps = enter .keeps;
       },
       tt,
     )
@@ -136,27 +138,27 @@ choice-here s tag = choice-opens (s .stands) (has-level s) tag
 pub case-small : {m : List ℕ} {d p : ℕ} → StandsAs m d StatementKind p → byte m p ≡ 0x23 → Small (names (statementAt m d p)) → Small (namesAny (branchesOf m (d - 1) p))
 case-small s tag small = small-same small (choice-names s refl tag refl refl)
 
-module _ {m w out : List ℕ} {d p fill scope : ℕ} {node : Bool} (s : StandsAs m d StatementKind p) (tag : byte m p ≡ 0x23) (e : Evaluated) (told : StandsAs m (d - 1) ExpressionKind (p + 3) → Tells m w out fill scope node (evaluated e) (λ k c st. evaluate k c st (expressionAt m (d - 1) (p + 3)))) where
-  test-run : {o : Outcome Labelled} (k : Known) (c : Context) (es : List Entry) (n r : ℕ) → evaluated e ≡ o → Ready m w out fill k es → c .scope ≡ scopeOf scope → c .base ≡ baseFor node → (o >>= λ x. decideCase p (branchesOf m (d - 1) p) x c (stateOf w es n r)) ≡ testCaseAt m (d - 1) p k c (stateOf w es n r)
+module _ {m w out : List ℕ} {d p fill : ℕ} (here : Here) (s : StandsAs m d StatementKind p) (tag : byte m p ≡ 0x23) (e : Evaluated) (told : StandsAs m (d - 1) ExpressionKind (p + 3) → Tells m w out fill (here .scope) (evaluated e) (λ k c st. evaluate k c st (expressionAt m (d - 1) (p + 3)))) where
+  test-run : {o : Outcome Labelled} (k : Known) (es : List Entry) (n r : ℕ) → evaluated e ≡ o → Ready m w out fill k es → (o >>= λ x. decideCase p (branchesOf m (d - 1) p) x (contextOf here) (stateOf w es n r)) ≡ testCaseAt m (d - 1) p k (contextOf here) (stateOf w es n r)
   unfolding testCaseAt testCase
-  test-run k c es n r h ready here base =
-      ap (λ (o : Outcome Labelled). o >>= λ x. decideCase p (branchesOf m (d - 1) p) x c (stateOf w es n r)) (sym h ∙ told (choice-here s tag .scrutinee) .says k c es n r ready here base)
+  test-run k es n r h ready =
+      ap (λ (o : Outcome Labelled). o >>= λ x. decideCase p (branchesOf m (d - 1) p) x (contextOf here) (stateOf w es n r)) (sym h ∙ told (choice-here s tag .scrutinee) .says k (here .path) es n r ready)
 
-  pub test-refused : {path : Labels} (r : Reason) (q : ℕ) → e ≡ Fails r q → Tests m w w out fill scope node path (caseAs m (d - 1 - 1) (Refused r q)) (testCaseAt m (d - 1) p) × blockStands m (d - 1 - 1) p (Refused r q)
+  pub test-refused : (why : Refusal) → e ≡ Fails why → Tests m w w out fill here (caseAs m (d - 1 - 1) (Refused why)) (testCaseAt m (d - 1) p) × blockStands m (d - 1 - 1) p (Refused why)
   unfolding caseAs evaluated _>>=_ blockStands
-  test-refused reason q h = (
+  test-refused why h = (
     record {
-      says = λ k c es n r ready here base way. test-run k c es n r (ap evaluated h) ready here base;
+      says = λ k es n r ready. test-run k es n r (ap evaluated h) ready;
       keeps = keeps-same w;
     },
     tt,
   )
 
-  pub test-decided : {path : Labels} {w′ : List ℕ} (answer : TestedCase) (x : Labelled) → e ≡ Yields x → Does w w′ scope path (caseAs m (d - 1 - 1) answer) (decideCase p (branchesOf m (d - 1) p) x) × blockStands m (d - 1 - 1) p answer → Tests m w w′ out fill scope node path (caseAs m (d - 1 - 1) answer) (testCaseAt m (d - 1) p) × blockStands m (d - 1 - 1) p answer
+  pub test-decided : {w′ : List ℕ} (answer : TestedCase) (x : Labelled) → e ≡ Yields x → Does w w′ here (caseAs m (d - 1 - 1) answer) (decideCase p (branchesOf m (d - 1) p) x) × blockStands m (d - 1 - 1) p answer → Tests m w w′ out fill here (caseAs m (d - 1 - 1) answer) (testCaseAt m (d - 1) p) × blockStands m (d - 1 - 1) p answer
   unfolding evaluated _>>=_
   test-decided answer x h i = (
     record {
-      says = λ k c es n r ready here base way. i .0 .says c es n r here way ∙ test-run k c es n r (ap evaluated h) ready here base;
+      says = λ k es n r ready. i .0 .says es n r ∙ test-run k es n r (ap evaluated h) ready;
       keeps = i .0 .keeps;
     },
     i .1,
@@ -169,18 +171,18 @@ module _ {m : List ℕ} {d p : ℕ} (s : StandsAs m d StatementKind p) (tag : by
   unfolding testCaseAt
   case-at-runs c st = ap (λ (t : Statement). run k declare t c st) (choice-here s tag .tree) ∙ case-runs k declare p (expressionAt m (d - 1) (p + 3)) (branchesOf m (d - 1) p) c st
 
-  module _ {w w′ out : List ℕ} {fill scope : ℕ} {node : Bool} {path : Labels} (answer : TestedCase) (tests : Tests m w w′ out fill scope node path (caseAs m (d - 1 - 1) answer) (testCaseAt m (d - 1) p)) (c : Context) (es : List Entry) (n r : ℕ) (ready : Ready m w out fill k es) (here : c .scope ≡ scopeOf scope) (base : c .base ≡ baseFor node) (way : c .path ≡ path) where
-    tested-runs : {a : TestedCase} → answer ≡ a → run k declare (statementAt m d p) c (stateOf w es n r) ≡ (caseAs m (d - 1 - 1) a (stateOf w′ es n r) >>= intoBlock k declare c)
-    tested-runs h = case-at-runs c (stateOf w es n r) ∙ ap (λ (o : Outcome (Passed Block)). o >>= intoBlock k declare c) (sym (tests .says k c es n r ready here base way) ∙ ap (λ (a : TestedCase). caseAs m (d - 1 - 1) a (stateOf w′ es n r)) h)
+  module _ {w w′ out : List ℕ} {fill : ℕ} {here : Here} (answer : TestedCase) (tests : Tests m w w′ out fill here (caseAs m (d - 1 - 1) answer) (testCaseAt m (d - 1) p)) (es : List Entry) (n r : ℕ) (ready : Ready m w out fill k es) where
+    tested-runs : {a : TestedCase} → answer ≡ a → run k declare (statementAt m d p) (contextOf here) (stateOf w es n r) ≡ (caseAs m (d - 1 - 1) a (stateOf w′ es n r) >>= intoBlock k declare (contextOf here))
+    tested-runs h = case-at-runs (contextOf here) (stateOf w es n r) ∙ ap (λ (o : Outcome (Passed Block)). o >>= intoBlock k declare (contextOf here)) (sym (tests .says k es n r ready) ∙ ap (λ (a : TestedCase). caseAs m (d - 1 - 1) a (stateOf w′ es n r)) h)
 
-    pub case-refuses : (reason : Reason) (q : ℕ) → answer ≡ Refused reason q → run k declare (statementAt m d p) c (stateOf w es n r) ≡ refused reason q
+    pub case-refuses : (why : Refusal) → answer ≡ Refused why → run k declare (statementAt m d p) (contextOf here) (stateOf w es n r) ≡ refusedBy why
     unfolding caseAs _>>=_
-    case-refuses reason q h = tested-runs h
+    case-refuses why h = tested-runs h
 
-    pub case-goes-on : (q : ℕ) (set : Labels) → answer ≡ Branch q set → run k declare (statementAt m d p) c (stateOf w es n r) ≡ runBlock k declare (blockAt m (d - 1 - 1) q) (inBranch set c) (stateOf w′ es n r)
+    pub case-goes-on : (q : ℕ) (set : Labels) → answer ≡ Branch q set → run k declare (statementAt m d p) (contextOf here) (stateOf w es n r) ≡ runBlock k declare (blockAt m (d - 1 - 1) q) (inBranch set (contextOf here)) (stateOf w′ es n r)
     unfolding caseAs _>>=_
     case-goes-on q set h = tested-runs h
 
-    pub case-ends : (set : Labels) → answer ≡ NoBlock set → run k declare (statementAt m d p) c (stateOf w es n r) ≡ done (stateOf w′ es n r)
+    pub case-ends : (set : Labels) → answer ≡ NoBlock set → run k declare (statementAt m d p) (contextOf here) (stateOf w es n r) ≡ done (stateOf w′ es n r)
     unfolding caseAs _>>=_ run
     case-ends set h = tested-runs h

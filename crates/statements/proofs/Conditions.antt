@@ -11,7 +11,8 @@ use Rattle.labels.specs.Sets.{_∪_}
 use Rattle.values.specs.declared.Labelled.{Labelled}
 use Rattle.values.specs.declared.Value.{Value}
 use Rattle.values.specs.declared.Value.the-variants.{Boolean}
-use Rattle.values.specs.declared.Reason.{Reason}
+use Rattle.values.specs.declared.Refusal.{Refusal}
+use Rattle.values.specs.Refusals.{refusalAt}
 use Rattle.values.specs.declared.Reason.the-variants.{WrongKind}
 use Rattle.values.proofs.Value.{the-type}
 use Rattle.wire.specs.Bytes.{pick, byte, endOf}
@@ -20,14 +21,15 @@ use Rattle.rules.specs.Arithmetic.{booleanIn}
 use Rattle.rules.specs.Tree.{Expression, placeOf, Block, conditional}
 use Rattle.rules.specs.State.{Entry, State, Context, Known}
 use Rattle.rules.specs.Evaluate.{evaluate}
-use Rattle.rules.specs.Run.{Declare, run, runBlock, inBranch, conditionLabels, afterTest, assignsIn, declaresIn}
+use Rattle.rules.specs.Run.{Declare, run, runBlock, inBranch, withPathAndTrail, afterTest, assignsIn, declaresIn}
 use Rattle.rules.specs.declared.Kind.the-variants.{Statement as StatementKind, Expression as ExpressionKind, Block as BlockKind}
 use Rattle.places.specs.At.{expressionAt, statementAt, blockAt, StandsAs}
 use Rattle.places.proofs.Expressions.{expression-place}
 use Rattle.places.proofs.Statements.{ConditionalAt, conditional-opens}
 use Rattle.cells.specs.Layout.{trailOf}
-use Rattle.cells.specs.Scopes.{scopeOf}
-use Rattle.cells.specs.Memory.{baseFor, stateOf}
+use Rattle.cells.specs.Memory.{stateOf}
+use Rattle.memory.specs.declared.Context.{Context as Here}
+use Rattle.memory.specs.Contexts.{contextOf}
 use Rattle.evaluator.specs.declared.Evaluated.{Evaluated}
 use Rattle.evaluator.specs.declared.Evaluated.the-variants.{Value as Yields, Refused as Fails}
 use Rattle.evaluator.proofs.Operators.{not-boolean}
@@ -69,9 +71,9 @@ if-runs k declare p e a b c st = go (evaluate k c st e)
     decided set (refused r q) = refl
     decided set (done t) = entered t set (after set)
 
-    go : (o : Outcome Labelled) → (o >>= λ x. at (placeOf e) (booleanIn (x .value)) >>= λ t. after (conditionLabels c st (x .labels)) >>= λ st′. branch t (conditionLabels c st (x .labels)) st′) ≡ ((o >>= λ x. at (placeOf e) (booleanIn (x .value)) >>= λ t. after (conditionLabels c st (x .labels)) >>= λ st′. done (passed t (conditionLabels c st (x .labels)) st′)) >>= onward)
+    go : (o : Outcome Labelled) → (o >>= λ x. at (placeOf e) (booleanIn (x .value)) >>= λ t. after (withPathAndTrail c st (x .labels)) >>= λ st′. branch t (withPathAndTrail c st (x .labels)) st′) ≡ ((o >>= λ x. at (placeOf e) (booleanIn (x .value)) >>= λ t. after (withPathAndTrail c st (x .labels)) >>= λ st′. done (passed t (withPathAndTrail c st (x .labels)) st′)) >>= onward)
     go (refused r q) = refl
-    go (done x) = decided (conditionLabels c st (x .labels)) (at (placeOf e) (booleanIn (x .value)))
+    go (done x) = decided (withPathAndTrail c st (x .labels)) (at (placeOf e) (booleanIn (x .value)))
 
 -- ---- The ways of `decide_if`
 
@@ -79,35 +81,35 @@ if-runs k declare p e a b c st = go (evaluate k c st e)
 pub blocks-from : {m : List ℕ} {b q t : ℕ} → q ≡ t → (StandsAs m b BlockKind t × StandsAs m b BlockKind (endOf m t)) × Small (namesIn (blockAt m b t) ++ namesIn (blockAt m b (endOf m t))) → (StandsAs m b BlockKind q × StandsAs m b BlockKind (endOf m q)) × Small (namesIn (blockAt m b q) ++ namesIn (blockAt m b (endOf m q)))
 blocks-from e i = rw e i
 
-module _ (p l : ℕ) (a b : Block) (w : List ℕ) (scope : ℕ) (path : Labels) (x : Labelled) where
-  pub if-unlike : (tagOf the-type (x .value) ≡ 2 → ⊥) → Does w w scope path (testedAs (Refused WrongKind l)) (decideIf p l a b x)
+module _ (p l : ℕ) (a b : Block) (w : List ℕ) (here : Here) (x : Labelled) where
+  pub if-unlike : {why : Refusal} → (tagOf the-type (x .value) ≡ 2 → ⊥) → why ≡ refusalAt WrongKind l → Does w w here (testedAs (Refused why)) (decideIf p l a b x)
   unfolding decideIf testedAs at _>>=_
-  if-unlike h = record { says = λ c es n r here way. rw (not-boolean (x .value) h); keeps = keeps-same w }
+  if-unlike h is = record { says = λ es n r. rw (is, not-boolean (x .value) h); keeps = keeps-same w }
 
-  module _ {w′ : List ℕ} {chose : Bool} {set : Labels} (entered : Ran) (is : x .value ≡ Boolean chose) (joined : set ≡ x .labels ∪ (path ∪ trailOf w)) (enter : (path : Labels) → Does w w′ scope path (ranAs entered) (afterIf p a b set)) where
-    same-set : (c : Context) (es : List Entry) (n r : ℕ) → c .path ≡ path → set ≡ conditionLabels c (stateOf w es n r) (x .labels)
-    unfolding conditionLabels stateOf
-    same-set c es n r way = joined ∙ ap (λ (q : Labels). x .labels ∪ (q ∪ trailOf w)) (sym way)
+  module _ {w′ : List ℕ} {chose : Bool} {set : Labels} (entered : Ran) (is : x .value ≡ Boolean chose) (joined : set ≡ (here .path ∪ trailOf w) ∪ x .labels) (enter : Does w w′ here (ranAs entered) (afterIf p a b set)) where
+    same-set : (es : List Entry) (n r : ℕ) → set ≡ withPathAndTrail (contextOf here) (stateOf w es n r) (x .labels)
+    unfolding withPathAndTrail stateOf
+    same-set es n r = joined
 
-    if-decided : (c : Context) (es : List Entry) (n r : ℕ) → c .scope ≡ scopeOf scope → c .path ≡ path → (ranAs entered (stateOf w′ es n r) >>= λ st′. done (passed chose set st′)) ≡ decideIf p l a b x c (stateOf w es n r)
+    if-decided : (es : List Entry) (n r : ℕ) → (ranAs entered (stateOf w′ es n r) >>= λ st′. done (passed chose set st′)) ≡ decideIf p l a b x (contextOf here) (stateOf w es n r)
     unfolding decideIf at booleanIn _>>=_
-    if-decided c es n r here way =
-        ap (λ (o : Outcome State). o >>= λ st′. done (passed chose set st′)) (enter path .says c es n r here way)
-        ∙ ap (λ (k : Labels). afterIf p a b k c (stateOf w es n r) >>= λ st′. done (passed chose k st′)) (same-set c es n r way)
-        ∙ sym (ap (λ (v : Value). at l (booleanIn v) >>= λ t. afterIf p a b (conditionLabels c (stateOf w es n r) (x .labels)) c (stateOf w es n r) >>= λ st′. done (passed t (conditionLabels c (stateOf w es n r) (x .labels)) st′)) is)
+    if-decided es n r =
+        ap (λ (o : Outcome State). o >>= λ st′. done (passed chose set st′)) (enter .says es n r)
+        ∙ ap (λ (k : Labels). afterIf p a b k (contextOf here) (stateOf w es n r) >>= λ st′. done (passed chose k st′)) (same-set es n r)
+        ∙ sym (ap (λ (v : Value). at l (booleanIn v) >>= λ t. afterIf p a b (withPathAndTrail (contextOf here) (stateOf w es n r) (x .labels)) (contextOf here) (stateOf w es n r) >>= λ st′. done (passed t (withPathAndTrail (contextOf here) (stateOf w es n r) (x .labels)) st′)) is)
 
-    pub if-stopped : (r : Reason) (q : ℕ) → entered ≡ Stopped r q → Does w w′ scope path (testedAs (Refused r q)) (decideIf p l a b x)
+    pub if-stopped : (why : Refusal) → entered ≡ Stopped why → Does w w′ here (testedAs (Refused why)) (decideIf p l a b x)
     unfolding testedAs ranAs _>>=_
-    if-stopped reason q h = record {
-      says = λ c es n r here way. sym (ap (λ (e : Ran). ranAs e (stateOf w′ es n r) >>= λ st′. done (passed chose set st′)) h) ∙ if-decided c es n r here way;
-      keeps = enter path .keeps;
+    if-stopped why h = record {
+      says = λ es n r. sym (ap (λ (e : Ran). ranAs e (stateOf w′ es n r) >>= λ st′. done (passed chose set st′)) h) ∙ if-decided es n r;
+      keeps = enter .keeps;
     }
 
-    pub if-entered : entered ≡ Entered → Does w w′ scope path (testedAs (Branch chose set)) (decideIf p l a b x)
+    pub if-entered : entered ≡ Entered → Does w w′ here (testedAs (Branch chose set)) (decideIf p l a b x)
     unfolding testedAs ranAs _>>=_
     if-entered h = record {
-      says = λ c es n r here way. sym (ap (λ (e : Ran). ranAs e (stateOf w′ es n r) >>= λ st′. done (passed chose set st′)) h) ∙ if-decided c es n r here way;
-      keeps = enter path .keeps;
+      says = λ es n r. sym (ap (λ (e : Ran). ranAs e (stateOf w′ es n r) >>= λ st′. done (passed chose set st′)) h) ∙ if-decided es n r;
+      keeps = enter .keeps;
     }
 
 -- ---- The ways of `test_if`
@@ -121,22 +123,22 @@ condition-place s l = omega (arith, has-header s)
 pub if-small : {m : List ℕ} {d p : ℕ} → StandsAs m d StatementKind p → byte m p ≡ 0x22 → Small (names (statementAt m d p)) → Small (namesIn (blockAt m (d - 1) (endOf m (p + 3))) ++ namesIn (blockAt m (d - 1) (endOf m (endOf m (p + 3)))))
 if-small s tag small = small-same small (conditional-names s refl tag refl)
 
-module _ {m w out : List ℕ} {d p fill scope : ℕ} {node : Bool} (s : StandsAs m d StatementKind p) (tag : byte m p ≡ 0x22) (e : Evaluated) (told : StandsAs m (d - 1) ExpressionKind (p + 3) → Tells m w out fill scope node (evaluated e) (λ k c st. evaluate k c st (expressionAt m (d - 1) (p + 3)))) where
-  test-run : {o : Outcome Labelled} (k : Known) (c : Context) (es : List Entry) (n r : ℕ) → evaluated e ≡ o → Ready m w out fill k es → c .scope ≡ scopeOf scope → c .base ≡ baseFor node → (o >>= λ x. decideIf p (p + 3) (blockAt m (d - 1) (endOf m (p + 3))) (blockAt m (d - 1) (endOf m (endOf m (p + 3)))) x c (stateOf w es n r)) ≡ testIfAt m (d - 1) p k c (stateOf w es n r)
+module _ {m w out : List ℕ} {d p fill : ℕ} (here : Here) (s : StandsAs m d StatementKind p) (tag : byte m p ≡ 0x22) (e : Evaluated) (told : StandsAs m (d - 1) ExpressionKind (p + 3) → Tells m w out fill (here .scope) (evaluated e) (λ k c st. evaluate k c st (expressionAt m (d - 1) (p + 3)))) where
+  test-run : {o : Outcome Labelled} (k : Known) (es : List Entry) (n r : ℕ) → evaluated e ≡ o → Ready m w out fill k es → (o >>= λ x. decideIf p (p + 3) (blockAt m (d - 1) (endOf m (p + 3))) (blockAt m (d - 1) (endOf m (endOf m (p + 3)))) x (contextOf here) (stateOf w es n r)) ≡ testIfAt m (d - 1) p k (contextOf here) (stateOf w es n r)
   unfolding testIfAt testIf
-  test-run k c es n r h ready here base =
-      ap₂ (λ (o : Outcome Labelled) (l : ℕ). o >>= λ x. decideIf p l (blockAt m (d - 1) (endOf m (p + 3))) (blockAt m (d - 1) (endOf m (endOf m (p + 3)))) x c (stateOf w es n r)) (sym h ∙ told (conditional-here s tag .condition) .says k c es n r ready here base) (sym (expression-place m (d - 1) (p + 3)))
+  test-run k es n r h ready =
+      ap₂ (λ (o : Outcome Labelled) (l : ℕ). o >>= λ x. decideIf p l (blockAt m (d - 1) (endOf m (p + 3))) (blockAt m (d - 1) (endOf m (endOf m (p + 3)))) x (contextOf here) (stateOf w es n r)) (sym h ∙ told (conditional-here s tag .condition) .says k (here .path) es n r ready) (sym (expression-place m (d - 1) (p + 3)))
 
-  pub test-refused : {path : Labels} (r : Reason) (q : ℕ) → e ≡ Fails r q → Tests m w w out fill scope node path (testedAs (Refused r q)) (testIfAt m (d - 1) p)
+  pub test-refused : (why : Refusal) → e ≡ Fails why → Tests m w w out fill here (testedAs (Refused why)) (testIfAt m (d - 1) p)
   unfolding testedAs evaluated _>>=_
-  test-refused reason q h = record {
-    says = λ k c es n r ready here base way. test-run k c es n r (ap evaluated h) ready here base;
+  test-refused why h = record {
+    says = λ k es n r ready. test-run k es n r (ap evaluated h) ready;
     keeps = keeps-same w;
   }
 
-  pub test-decided : {path : Labels} {w′ : List ℕ} (answer : Tested) (x : Labelled) → e ≡ Yields x → Does w w′ scope path (testedAs answer) (decideIf p (p + 3) (blockAt m (d - 1) (endOf m (p + 3))) (blockAt m (d - 1) (endOf m (endOf m (p + 3)))) x) → Tests m w w′ out fill scope node path (testedAs answer) (testIfAt m (d - 1) p)
+  pub test-decided : {w′ : List ℕ} (answer : Tested) (x : Labelled) → e ≡ Yields x → Does w w′ here (testedAs answer) (decideIf p (p + 3) (blockAt m (d - 1) (endOf m (p + 3))) (blockAt m (d - 1) (endOf m (endOf m (p + 3)))) x) → Tests m w w′ out fill here (testedAs answer) (testIfAt m (d - 1) p)
   unfolding evaluated _>>=_
   test-decided answer x h i = record {
-    says = λ k c es n r ready here base way. i .says c es n r here way ∙ test-run k c es n r (ap evaluated h) ready here base;
+    says = λ k es n r ready. i .says es n r ∙ test-run k es n r (ap evaluated h) ready;
     keeps = i .keeps;
   }

@@ -10,6 +10,8 @@ use Rattle.rules.specs.State.{Scope, Entry, State, Context, newCells, cellsFor,
 use Rattle.rules.specs.Run.{assignsIn, assignsAny, declaresIn, declaresAny, afterTest}
 use Rattle.cells.specs.Scopes.{scopeOf}
 use Rattle.cells.specs.Memory.{stateOf, outcome, trailed, Becomes}
+use Rattle.memory.specs.declared.Context.{Context as Here}
+use Rattle.memory.specs.Contexts.{contextOf}
 use Rattle.cells.specs.declared.Stored.{Stored}
 use Rattle.cells.specs.declared.Stored.the-variants.{Done as Held, HasValue, NoRoom}
 use Rattle.branches.specs.Names.{namesIn, namesAny, Small}
@@ -52,27 +54,27 @@ stops Held p st g h = absurd (h refl)
 stops HasValue p st g h = refl
 stops NoRoom p st g h = refl
 
-module _ (p : ℕ) (f : ℕ → Bool) (d : Bool) {w w₁ : List ℕ} (scope : ℕ) (k : Labels) (a : Stored) (marks : (c : Context) (es : List Entry) (n r : ℕ) → c .scope ≡ scopeOf scope → outcome a p (stateOf w₁ es n r) ≡ afterTest p c f false k (stateOf w es n r)) (keeps : Keeps w w₁) where
-  marked-then : (c : Context) (es : List Entry) (n r : ℕ) → c .scope ≡ scopeOf scope → (outcome a p (stateOf w₁ es n r) >>= λ st′. done (trailIf d k st′)) ≡ afterTest p c f d k (stateOf w es n r)
-  marked-then c es n r here = ap (λ (o : Outcome State). o >>= λ st′. done (trailIf d k st′)) (marks c es n r here) ∙ afterTest-trail p c f d k (stateOf w es n r)
+module _ (p : ℕ) (f : ℕ → Bool) (d : Bool) {w w₁ : List ℕ} (here : Here) (k : Labels) (a : Stored) (marks : (es : List Entry) (n r : ℕ) → outcome a p (stateOf w₁ es n r) ≡ afterTest p (contextOf here) f false k (stateOf w es n r)) (keeps : Keeps w w₁) where
+  marked-then : (es : List Entry) (n r : ℕ) → (outcome a p (stateOf w₁ es n r) >>= λ st′. done (trailIf d k st′)) ≡ afterTest p (contextOf here) f d k (stateOf w es n r)
+  marked-then es n r = ap (λ (o : Outcome State). o >>= λ st′. done (trailIf d k st′)) (marks es n r) ∙ afterTest-trail p (contextOf here) f d k (stateOf w es n r)
 
-  pub marks-refused : (answer : Ran) → (a ≡ Held → ⊥) → ((st : State) → ranAs answer st ≡ outcome a p st) → (path : Labels) → Does w w₁ scope path (ranAs answer) (λ c st. afterTest p c f d k st)
-  marks-refused answer h told path = record {
-    says = λ c es n r here way. told (stateOf w₁ es n r) ∙ stops a p (stateOf w₁ es n r) (trailIf d k) h ∙ marked-then c es n r here;
+  pub marks-refused : (answer : Ran) → (a ≡ Held → ⊥) → ((st : State) → ranAs answer st ≡ outcome a p st) → Does w w₁ here (ranAs answer) (λ c st. afterTest p c f d k st)
+  marks-refused answer h told = record {
+    says = λ es n r. told (stateOf w₁ es n r) ∙ stops a p (stateOf w₁ es n r) (trailIf d k) h ∙ marked-then es n r;
     keeps = keeps;
   }
 
-  pub marks-only : a ≡ Held → d ≡ false → (path : Labels) → Does w w₁ scope path (ranAs Done) (λ c st. afterTest p c f d k st)
+  pub marks-only : a ≡ Held → d ≡ false → Does w w₁ here (ranAs Done) (λ c st. afterTest p c f d k st)
   unfolding ranAs outcome _>>=_ trailIf
-  marks-only e l path = record {
-    says = λ c es n r here way. sym (ap (λ (x : Stored). outcome x p (stateOf w₁ es n r) >>= λ st′. done (trailIf d k st′)) e ∙ ap (λ (x : Bool). done (trailIf x k (stateOf w₁ es n r))) l) ∙ marked-then c es n r here;
+  marks-only e l = record {
+    says = λ es n r. sym (ap (λ (x : Stored). outcome x p (stateOf w₁ es n r) >>= λ st′. done (trailIf d k st′)) e ∙ ap (λ (x : Bool). done (trailIf x k (stateOf w₁ es n r))) l) ∙ marked-then es n r;
     keeps = keeps;
   }
 
-  pub marks-trail : {w₂ : List ℕ} → a ≡ Held → d ≡ true → Becomes w₁ w₂ (trailed k) (λ ns. ns) → (path : Labels) → Does w w₂ scope path (ranAs Done) (λ c st. afterTest p c f d k st)
+  pub marks-trail : {w₂ : List ℕ} → a ≡ Held → d ≡ true → Becomes w₁ w₂ (trailed k) (λ ns. ns) → Does w w₂ here (ranAs Done) (λ c st. afterTest p c f d k st)
   unfolding ranAs outcome _>>=_ trailIf
-  marks-trail e l t path = record {
-    says = λ c es n r here way. ap done (t .state es n r) ∙ sym (ap (λ (x : Stored). outcome x p (stateOf w₁ es n r) >>= λ st′. done (trailIf d k st′)) e ∙ ap (λ (x : Bool). done (trailIf x k (stateOf w₁ es n r))) l) ∙ marked-then c es n r here;
+  marks-trail e l t = record {
+    says = λ es n r. ap done (t .state es n r) ∙ sym (ap (λ (x : Stored). outcome x p (stateOf w₁ es n r) >>= λ st′. done (trailIf d k st′)) e ∙ ap (λ (x : Bool). done (trailIf x k (stateOf w₁ es n r))) l) ∙ marked-then es n r;
     keeps = keeps-trail k keeps t;
   }
 
@@ -82,36 +84,36 @@ turned false h = ap not h
 
 -- ---- The blocks x and y of an if
 
-module _ (p : ℕ) (x y : Block) {w w₁ : List ℕ} (scope : ℕ) {k : Labels} {a : Stored} (small : Small (namesIn x ++ namesIn y)) (marks : Marks w w₁ a (scopeOf scope) (namesIn x ++ namesIn y) k) where
-  told : (c : Context) (es : List Entry) (n r : ℕ) → c .scope ≡ scopeOf scope → outcome a p (stateOf w₁ es n r) ≡ afterTest p c (λ n. assignsIn x n || assignsIn y n) false k (stateOf w es n r)
-  told c es n r here = both-answer c here p es n r x y small marks
+module _ (p : ℕ) (x y : Block) {w w₁ : List ℕ} (here : Here) {k : Labels} {a : Stored} (small : Small (namesIn x ++ namesIn y)) (marks : Marks w w₁ a (scopeOf (here .scope .number)) (namesIn x ++ namesIn y) k) where
+  told : (es : List Entry) (n r : ℕ) → outcome a p (stateOf w₁ es n r) ≡ afterTest p (contextOf here) (λ n. assignsIn x n || assignsIn y n) false k (stateOf w es n r)
+  told es n r = both-answer (contextOf here) refl p es n r x y small marks
 
-  pub if-refused : (answer : Ran) → (a ≡ Held → ⊥) → ((st : State) → ranAs answer st ≡ outcome a p st) → (path : Labels) → Does w w₁ scope path (ranAs answer) (afterIf p x y k)
+  pub if-refused : (answer : Ran) → (a ≡ Held → ⊥) → ((st : State) → ranAs answer st ≡ outcome a p st) → Does w w₁ here (ranAs answer) (afterIf p x y k)
   unfolding afterIf
-  if-refused answer h r path = marks-refused p (λ n. assignsIn x n || assignsIn y n) (declaresIn x || declaresIn y) scope k a told (keeps-marks marks) answer h r path
+  if-refused answer h r = marks-refused p (λ n. assignsIn x n || assignsIn y n) (declaresIn x || declaresIn y) here k a told (keeps-marks marks) answer h r
 
-  pub if-marked : {d : Bool} → a ≡ Held → d ≡ (declaresIn x || declaresIn y) → not d ≡ true → (path : Labels) → Does w w₁ scope path (ranAs Done) (afterIf p x y k)
+  pub if-marked : {d : Bool} → a ≡ Held → d ≡ (declaresIn x || declaresIn y) → not d ≡ true → Does w w₁ here (ranAs Done) (afterIf p x y k)
   unfolding afterIf
-  if-marked {d} h e l path = marks-only p (λ n. assignsIn x n || assignsIn y n) (declaresIn x || declaresIn y) scope k a told (keeps-marks marks) h (sym e ∙ turned d l) path
+  if-marked {d} h e l = marks-only p (λ n. assignsIn x n || assignsIn y n) (declaresIn x || declaresIn y) here k a told (keeps-marks marks) h (sym e ∙ turned d l)
 
-  pub if-trailed : {d : Bool} {w₂ : List ℕ} → a ≡ Held → d ≡ (declaresIn x || declaresIn y) → not d ≡ false → Becomes w₁ w₂ (trailed k) (λ ns. ns) → (path : Labels) → Does w w₂ scope path (ranAs Done) (afterIf p x y k)
+  pub if-trailed : {d : Bool} {w₂ : List ℕ} → a ≡ Held → d ≡ (declaresIn x || declaresIn y) → not d ≡ false → Becomes w₁ w₂ (trailed k) (λ ns. ns) → Does w w₂ here (ranAs Done) (afterIf p x y k)
   unfolding afterIf
-  if-trailed {d} h e l t path = marks-trail p (λ n. assignsIn x n || assignsIn y n) (declaresIn x || declaresIn y) scope k a told (keeps-marks marks) h (sym e ∙ turned d l) t path
+  if-trailed {d} h e l t = marks-trail p (λ n. assignsIn x n || assignsIn y n) (declaresIn x || declaresIn y) here k a told (keeps-marks marks) h (sym e ∙ turned d l) t
 
 -- ---- The branches of a case
 
-module _ (p : ℕ) (bs : Branches) {w w₁ : List ℕ} (scope : ℕ) {k : Labels} {a : Stored} (small : Small (namesAny bs)) (marks : Marks w w₁ a (scopeOf scope) (namesAny bs) k) where
-  told-any : (c : Context) (es : List Entry) (n r : ℕ) → c .scope ≡ scopeOf scope → outcome a p (stateOf w₁ es n r) ≡ afterTest p c (assignsAny bs) false k (stateOf w es n r)
-  told-any c es n r here = any-answer c here p es n r bs small marks
+module _ (p : ℕ) (bs : Branches) {w w₁ : List ℕ} (here : Here) {k : Labels} {a : Stored} (small : Small (namesAny bs)) (marks : Marks w w₁ a (scopeOf (here .scope .number)) (namesAny bs) k) where
+  told-any : (es : List Entry) (n r : ℕ) → outcome a p (stateOf w₁ es n r) ≡ afterTest p (contextOf here) (assignsAny bs) false k (stateOf w es n r)
+  told-any es n r = any-answer (contextOf here) refl p es n r bs small marks
 
-  pub case-refused : (answer : Ran) → (a ≡ Held → ⊥) → ((st : State) → ranAs answer st ≡ outcome a p st) → (path : Labels) → Does w w₁ scope path (ranAs answer) (afterCase p bs k)
+  pub case-refused : (answer : Ran) → (a ≡ Held → ⊥) → ((st : State) → ranAs answer st ≡ outcome a p st) → Does w w₁ here (ranAs answer) (afterCase p bs k)
   unfolding afterCase
-  case-refused answer h r path = marks-refused p (assignsAny bs) (declaresAny bs) scope k a told-any (keeps-marks marks) answer h r path
+  case-refused answer h r = marks-refused p (assignsAny bs) (declaresAny bs) here k a told-any (keeps-marks marks) answer h r
 
-  pub case-marked : {d : Bool} → a ≡ Held → d ≡ declaresAny bs → not d ≡ true → (path : Labels) → Does w w₁ scope path (ranAs Done) (afterCase p bs k)
+  pub case-marked : {d : Bool} → a ≡ Held → d ≡ declaresAny bs → not d ≡ true → Does w w₁ here (ranAs Done) (afterCase p bs k)
   unfolding afterCase
-  case-marked {d} h e l path = marks-only p (assignsAny bs) (declaresAny bs) scope k a told-any (keeps-marks marks) h (sym e ∙ turned d l) path
+  case-marked {d} h e l = marks-only p (assignsAny bs) (declaresAny bs) here k a told-any (keeps-marks marks) h (sym e ∙ turned d l)
 
-  pub case-trailed : {d : Bool} {w₂ : List ℕ} → a ≡ Held → d ≡ declaresAny bs → not d ≡ false → Becomes w₁ w₂ (trailed k) (λ ns. ns) → (path : Labels) → Does w w₂ scope path (ranAs Done) (afterCase p bs k)
+  pub case-trailed : {d : Bool} {w₂ : List ℕ} → a ≡ Held → d ≡ declaresAny bs → not d ≡ false → Becomes w₁ w₂ (trailed k) (λ ns. ns) → Does w w₂ here (ranAs Done) (afterCase p bs k)
   unfolding afterCase
-  case-trailed {d} h e l t path = marks-trail p (assignsAny bs) (declaresAny bs) scope k a told-any (keeps-marks marks) h (sym e ∙ turned d l) t path
+  case-trailed {d} h e l t = marks-trail p (assignsAny bs) (declaresAny bs) here k a told-any (keeps-marks marks) h (sym e ∙ turned d l) t

@@ -8,14 +8,15 @@ use Rattle.labels.specs.Sets.{_∪_}
 use Rattle.values.specs.declared.Value.{Value}
 use Rattle.values.specs.declared.Labelled.{Labelled}
 use Rattle.wire.specs.Bytes.{endOf, fieldsIn}
-use Rattle.rules.specs.Outcome.{Outcome, refused, done, _>>=_}
+use Rattle.rules.specs.Outcome.{Outcome, done, _>>=_}
 use Rattle.rules.specs.Arithmetic.{sameValue}
 use Rattle.rules.specs.Tree.{Expression, Block, end, Branches, noBranch, branch, defaultBranch}
 use Rattle.rules.specs.State.{State, Context, Known}
 use Rattle.rules.specs.Evaluate.{evaluate}
-use Rattle.rules.specs.Run.{assignsAny, declaresAny, triedLabels, conditionLabels, afterTest}
+use Rattle.rules.specs.Run.{assignsAny, declaresAny, triedLabels, withPathAndTrail, afterTest}
 use Rattle.rules.specs.declared.Kind.the-variants.{Block as BlockKind}
 use Rattle.places.specs.At.{expressionAt, blockAt, branchesAt, StandsAs}
+use Rattle.evaluator.specs.Answers.{refusedBy}
 use Rattle.statements.specs.declared.Choice.{Choice}
 use Rattle.statements.specs.declared.Choice.the-variants.{At, Nothing}
 use Rattle.statements.specs.declared.Matched.{Matched}
@@ -57,7 +58,7 @@ unfoldable pub afterCase : (p : ℕ) → Branches → Labels → Context → Sta
 afterCase p bs k c st = afterTest p c (assignsAny bs) (declaresAny bs) k st
 
 unfoldable pub decideCase : (p : ℕ) → Branches → Labelled → Context → State → Outcome (Passed Block)
-decideCase p bs x c st = afterCase p bs (conditionLabels c st (x .labels ∪ triedLabels bs (x .value))) c st >>= λ st′. done (passed (chosenBlock bs (x .value)) (conditionLabels c st (x .labels ∪ triedLabels bs (x .value))) st′)
+decideCase p bs x c st = afterCase p bs (withPathAndTrail c st (x .labels ∪ triedLabels bs (x .value))) c st >>= λ st′. done (passed (chosenBlock bs (x .value)) (withPathAndTrail c st (x .labels ∪ triedLabels bs (x .value))) st′)
 
 unfoldable pub testCase : (p : ℕ) → Expression → Branches → Known → Context → State → Outcome (Passed Block)
 testCase p e bs k c st = evaluate k c st e >>= λ x. decideCase p bs x c st
@@ -70,10 +71,10 @@ testCaseAt m b p = testCase p (expressionAt m b (p + 3)) (branchesOf m b p)
 unfoldable pub caseAs : List ℕ → (b : ℕ) → TestedCase → State → Outcome (Passed Block)
 caseAs m b (Branch q k) st = done (passed (blockAt m b q) k st)
 caseAs m b (NoBlock k) st = done (passed end k st)
-caseAs m b (Refused r p) st = refused r p
+caseAs m b (Refused why) st = refusedBy why
 
 -- the block that an answer names stands there
 unfoldable pub blockStands : List ℕ → (b p : ℕ) → TestedCase → Type 0
 blockStands m b p (Branch q k) = StandsAs m b BlockKind q × BranchBlock m (endOf m p) q (endOf m (p + 3))
 blockStands m b p (NoBlock k) = Unit {0}
-blockStands m b p (Refused r q) = Unit {0}
+blockStands m b p (Refused why) = Unit {0}

@@ -6,15 +6,17 @@ use mathlib.Core.List.{List}
 use Rattle.labels.specs.declared.Labels.{Labels}
 use Rattle.values.specs.declared.Labelled.{Labelled}
 use Rattle.wire.specs.Bytes.{endOf}
-use Rattle.rules.specs.Outcome.{Outcome, refused, done, _>>=_, at}
+use Rattle.rules.specs.Outcome.{Outcome, done, _>>=_, at}
 use Rattle.rules.specs.Arithmetic.{booleanIn}
 use Rattle.rules.specs.Tree.{Expression, placeOf, Block}
 use Rattle.rules.specs.State.{Entry, State, Context, Known}
 use Rattle.rules.specs.Evaluate.{evaluate}
-use Rattle.rules.specs.Run.{assignsIn, declaresIn, conditionLabels, afterTest}
+use Rattle.rules.specs.Run.{assignsIn, declaresIn, withPathAndTrail, afterTest}
 use Rattle.places.specs.At.{expressionAt, blockAt}
-use Rattle.cells.specs.Scopes.{scopeOf}
-use Rattle.cells.specs.Memory.{baseFor, stateOf}
+use Rattle.cells.specs.Memory.{stateOf}
+use Rattle.memory.specs.declared.Context.{Context as Here}
+use Rattle.memory.specs.Contexts.{contextOf}
+use Rattle.evaluator.specs.Answers.{refusedBy}
 use Rattle.evaluator.specs.Known.{Ready}
 use Rattle.statements.specs.declared.Tested.{Tested}
 use Rattle.statements.specs.declared.Tested.the-variants.{Branch, Refused}
@@ -36,7 +38,7 @@ afterIf p a b k c st = afterTest p c (λ n. assignsIn a n || assignsIn b n) (dec
 
 -- its condition, at l, is x
 unfoldable pub decideIf : (p l : ℕ) → (a b : Block) → Labelled → Context → State → Outcome (Passed Bool)
-decideIf p l a b x c st = at l (booleanIn (x .value)) >>= λ t. afterIf p a b (conditionLabels c st (x .labels)) c st >>= λ st′. done (passed t (conditionLabels c st (x .labels)) st′)
+decideIf p l a b x c st = at l (booleanIn (x .value)) >>= λ t. afterIf p a b (withPathAndTrail c st (x .labels)) c st >>= λ st′. done (passed t (withPathAndTrail c st (x .labels)) st′)
 
 unfoldable pub testIf : (p : ℕ) → Expression → (a b : Block) → Known → Context → State → Outcome (Passed Bool)
 testIf p e a b k c st = evaluate k c st e >>= λ x. decideIf p (placeOf e) a b x c st
@@ -47,9 +49,9 @@ testIfAt m b p = testIf p (expressionAt m b (p + 3)) (blockAt m b (endOf m (p + 
 
 unfoldable pub testedAs : Tested → State → Outcome (Passed Bool)
 testedAs (Branch t k) st = done (passed t k st)
-testedAs (Refused r p) st = refused r p
+testedAs (Refused why) st = refusedBy why
 
 -- an answer is what the test gives, in every state that the bytes stand for
-pub record Tests {A : Type 0} (m w w′ out : List ℕ) (fill scope : ℕ) (node : Bool) (path : Labels) (answer : State → Outcome A) (test : Known → Context → State → Outcome A) : Type 0 where
-  pub says : (k : Known) (c : Context) (es : List Entry) (n r : ℕ) → Ready m w out fill k es → c .scope ≡ scopeOf scope → c .base ≡ baseFor node → c .path ≡ path → answer (stateOf w′ es n r) ≡ test k c (stateOf w es n r)
+pub record Tests {A : Type 0} (m w w′ out : List ℕ) (fill : ℕ) (here : Here) (answer : State → Outcome A) (test : Known → Context → State → Outcome A) : Type 0 where
+  pub says : (k : Known) (es : List Entry) (n r : ℕ) → Ready m w out fill k es → answer (stateOf w′ es n r) ≡ test k (contextOf here) (stateOf w es n r)
   pub keeps : Keeps w w′

@@ -3,7 +3,6 @@ ghost use mathlib.Core.Path.{_≡_};
 ghost use Prim.Native.Nat.{_+_, _-_, _≤_, _<_};
 ghost use mathlib.Core.List.{_++_};
 ghost use lib.ListN.{length};
-ghost use Rattle.labels.specs.declared.Labels.{Labels as LabelSet};
 ghost use Rattle.labels.specs.Sets.{_∪_};
 ghost use Rattle.wire.specs.Bytes.{byte, two, endOf, fieldsIn};
 ghost use Rattle.rules.specs.State.{State};
@@ -22,25 +21,27 @@ use evaluator::Evaluated;
 use evaluator::constant_at;
 use evaluator::evaluate;
 use labels::Labels;
+use memory::Context;
 use values::Labelled;
 use values::Reason;
+use values::Refusal;
 use values::Value;
 
 pub enum Ran {
     Done,
-    Refused { reason: Reason, place: u16 },
+    Refused(Refusal),
 }
 
 pub enum Tested {
     Branch { yes: bool, set: Labels },
-    Refused { reason: Reason, place: u16 },
+    Refused(Refusal),
 }
 
 // The place of the block that runs, or none, and the condition's set.
 pub enum TestedCase {
     Branch { block: usize, set: Labels },
     Nothing { set: Labels },
-    Refused { reason: Reason, place: u16 },
+    Refused(Refusal),
 }
 
 // The place of the block whose pattern matches.
@@ -62,37 +63,29 @@ fn store_answer(stored: Stored, p: usize) -> Ran
 {
     match stored {
         Stored::Done => Ran::Done,
-        Stored::HasValue => Ran::Refused {
-            reason: Reason::AssignedAgain,
-            place: p as u16,
-        },
-        Stored::NoRoom => Ran::Refused {
-            reason: Reason::CellLimit,
-            place: p as u16,
-        },
+        Stored::HasValue => Ran::Refused(Refusal::at(Reason::AssignedAgain, p)),
+        Stored::NoRoom => Ran::Refused(Refusal::at(Reason::CellLimit, p)),
     }
 }
 
-// A set with path and trail.
-fn in_context(work: &[u8], set: Labels, path: Labels) -> Labels
+// The set of a condition, its own given.
+fn condition_set(work: &[u8], own: Labels, path: Labels) -> Labels
     requires { ⌜ 65536 ≤ length (now work) ⌝ }
-    ensures { λ r. ⌜ r ≡ set ∪ (path ∪ trailOf (now (work .entry))) ⌝ }
+    ensures { λ r. ⌜ r ≡ (path ∪ trailOf (now (work .entry))) ∪ own ⌝ }
 {
-    let trail = memory::trail(work);
-    set.union(path.union(trail))
+    memory::path_and_trail(work, path).union(own)
 }
 
 // ---- Assignments
 
 // Gives a variable the value x, for a statement at p.
-pub fn store(work: &mut [u8], p: usize, scope: u16, name: u16, x: Labelled, path: Labels) -> Ran
+pub fn store(work: &mut [u8], p: usize, here: Context, name: u16, x: Labelled) -> Ran
     requires { ⌜ (65536 ≤ length (now work)) × ((name < 1024) × (p ≤ 65535)) ⌝ }
-    ensures { λ r. ⌜ Does (now (work .entry)) (now (work .exit)) scope path (ranAs r) (λ c. rules.store c p name x) ⌝ }
+    ensures { λ r. ⌜ Does (now (work .entry)) (now (work .exit)) here (ranAs r) (λ c. rules.store c p name x) ⌝ }
 {
-    let value = x.value;
-    let own = x.labels;
-    let labels = in_context(work, own, path);
-    let stored = cells::assign(work, scope, name, Labelled { value, labels });
+    let path = here.path;
+    let set = memory::path_and_trail(work, path);
+    let stored = cells::assign(work, here.scope.number, name, x.under(set));
     store_answer(stored, p)
 }
 
@@ -104,19 +97,18 @@ pub fn assign(
     work: &mut [u8],
     out: &[u8],
     fill: usize,
-    scope: u16,
-    base_is_node: bool,
-    path: Labels,
+    here: Context,
 ) -> Ran
     requires { ⌜ (Sized (now m) (now work) (now out) fill p × StandsAs (now m) depth Statement p) × ((byte (now m) p ≡ 0x21) × (two (now m) (p + 3) < 1024)) ⌝ }
-    ensures { λ r. ⌜ Runs (now (m .entry)) (now (work .entry)) (now (work .exit)) (now (out .entry)) fill scope «base_is_node» path r (statementAt (now (m .entry)) depth p) ⌝ }
+    ensures { λ r. ⌜ Runs (now (m .entry)) (now (work .entry)) (now (work .exit)) (now (out .entry)) fill here r (statementAt (now (m .entry)) depth p) ⌝ }
 {
-    let e = evaluate(m, depth - 1, p + 5, work, out, fill, scope, base_is_node);
+    let scope = here.scope;
+    let e = evaluate(m, depth - 1, p + 5, work, out, fill, scope);
     match e {
-        Evaluated::Refused { reason, place } => Ran::Refused { reason, place },
+        Evaluated::Refused(refusal) => Ran::Refused(refusal),
         Evaluated::Value(x) => {
             let name = wire::two_at(m, p + 3);
-            store(work, p, scope, name, x, path)
+            store(work, p, here, name, x)
         }
     }
 }
@@ -130,13 +122,13 @@ fn enter_if(
     q: usize,
     work: &mut [u8],
     p: usize,
-    scope: u16,
+    here: Context,
     set: Labels,
 ) -> Ran
     requires { ⌜ (((length (now m) ≤ 65535) × (65536 ≤ length (now work))) × (p ≤ 65535)) × ((StandsAs (now m) below Block q × StandsAs (now m) below Block (endOf (now m) q)) × Small (namesIn (blockAt (now m) below q) ++ namesIn (blockAt (now m) below (endOf (now m) q)))) ⌝ }
-    ensures { λ r. ⌜ ((path : LabelSet) → Does (now (work .entry)) (now (work .exit)) scope path (ranAs r) (afterIf p (blockAt (now (m .entry)) below q) (blockAt (now (m .entry)) below (endOf (now (m .entry)) q)) set)) ⌝ }
+    ensures { λ r. ⌜ Does (now (work .entry)) (now (work .exit)) here (ranAs r) (afterIf p (blockAt (now (m .entry)) below q) (blockAt (now (m .entry)) below (endOf (now (m .entry)) q)) set) ⌝ }
 {
-    let stored = branches::mark_both(m, below, q, work, scope, set);
+    let stored = branches::mark_both(m, below, q, work, here.scope.number, set);
     let Stored::Done = stored else {
         return store_answer(stored, p);
     };
@@ -148,31 +140,21 @@ fn enter_if(
 }
 
 // The if at p, whose condition is x.
-fn decide_if(
-    m: &[u8],
-    below: u8,
-    p: usize,
-    work: &mut [u8],
-    scope: u16,
-    x: Labelled,
-    path: Labels,
-) -> Tested
+fn decide_if(m: &[u8], below: u8, p: usize, work: &mut [u8], here: Context, x: Labelled) -> Tested
     requires { ⌜ (((length (now m) ≤ 65535) × (65536 ≤ length (now work))) × (p + 3 ≤ 65535)) × ((StandsAs (now m) below Block (endOf (now m) (p + 3)) × StandsAs (now m) below Block (endOf (now m) (endOf (now m) (p + 3)))) × Small (namesIn (blockAt (now m) below (endOf (now m) (p + 3))) ++ namesIn (blockAt (now m) below (endOf (now m) (endOf (now m) (p + 3)))))) ⌝ }
-    ensures { λ r. ⌜ Does (now (work .entry)) (now (work .exit)) scope path (testedAs r) (decideIf p (p + 3) (blockAt (now (m .entry)) below (endOf (now (m .entry)) (p + 3))) (blockAt (now (m .entry)) below (endOf (now (m .entry)) (endOf (now (m .entry)) (p + 3)))) x) ⌝ }
+    ensures { λ r. ⌜ Does (now (work .entry)) (now (work .exit)) here (testedAs r) (decideIf p (p + 3) (blockAt (now (m .entry)) below (endOf (now (m .entry)) (p + 3))) (blockAt (now (m .entry)) below (endOf (now (m .entry)) (endOf (now (m .entry)) (p + 3)))) x) ⌝ }
 {
     let value = x.value;
     let Value::Boolean(yes) = value else {
-        return Tested::Refused {
-            reason: Reason::WrongKind,
-            place: (p + 3) as u16,
-        };
+        return Tested::Refused(Refusal::at(Reason::WrongKind, p + 3));
     };
     let own = x.labels;
-    let set = in_context(work, own, path);
+    let path = here.path;
+    let set = condition_set(work, own, path);
     let q = wire::end_of(m, p + 3);
-    let entered = enter_if(m, below, q, work, p, scope, set);
+    let entered = enter_if(m, below, q, work, p, here, set);
     match entered {
-        Ran::Refused { reason, place } => Tested::Refused { reason, place },
+        Ran::Refused(refusal) => Tested::Refused(refusal),
         Ran::Done => Tested::Branch { yes, set },
     }
 }
@@ -185,17 +167,16 @@ pub fn test_if(
     work: &mut [u8],
     out: &[u8],
     fill: usize,
-    scope: u16,
-    base_is_node: bool,
-    path: Labels,
+    here: Context,
 ) -> Tested
     requires { ⌜ (Sized (now m) (now work) (now out) fill p × StandsAs (now m) depth Statement p) × ((byte (now m) p ≡ 0x22) × Small (names (statementAt (now m) depth p))) ⌝ }
-    ensures { λ r. ⌜ Tests (now (m .entry)) (now (work .entry)) (now (work .exit)) (now (out .entry)) fill scope «base_is_node» path (testedAs r) (testIfAt (now (m .entry)) (depth - 1) p) ⌝ }
+    ensures { λ r. ⌜ Tests (now (m .entry)) (now (work .entry)) (now (work .exit)) (now (out .entry)) fill here (testedAs r) (testIfAt (now (m .entry)) (depth - 1) p) ⌝ }
 {
-    let e = evaluate(m, depth - 1, p + 3, work, out, fill, scope, base_is_node);
+    let scope = here.scope;
+    let e = evaluate(m, depth - 1, p + 3, work, out, fill, scope);
     match e {
-        Evaluated::Refused { reason, place } => Tested::Refused { reason, place },
-        Evaluated::Value(x) => decide_if(m, depth - 1, p, work, scope, x, path),
+        Evaluated::Refused(refusal) => Tested::Refused(refusal),
+        Evaluated::Value(x) => decide_if(m, depth - 1, p, work, here, x),
     }
 }
 
@@ -244,13 +225,13 @@ fn enter_case(
     end: usize,
     work: &mut [u8],
     p: usize,
-    scope: u16,
+    here: Context,
     set: Labels,
 ) -> Ran
     requires { ⌜ (((length (now m) ≤ 65535) × (65536 ≤ length (now work))) × (p ≤ 65535)) × (Siblings (now m) below Branch from end × Small (namesAny (branchesAt (now m) below (fieldsIn (now m) from end)))) ⌝ }
-    ensures { λ r. ⌜ ((path : LabelSet) → Does (now (work .entry)) (now (work .exit)) scope path (ranAs r) (afterCase p (branchesAt (now (m .entry)) below (fieldsIn (now (m .entry)) from end)) set)) ⌝ }
+    ensures { λ r. ⌜ Does (now (work .entry)) (now (work .exit)) here (ranAs r) (afterCase p (branchesAt (now (m .entry)) below (fieldsIn (now (m .entry)) from end)) set) ⌝ }
 {
-    let stored = branches::mark_any(m, below, from, end, work, scope, set);
+    let stored = branches::mark_any(m, below, from, end, work, here.scope.number, set);
     let Stored::Done = stored else {
         return store_answer(stored, p);
     };
@@ -267,12 +248,11 @@ fn decide_case(
     below: u8,
     p: usize,
     work: &mut [u8],
-    scope: u16,
+    here: Context,
     x: Labelled,
-    path: Labels,
 ) -> TestedCase
     requires { ⌜ (((length (now m) ≤ 65535) × (65536 ≤ length (now work))) × ((p + 3 ≤ 65535) × (endOf (now m) p ≤ 65535))) × (Siblings (now m) below Branch (endOf (now m) (p + 3)) (endOf (now m) p) × Small (namesAny (branchesOf (now m) below p))) ⌝ }
-    ensures { λ r. ⌜ Does (now (work .entry)) (now (work .exit)) scope path (caseAs (now (m .entry)) (below - 1) r) (decideCase p (branchesOf (now (m .entry)) below p) x) × blockStands (now (m .entry)) (below - 1) p r ⌝ }
+    ensures { λ r. ⌜ Does (now (work .entry)) (now (work .exit)) here (caseAs (now (m .entry)) (below - 1) r) (decideCase p (branchesOf (now (m .entry)) below p) x) × blockStands (now (m .entry)) (below - 1) p r ⌝ }
 {
     let value = x.value;
     let own = x.labels;
@@ -280,10 +260,11 @@ fn decide_case(
     let end = wire::end_of(m, p);
     let matched = match_branches(m, below, from, end, value);
     let tried = matched.labels;
-    let set = in_context(work, own.union(tried), path);
-    let entered = enter_case(m, below, from, end, work, p, scope, set);
+    let path = here.path;
+    let set = condition_set(work, own.union(tried), path);
+    let entered = enter_case(m, below, from, end, work, p, here, set);
     match entered {
-        Ran::Refused { reason, place } => TestedCase::Refused { reason, place },
+        Ran::Refused(refusal) => TestedCase::Refused(refusal),
         Ran::Done => {
             let at = matched.at;
             match at {
@@ -302,16 +283,15 @@ pub fn test_case(
     work: &mut [u8],
     out: &[u8],
     fill: usize,
-    scope: u16,
-    base_is_node: bool,
-    path: Labels,
+    here: Context,
 ) -> TestedCase
     requires { ⌜ (Sized (now m) (now work) (now out) fill p × StandsAs (now m) depth Statement p) × ((byte (now m) p ≡ 0x23) × Small (names (statementAt (now m) depth p))) ⌝ }
-    ensures { λ r. ⌜ Tests (now (m .entry)) (now (work .entry)) (now (work .exit)) (now (out .entry)) fill scope «base_is_node» path (caseAs (now (m .entry)) (depth - 1 - 1) r) (testCaseAt (now (m .entry)) (depth - 1) p) × blockStands (now (m .entry)) (depth - 1 - 1) p r ⌝ }
+    ensures { λ r. ⌜ Tests (now (m .entry)) (now (work .entry)) (now (work .exit)) (now (out .entry)) fill here (caseAs (now (m .entry)) (depth - 1 - 1) r) (testCaseAt (now (m .entry)) (depth - 1) p) × blockStands (now (m .entry)) (depth - 1 - 1) p r ⌝ }
 {
-    let e = evaluate(m, depth - 1, p + 3, work, out, fill, scope, base_is_node);
+    let scope = here.scope;
+    let e = evaluate(m, depth - 1, p + 3, work, out, fill, scope);
     match e {
-        Evaluated::Refused { reason, place } => TestedCase::Refused { reason, place },
-        Evaluated::Value(x) => decide_case(m, depth - 1, p, work, scope, x, path),
+        Evaluated::Refused(refusal) => TestedCase::Refused(refusal),
+        Evaluated::Value(x) => decide_case(m, depth - 1, p, work, here, x),
     }
 }

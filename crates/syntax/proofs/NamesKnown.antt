@@ -1,5 +1,5 @@
 -- Where the names of all fields from a place on are known, so are those of the field there, of the fields in it, and of what comes after it: the
--- walk in reading order comes to each field of a sound manifest. `Known m n z p`: from p up to z no name is past the n strings.
+-- walk in reading order comes to each field of a sound manifest. It is `NamesFrom m n z p` (specs/Names.antt).
 use Prim.Native.Nat.{ℕ, zero, suc, _+_, _-_, _<_, _≤_}
 use mathlib.Core.Path.{_≡_, refl, ap, subst}
 use mathlib.Core.Bool.{Bool, true, false}
@@ -21,6 +21,7 @@ use Rattle.rules.specs.declared.Form.{Form}
 use Rattle.rules.specs.declared.Verdict.the-variants.{Sound, Fault}
 use Rattle.rules.proofs.Within.{fault-not-sound, first-field, SoundBody, inside-sound, level-left, check-sound}
 use Rattle.rules.proofs.Listed.{both-left, both-right}
+use Rattle.syntax.specs.Names.{NamesFrom}
 use Rattle.syntax.proofs.Reading.{place-first}
 
 -- into the fields of a field
@@ -29,8 +30,8 @@ unfolding stride
 stride-in h n e = ap (λ (r : Rest). stride r h n) e
 
 module _ (m : List ℕ) (n z : ℕ) where
-  pub record Known (p : ℕ) : Type 0 where
-    pub sound : namesKnown m n (placesIn m p z) ≡ Sound
+  abbrev Known : ℕ → Type 0
+  Known p = NamesFrom m n z p
 
   -- the names of the field there, and those from the next one on
   record KnownHere (p : ℕ) : Type 0 where
@@ -82,7 +83,7 @@ module _ (m : List ℕ) (n z : ℕ) where
           past-fields (endOf m p) d p ps (p + 3 + headSize (formOf (byte m p))) (endOf m p) past (omega arith) (omega arith) h (b .fields ps e) (subst (λ (j : ℕ). Known (p + 3 + j)) (stride-in (headSize (formOf (byte m p))) (two m (p + 1)) e) next)
 
 -- a sound manifest: the names of all items
-pub items-known : (m : List ℕ) → check m ≡ Sound → Known m (length (stringPlaces m)) (length m) (endOf m 0)
+pub items-known : (m : List ℕ) → check m ≡ Sound → NamesFrom m (length (stringPlaces m)) (length m) (endOf m 0)
 items-known m w = record { sound = check-sound m w .names }
 
 -- ---- The names that a field begins with

@@ -1,3 +1,4 @@
 pub mod Before
 pub mod Strings
 pub mod Nodes
+pub mod Names

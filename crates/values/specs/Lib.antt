@@ -2,3 +2,5 @@ pub mod Numbers
 pub mod Integers
 pub mod Computed
 pub mod Decimal
+pub mod Refusals
+pub mod Labelled

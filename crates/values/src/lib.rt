@@ -1,7 +1,10 @@
 // What a manifest's expressions yield, why a compile refuses, and what it answers.
 ghost use mathlib.Core.Path.{_≡_};
+ghost use Prim.Native.Nat.{_≤_};
 ghost use Rattle.values.specs.Integers.{sameValue};
+ghost use Rattle.values.specs.Labelled.{under};
 ghost use Rattle.values.specs.Numbers.{numberOf};
+ghost use Rattle.values.specs.Refusals.{refusalAt};
 use labels::Labels;
 
 // Decimal text of numbers.
@@ -20,6 +23,20 @@ pub enum Value {
 pub struct Labelled {
     pub value: Value,
     pub labels: Labels,
+}
+
+impl Labelled {
+    // The same value, with labels added to its set: no other function adds any.
+    pub fn under(self, set: Labels) -> Labelled
+        ensures { λ r. ⌜ r ≡ under set self ⌝ }
+    {
+        let value = self.value;
+        let labels = self.labels;
+        Labelled {
+            value,
+            labels: set.union(labels),
+        }
+    }
 }
 
 // Document 01's reasons for refusing, 1 to 23, in its order.
@@ -49,6 +66,12 @@ pub enum Reason {
     OutputFull,
 }
 
+// Why a compile refuses, and the place of the field concerned.
+pub struct Refusal {
+    pub reason: Reason,
+    pub place: u16,
+}
+
 // What a compile answers: the catalog's length and the steps taken, or the reason for refusing and its place.
 pub enum Answer {
     Catalog { length: u16, steps: u16 },
@@ -60,6 +83,26 @@ pub enum Computed {
     Integer(i64),
     Overflow,
     DivisionByZero,
+}
+
+impl Refusal {
+    // The refusal at the place p.
+    pub fn at(reason: Reason, p: usize) -> Self
+        requires { ⌜ p ≤ 65535 ⌝ }
+        ensures { λ r. ⌜ r ≡ refusalAt reason p ⌝ }
+    {
+        Self {
+            reason,
+            place: p as u16,
+        }
+    }
+}
+
+// A place that a refusal can name: others do not occur.
+pub fn place(q: usize) -> usize
+    ensures { λ r. ⌜ (r ≤ 65535) × (q ≤ 65535 → r ≡ q) ⌝ }
+{
+    if q <= 65535 { q } else { 65535 }
 }
 
 // "= takes any two values, unequal if of unlike kinds".

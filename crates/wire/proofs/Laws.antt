@@ -6,13 +6,13 @@ use Prim.Native.Nat.{ℕ, zero, suc, _+_, _*_, _-_, _/_, _%_, _^_, _≤_, _<_}
 use native.Mathlib.Nat.{add-zero, pow-suc, one-le-pow, zero-lt-suc, mod-eq-of-lt, mod-one, div-one, zero-mul, add-mul, mul-assoc, mul-comm}
 use native.Mathlib.Numerals.{add-one}
 use native.Mathlib.Omega.{arith}
-use borrow.Author.Tests.{lt-ltb, le-ltb, leb-true, leb-false}
+use borrow.Author.Tests.{ltb-true, ltb-false, lt-ltb, le-ltb, leb-true, leb-false}
 use lib.Arith.{mod-mul}
-use lib.Dec.{leb}
+use lib.Dec.{leb, ltb}
 use lib.IntN.{ℤ, pos, negsuc}
 use lib.ListN.{length, set, take, drop, length-set, length-append, length-replicate, List·getD-eq-default}
 use lib.Pow.{pow-add}
-use lib.Seq.{getD-set-same, getD-set-other, getD-drop, set-out, drop-cons, sets, sets-eq, take-all, take-length, length-take-le, take-at}
+use lib.Seq.{getD-set-same, getD-set-other, getD-drop, ext-getD, set-out, drop-cons, sets, sets-eq, take-all, take-length, length-take-le, take-at}
 use lib.Signed.{mag}
 use Rattle.wire.specs.Bytes.{byte, two}
 use Rattle.wire.specs.Numbers.{number, signed64, highBytes, word64}
@@ -114,6 +114,11 @@ unfolding over
 over-join m p [] cs = rw add-zero
 over-join m p (b ∷ bs) cs = ap (λ (q : ℕ). over (over (set m p b) (suc p) bs) q cs) (omega arith) ∙ over-join (set m p b) (suc p) bs cs
 
+-- one store more, where the last one ended
+pub then-store : (m : List ℕ) (p : ℕ) (a : List ℕ) (q : ℕ) (b : List ℕ) {m1 m2 : List ℕ} → m1 ≡ over m p a → m2 ≡ over m1 q b → q ≡ p + length a → m2 ≡ over m p (a ++ b)
+then-store m p a q b {m1} {m2} first second end =
+    second ∙ ap (λ (x : List ℕ). over x q b) first ∙ ap (λ (k : ℕ). over (over m p a) k b) end ∙ over-join m p a b
+
 over-sets : (m : List ℕ) (p : ℕ) (bs : List ℕ) → over m p bs ≡ sets m p bs
 unfolding over
 over-sets m p [] = refl
@@ -132,6 +137,45 @@ over-front m p bs room =
 -- a store of as many bytes as there are
 pub over-whole : (m bs : List ℕ) → length bs ≡ length m → over m 0 bs ≡ bs
 over-whole m bs same = sym (take-all (0 + length bs) (over m 0 bs) (omega (arith, over-length m 0 bs))) ∙ over-front m 0 bs (omega arith)
+
+-- ---- A run within a run
+
+pub byte-in : (w : List ℕ) (p n j : ℕ) → j < n → byte (bytesAt w p n) j ≡ byte w (p + j)
+unfolding bytesAt
+byte-in w p zero j h = absurd (omega arith)
+byte-in w p (suc n) zero h = ap (byte w) (omega arith)
+byte-in w p (suc n) (suc j) h = byte-in w (suc p) n j (omega arith) ∙ ap (byte w) (omega arith)
+
+pub run-in : (w : List ℕ) (p n o k : ℕ) → o + k ≤ n → bytesAt (bytesAt w p n) o k ≡ bytesAt w (p + o) k
+unfolding bytesAt
+run-in w p n o zero h = refl
+run-in w p n o (suc k) h =
+    let first : byte (bytesAt w p n) o ≡ byte w (p + o) = byte-in w p n o (omega arith) in
+    let next : p + suc o ≡ suc (p + o) = omega arith in
+    let rest : bytesAt (bytesAt w p n) (suc o) k ≡ bytesAt w (suc (p + o)) k = run-in w p n (suc o) k (omega arith) ∙ ap (λ (q : ℕ). bytesAt w q k) next in
+    rw (first, rest)
+
+-- a store within a run
+pub over-in : (w : List ℕ) (p n o : ℕ) (bs : List ℕ) → o + length bs ≤ n → p + n ≤ length w → bytesAt (over w (p + o) bs) p n ≡ over (bytesAt w p n) o bs
+over-in w p n o bs h room =
+    let size : length (bytesAt w p n) ≡ n = run-length w p n in
+    ext-getD 0 (bytesAt (over w (p + o) bs) p n) (over (bytesAt w p n) o bs) (run-length (over w (p + o) bs) p n ∙ sym (over-length (bytesAt w p n) o bs ∙ size))
+    (λ j l. (let below : j < n = omega (arith, run-length (over w (p + o) bs) p n) in byte-in (over w (p + o) bs) p n j below ∙ go j below (ltb j o) refl (ltb j (o + length bs)) refl))
+  where
+    out : (j : ℕ) → j < n → (o ≤ j → j < o + length bs → ⊥) → byte (over w (p + o) bs) (p + j) ≡ byte (over (bytesAt w p n) o bs) j
+    out j l apart =
+        byte-outside w (p + o) bs (p + j) (λ a b. apart (omega arith) (omega arith)) ∙ sym (byte-in w p n j l) ∙ sym (byte-outside (bytesAt w p n) o bs j apart)
+
+    go : (j : ℕ) → j < n → (x : Bool) → ltb j o ≡ x → (y : Bool) → ltb j (o + length bs) ≡ y → byte (over w (p + o) bs) (p + j) ≡ byte (over (bytesAt w p n) o bs) j
+    go j l true e y f = let a : j < o = ltb-true j o e in out j l (λ b c. omega arith)
+    go j l false e true f =
+        let a : o ≤ j = ltb-false j o e in
+        let b : j < o + length bs = ltb-true j (o + length bs) f in
+        let d : ℕ = j - o in
+        let size : length (bytesAt w p n) ≡ n = run-length w p n in
+        ap (byte (over w (p + o) bs)) (omega arith) ∙ byte-inside w (p + o) bs d (omega arith) (omega arith)
+        ∙ sym (ap (byte (over (bytesAt w p n) o bs)) (omega arith) ∙ byte-inside (bytesAt w p n) o bs d (omega arith) (omega arith))
+    go j l false e false f = let a : o + length bs ≤ j = ltb-false j (o + length bs) f in out j l (λ b c. omega arith)
 
 -- ---- Zeros
 
@@ -196,6 +240,10 @@ two-number m p = omega (arith, ap (byte m) (add-one p))
 
 pub two-same : (m m′ : List ℕ) (p q : ℕ) → bytesAt m p 2 ≡ bytesAt m′ q 2 → two m p ≡ two m′ q
 two-same m m′ p q same = two-number m p ∙ ap (λ (bs : List ℕ). number bs 0) same ∙ sym (two-number m′ q)
+
+-- two bytes of a run
+pub two-in : (w : List ℕ) (p n o : ℕ) → o + 2 ≤ n → two (bytesAt w p n) o ≡ two w (p + o)
+two-in w p n o h = two-same (bytesAt w p n) w o (p + o) (run-in w p n o 2 h)
 
 -- a byte is its one byte
 pub one-byte : (b : ℕ) → b < 256 → highBytes 1 b ≡ b ∷ []

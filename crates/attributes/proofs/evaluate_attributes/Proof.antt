@@ -12,10 +12,10 @@ use Rattle.attributes.proofs.evaluate_attributes.Statement.{statement}
 use Rattle.attributes.proofs.evaluate_attributes.Tie as tie
 
 abbrev Inv-loop : tie.InvT-loop
-Inv-loop m depth first end work out fill scope base-is-node table₀ q₀ table q = Evaluating m work out fill scope base-is-node depth first end q table × (Rows m (length table₀) (fieldsIn m q end) × (length table ≡ length table₀))
+Inv-loop m depth work out fill scope table₀ end q₀ table q = Evaluating m work out fill scope depth q₀ end q table × (Rows m (length table₀) (fieldsIn m q end) × (length table ≡ length table₀))
 
 abbrev μ-loop : tie.MeasureT-loop
-μ-loop m depth first end work out fill scope base-is-node table₀ q₀ table q = end - q
+μ-loop m depth work out fill scope table₀ end q₀ table q = end - q
 
 loop-holds : tie.Need-loop-holds Inv-loop μ-loop
 loop-holds c = (evaluating-begins (c .before .before .before .before .pre .0 .1) (c .before .before .before .before .pre .1 .blank), (c .before .before .before .before .pre .1 .rows, refl))

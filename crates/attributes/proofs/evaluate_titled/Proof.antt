@@ -24,19 +24,19 @@ enum-told : tie.Need-enum-told
 enum-told c = search needs
 
 returns : tie.Need-returns
-returns c = title-stops (c .before .before .before .before .before .before .before .pre .0 .0 .1) (c .before .before .before .before .before .before .before .pre .0 .1) _ _ _ _ _ _ (c .before .before .evaluate .ensures) (c .enum-told .given .1)
+returns c = title-stops (c .before .before .before .before .before .before .before .pre .0 .0 .1) (c .before .before .before .before .before .before .before .pre .0 .1) _ _ _ _ _ (c .before .before .evaluate .ensures) (c .enum-told .given .1)
 
 enum-told-2 : tie.Need-enum-told-2
 enum-told-2 c = search needs
 
-add-t21 : tie.Need-add-t21
-add-t21 c = search needs
+add-at : tie.Need-add-at
+add-at c = search needs
 
-cast-t22 : tie.Need-cast-t22
-cast-t22 c = omega (arith, title-near (c .before .before .before .before .before .before .before .before .before .pre .0 .0 .1) (c .before .before .before .before .before .before .before .before .before .pre .0 .1) (c .before .before .before .before .before .before .before .before .before .pre .0 .0 .0 .manifest))
+at-requires : tie.Need-at-requires
+at-requires c κs = omega (arith, title-near (c .before .before .before .before .before .before .before .before .before .pre .0 .0 .1) (c .before .before .before .before .before .before .before .before .before .pre .0 .1) (c .before .before .before .before .before .before .before .before .before .pre .0 .0 .0 .manifest))
 
 returns-2 : tie.Need-returns-2
-returns-2 c = title-wrong (c .before .before .before .before .before .before .before .before .before .pre .0 .0 .1) (c .before .before .before .before .before .before .before .before .before .pre .0 .1) _ _ _ _ _ _ (c .before .before .before .before .evaluate .ensures) _ (c .before .before .t .given .1) (λ e. ⊎-elim (λ p. omega arith) (λ p. omega arith) (c .match2 .keys2))
+returns-2 c = title-wrong (c .before .before .before .before .before .before .before .before .before .before .pre .0 .0 .1) (c .before .before .before .before .before .before .before .before .before .before .pre .0 .1) _ _ _ _ _ (c .before .before .before .before .before .evaluate .ensures) _ (c .before .before .before .t .given .1) (λ e. ⊎-elim (λ p. omega arith) (λ p. omega arith) (c .before .match2 .keys2)) (c .at .ensures)
 
 add-end-of : tie.Need-add-end-of
 add-end-of c = search needs
@@ -65,13 +65,13 @@ same-length : tie.Need-same-length
 same-length c = search needs
 
 returns-3 : tie.Need-returns-3
-returns-3 c = attributes-stop (c .before .before .before .before .before .before .before .before .before .before .before .before .before .before .before .before .before .before .before .pre .0 .0 .1) (c .before .before .before .before .before .before .before .before .before .before .before .before .before .before .before .before .before .before .before .pre .0 .1) _ _ _ _ _ _ (c .before .before .before .before .before .before .before .before .before .before .before .before .before .before .evaluate .ensures) _ (c .before .before .before .before .before .before .before .before .before .before .before .before .t .given .1) (c .before .before .before .before .before .before .before .before .before .enum-told2 .given .1) (c .before .before .before .before .before .before .before .before .end-of .ensures) (c .before .before .before .before .before .before .before .end-of2 .ensures) (c .before .before .before .before .before .evaluate-attributes .ensures) (c .before .g .given .1)
+returns-3 c = attributes-stop (c .before .before .before .before .before .before .before .before .before .before .before .before .before .before .before .before .before .before .before .pre .0 .0 .1) (c .before .before .before .before .before .before .before .before .before .before .before .before .before .before .before .before .before .before .before .pre .0 .1) _ _ _ _ _ (c .before .before .before .before .before .before .before .before .before .before .before .before .before .before .evaluate .ensures) _ (c .before .before .before .before .before .before .before .before .before .before .before .before .t .given .1) (c .before .before .before .before .before .before .before .before .before .enum-told2 .given .1) (c .before .before .before .before .before .before .before .before .end-of .ensures) (c .before .before .before .before .before .before .before .end-of2 .ensures) (c .before .before .before .before .before .evaluate-attributes .ensures) (c .before .g .given .1)
 
 same-length-2 : tie.Need-same-length-2
 same-length-2 c = search needs
 
 returns-4 : tie.Need-returns-4
-returns-4 c = all-given (c .before .before .before .before .before .before .before .before .before .before .before .before .before .before .before .before .before .before .pre .0 .0 .1) (c .before .before .before .before .before .before .before .before .before .before .before .before .before .before .before .before .before .before .pre .0 .1) _ _ _ _ _ _ (c .before .before .before .before .before .before .before .before .before .before .before .before .before .evaluate .ensures) _ (c .before .before .before .before .before .before .before .before .before .before .before .t .given .1) (c .before .before .before .before .before .before .before .before .enum-told2 .given .1) (c .before .before .before .before .before .before .before .end-of .ensures) (c .before .before .before .before .before .before .end-of2 .ensures) (c .before .before .before .before .evaluate-attributes .ensures) (c .enum-told3 .given .1)
+returns-4 c = all-given (c .before .before .before .before .before .before .before .before .before .before .before .before .before .before .before .before .before .before .pre .0 .0 .1) (c .before .before .before .before .before .before .before .before .before .before .before .before .before .before .before .before .before .before .pre .0 .1) _ _ _ _ _ (c .before .before .before .before .before .before .before .before .before .before .before .before .before .evaluate .ensures) _ (c .before .before .before .before .before .before .before .before .before .before .before .t .given .1) (c .before .before .before .before .before .before .before .before .enum-told2 .given .1) (c .before .before .before .before .before .before .before .end-of .ensures) (c .before .before .before .before .before .before .end-of2 .ensures) (c .before .before .before .before .evaluate-attributes .ensures) (c .enum-told3 .given .1)
 
 pub evaluate-titled-spec : {M : Type 1} → statement M
 evaluate-titled-spec =
@@ -84,8 +84,8 @@ evaluate-titled-spec =
     enum-told
     returns
     enum-told-2
-    add-t21
-    cast-t22
+    add-at
+    at-requires
     returns-2
     add-end-of
     end-of-requires

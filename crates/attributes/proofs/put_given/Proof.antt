@@ -1,32 +1,17 @@
--- `put_given`: payload, set and kind, stored one after the other.
-use native.Mathlib.Omega.{arith}
+-- `put_given`: the record of the name's row.
 use borrow.Author.Needs.{needs}
+use native.Mathlib.Omega.{arith}
 use Rattle.labels.specs.Sets.{Words64}
-use Rattle.cells.proofs.Ranges.{value-ranged}
+use Rattle.records.proofs.Ranges.{value-ranged}
 use Rattle.attributes.proofs.Table.{put-way}
 use Rattle.attributes.proofs.put_given.Statement.{statement}
 use Rattle.attributes.proofs.put_given.Tie as tie
 
-mul-place : tie.Need-mul-place
-mul-place c = search needs
+mul-put-record : tie.Need-mul-put-record
+mul-put-record c = search needs
 
-add-put-payload : tie.Need-add-put-payload
-add-put-payload c = search needs
-
-put-payload-requires : tie.Need-put-payload-requires
-put-payload-requires c κs = search needs
-
-add-put-labels : tie.Need-add-put-labels
-add-put-labels c = search needs
-
-put-labels-requires : tie.Need-put-labels-requires
-put-labels-requires c κs = search needs
-
-kind-of-requires : tie.Need-kind-of-requires
-kind-of-requires c κs = search needs
-
-put-byte-requires : tie.Need-put-byte-requires
-put-byte-requires c κs = search needs
+put-record-requires : tie.Need-put-record-requires
+put-record-requires c κs = search needs
 
 same-length : tie.Need-same-length
 same-length c = search needs
@@ -37,19 +22,8 @@ words c = record { small0 = omega arith; small1 = omega arith; small2 = omega ar
 
 returns : tie.Need-returns
 returns c =
-    let start = c .before .before .before .before .before .before .before .before .before .before .before .before .before .before .before in
-    put-way _ _ _ (start .pre) (value-ranged _ _ (start .good .1 .1 .0 .1 .1 .0)) (words start) (c .before .before .before .before .before .before .before .before .before .before .before .put-payload .ensures) (c .before .before .before .before .before .before .before .put-labels .ensures) (c .before .before .before .kind-of .ensures) (c .before .before .put-byte .ensures)
+    let start = (c .before .before .before .before .before) in
+    put-way _ _ _ (start .pre) (value-ranged _ _ (start .good .1 .1 .0 .1 .1 .0)) (words start) (c .before .before .put-record .ensures)
 
 pub put-given-spec : {M : Type 1} → statement M
-put-given-spec =
-    tie.close
-    (tie.spec
-    mul-place
-    add-put-payload
-    put-payload-requires
-    add-put-labels
-    put-labels-requires
-    kind-of-requires
-    put-byte-requires
-    same-length
-    returns)
+put-given-spec = tie.close (tie.spec mul-put-record put-record-requires same-length returns)

@@ -34,11 +34,11 @@ add-put-two c = search needs
 put-two-requires : tie.Need-put-two-requires
 put-two-requires c κs = search needs
 
-add-put-labels : tie.Need-add-put-labels
-add-put-labels c = search needs
+add-write-at : tie.Need-add-write-at
+add-write-at c = search needs
 
-put-labels-requires : tie.Need-put-labels-requires
-put-labels-requires c κs = search needs
+write-at-requires : tie.Need-write-at-requires
+write-at-requires c κs = search needs
 
 add-put-value : tie.Need-add-put-value
 add-put-value c = search needs
@@ -52,7 +52,7 @@ same-length c = search needs
 returns-2 : tie.Need-returns-2
 returns-2 c =
     let a = c .before .before .before .before .before .before .before .before .before .before .before .before .before .before .before .before .before .before .before .before .args in
-    attribute-added (a .rest .now) (a .size) (a .name) (a .x) (c .before .before .before .before .before .before .before .before .before .before .before .before .before .before .before .before .before .before .value-size .ensures) (c .before .before .before .before .before .before .before .before .before .before .before .before .before .before .before .before .before .if1 .left) (c .before .before .before .before .before .before .before .before .before .before .before .before .before .before .before .put-header .ensures) (c .before .before .before .before .before .before .before .before .before .before .before .put-two .ensures) (c .before .before .before .before .before .before .put-labels .ensures) (c .before .before .put-value .ensures)
+    attribute-added (a .rest .now) (a .size) (a .name) (a .x) (c .before .before .before .before .before .before .before .before .before .before .before .before .before .before .before .before .before .before .value-size .ensures) (c .before .before .before .before .before .before .before .before .before .before .before .before .before .before .before .before .before .if1 .left) (c .before .before .before .before .before .before .before .before .before .before .before .before .before .before .before .put-header .ensures) (c .before .before .before .before .before .before .before .before .before .before .before .put-two .ensures) (c .before .before .before .before .before .before .write-at .ensures) (c .before .before .put-value .ensures)
 
 pub add-attribute-spec : {M : Type 1} → statement M
 add-attribute-spec =
@@ -67,8 +67,8 @@ add-attribute-spec =
     put-header-requires
     add-put-two
     put-two-requires
-    add-put-labels
-    put-labels-requires
+    add-write-at
+    write-at-requires
     add-put-value
     put-value-requires
     same-length

@@ -29,8 +29,8 @@ put-two-requires c κs = search needs
 put-two-requires-2 : tie.Need-put-two-requires-2
 put-two-requires-2 c κs = search needs
 
-put-labels-requires : tie.Need-put-labels-requires
-put-labels-requires c κs = search needs
+write-at-requires : tie.Need-write-at-requires
+write-at-requires c κs = search needs
 
 same-length : tie.Need-same-length
 same-length c = search needs
@@ -38,7 +38,7 @@ same-length c = search needs
 returns-3 : tie.Need-returns-3
 returns-3 c =
     let a = c .before .before .before .before .before .before .before .before .before .before .before .before .before .before .before .before .before .before .before .args in
-    entry-finished (a .rest .now) (a .size) (a .room) (a .kind) (a .title) (a .labels) (c .before .before .before .before .before .before .before .before .before .before .before .before .before .before .before .before .before .if1 .left) (c .before .before .before .before .before .before .before .before .before .before .before .before .before .before .before .before .if2 .left) (c .before .before .before .before .before .before .before .before .before .before .before .before .before .before .put-header .ensures) (c .before .before .before .before .before .before .before .before .before .before .put-two .ensures) (c .before .before .before .before .before .before .put-two2 .ensures) (c .before .before .put-labels .ensures)
+    entry-finished (a .rest .now) (a .size) (a .room) (a .kind) (a .title) (a .labels) (c .before .before .before .before .before .before .before .before .before .before .before .before .before .before .before .before .before .if1 .left) (c .before .before .before .before .before .before .before .before .before .before .before .before .before .before .before .before .if2 .left) (c .before .before .before .before .before .before .before .before .before .before .before .before .before .before .put-header .ensures) (c .before .before .before .before .before .before .before .before .before .before .put-two .ensures) (c .before .before .before .before .before .before .put-two2 .ensures) (c .before .before .write-at .ensures)
 
 pub finish-entry-spec : {M : Type 1} → statement M
 finish-entry-spec =
@@ -51,6 +51,6 @@ finish-entry-spec =
     put-header-requires
     put-two-requires
     put-two-requires-2
-    put-labels-requires
+    write-at-requires
     same-length
     returns-3)

@@ -10,16 +10,16 @@ add-value-at c = search needs
 value-at-requires : tie.Need-value-at-requires
 value-at-requires c κs = search needs
 
-add-labels-at : tie.Need-add-labels-at
-add-labels-at c = search needs
+add-read-at : tie.Need-add-read-at
+add-read-at c = search needs
 
-labels-at-requires : tie.Need-labels-at-requires
-labels-at-requires c κs = search needs
+read-at-requires : tie.Need-read-at-requires
+read-at-requires c κs = search needs
 
 returns : tie.Need-returns
 unfolding contentAt
-returns c = rw (c .before .value-at .ensures, c .labels-at .ensures)
+returns c = rw (c .before .value-at .ensures, c .read-at .ensures)
 
 pub read-attribute-spec : {M : Type 1} → statement M
 read-attribute-spec =
-    tie.close (tie.spec add-value-at value-at-requires add-labels-at labels-at-requires returns)
+    tie.close (tie.spec add-value-at value-at-requires add-read-at read-at-requires returns)

@@ -1,6 +1,6 @@
--- `claim`: out of the old chain; state, scope and mark; into the new one.
-use native.Mathlib.Omega.{arith}
+-- `claim`: out of the old chain; state, scope, no value and no mark; into the new one.
 use borrow.Author.Needs.{needs}
+use native.Mathlib.Omega.{arith}
 use Rattle.labels.specs.Sets.{noLabels}
 use Rattle.cells.proofs.Claims.{claim-out, claim-way}
 use Rattle.cells.proofs.claim.Statement.{statement}
@@ -21,23 +21,33 @@ add-put-two c = search needs
 put-two-requires : tie.Need-put-two-requires
 put-two-requires c κs = search needs
 
-mul-put-labels : tie.Need-mul-put-labels
-mul-put-labels c = search needs
+mul-empty-record : tie.Need-mul-empty-record
+mul-empty-record c = search needs
 
-add-put-labels : tie.Need-add-put-labels
-add-put-labels c = search needs
+add-empty-record : tie.Need-add-empty-record
+add-empty-record c = search needs
 
-add-put-labels-2 : tie.Need-add-put-labels-2
-add-put-labels-2 c = search needs
+empty-record-requires : tie.Need-empty-record-requires
+empty-record-requires c κs = search needs
 
-put-labels-requires : tie.Need-put-labels-requires
-put-labels-requires c κs = search needs
+mul-write-at : tie.Need-mul-write-at
+mul-write-at c = search needs
+
+add-write-at : tie.Need-add-write-at
+add-write-at c = search needs
+
+add-write-at-2 : tie.Need-add-write-at-2
+add-write-at-2 c = search needs
+
+write-at-requires : tie.Need-write-at-requires
+write-at-requires c κs = search needs
 
 put-in-requires : tie.Need-put-in-requires
 unfolding noLabels
 put-in-requires c κs =
-    let start = c .before .before .before .before .before .before .before .before .before .before .before .before .before .before .before .before .before .before in
-    (start .pre .0, (omega arith, (start .pre .1 .1, claim-out _ _ _ _ _ (start .pre .0) (omega (arith, start .pre .1 .0, c .before .before .before .before .before .before .before .before .before .before .before .before .before .before .before .take-out .kept .0)) (omega arith) (c .before .before .before .before .before .before .before .before .before .before .before .before .before .before .before .take-out .ensures) (c .before .before .before .before .before .before .before .before .before .before .before .put-byte .ensures) (c .before .before .before .before .before .before .before .put-two .ensures) (c .before .before .before .put-labels .ensures))))
+    let start = (c .before .before .before .before .before .before .before .before .before .before .before .before .before .before .before .before .before .before .before .before .before .before) in
+    let out = c .before .before .before .before .before .before .before .before .before .before .before .before .before .before .before .before .before .before .before .take-out in
+    (start .pre .0, (omega arith, (start .pre .1 .1, claim-out _ _ _ _ _ (start .pre .0) (omega (arith, start .pre .1 .0, out .kept .0)) (omega arith) (out .ensures) (c .before .before .before .before .before .before .before .before .before .before .before .before .before .before .before .put-byte .ensures) (c .before .before .before .before .before .before .before .before .before .before .before .put-two .ensures) (c .before .before .before .before .before .before .before .empty-record .ensures) (c .before .before .before .write-at .ensures))))
 
 same-length : tie.Need-same-length
 same-length c = search needs
@@ -45,8 +55,9 @@ same-length c = search needs
 returns : tie.Need-returns
 unfolding noLabels
 returns c =
-    let start = c .before .before .before .before .before .before .before .before .before .before .before .before .before .before .before .before .before .before .before .before .before in
-    claim-way _ _ _ _ _ (start .pre .0) (omega (arith, start .pre .1 .0, c .before .before .before .before .before .before .before .before .before .before .before .before .before .before .before .before .before .before .take-out .kept .0)) (omega arith) (c .before .before .before .before .before .before .before .before .before .before .before .before .before .before .before .before .before .before .take-out .ensures) (c .before .before .before .before .before .before .before .before .before .before .before .before .before .before .put-byte .ensures) (c .before .before .before .before .before .before .before .before .before .before .put-two .ensures) (c .before .before .before .before .before .before .put-labels .ensures) _ _ (c .before .before .put-in .ensures)
+    let start = (c .before .before .before .before .before .before .before .before .before .before .before .before .before .before .before .before .before .before .before .before .before .before .before .before .before) in
+    let out = c .before .before .before .before .before .before .before .before .before .before .before .before .before .before .before .before .before .before .before .before .before .before .take-out in
+    claim-way _ _ _ _ _ (start .pre .0) (omega (arith, start .pre .1 .0, out .kept .0)) (omega arith) (out .ensures) (c .before .before .before .before .before .before .before .before .before .before .before .before .before .before .before .before .before .before .put-byte .ensures) (c .before .before .before .before .before .before .before .before .before .before .before .before .before .before .put-two .ensures) (c .before .before .before .before .before .before .before .before .before .before .empty-record .ensures) (c .before .before .before .before .before .before .write-at .ensures) _ _ (c .before .before .put-in .ensures)
 
 pub claim-spec : {M : Type 1} → statement M
 claim-spec =
@@ -57,10 +68,13 @@ claim-spec =
     mul-put-two
     add-put-two
     put-two-requires
-    mul-put-labels
-    add-put-labels
-    add-put-labels-2
-    put-labels-requires
+    mul-empty-record
+    add-empty-record
+    empty-record-requires
+    mul-write-at
+    add-write-at
+    add-write-at-2
+    write-at-requires
     put-in-requires
     same-length
     returns)

@@ -6,17 +6,17 @@ use Rattle.cells.proofs.Slots.{mark-way}
 use Rattle.cells.proofs.put_mark.Statement.{statement}
 use Rattle.cells.proofs.put_mark.Tie as tie
 
-mul-put-labels : tie.Need-mul-put-labels
-mul-put-labels c = omega arith
+mul-write-at : tie.Need-mul-write-at
+mul-write-at c = omega arith
 
-add-put-labels : tie.Need-add-put-labels
-add-put-labels c = omega arith
+add-write-at : tie.Need-add-write-at
+add-write-at c = omega arith
 
-add-put-labels-2 : tie.Need-add-put-labels-2
-add-put-labels-2 c = omega arith
+add-write-at-2 : tie.Need-add-write-at-2
+add-write-at-2 c = omega arith
 
-put-labels-requires : tie.Need-put-labels-requires
-put-labels-requires c κs = omega arith
+write-at-requires : tie.Need-write-at-requires
+write-at-requires c κs = omega arith
 
 same-length : tie.Need-same-length
 same-length c = search needs
@@ -28,15 +28,15 @@ words c = record { small0 = omega arith; small1 = omega arith; small2 = omega ar
 returns : tie.Need-returns
 returns c =
     let start = c .before .before .before .before .before in
-    mark-way _ _ _ (start .pre .0) (start .pre .1) (words start) (c .before .before .put-labels .ensures)
+    mark-way _ _ _ (start .pre .0) (start .pre .1) (words start) (c .before .before .write-at .ensures)
 
 pub put-mark-spec : {M : Type 1} → statement M
 put-mark-spec =
     tie.close
     (tie.spec
-    mul-put-labels
-    add-put-labels
-    add-put-labels-2
-    put-labels-requires
+    mul-write-at
+    add-write-at
+    add-write-at-2
+    write-at-requires
     same-length
     returns)

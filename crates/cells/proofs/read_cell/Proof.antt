@@ -19,10 +19,7 @@ returns c = read-none _ _ _ (c .before .before .find .ensures) (c .enum-told .gi
 
 held-at-requires : tie.Need-held-at-requires
 held-at-requires c κs =
-    let start = c .before .before .before .before .before in
-    let found = c .before .before .before .find .ensures in
-    let at = c .before .i .given .1 in
-    (in-slots _ _ _ _ found at, start .pre)
+    in-slots _ _ _ _ (c .before .before .before .find .ensures) (c .before .i .given .1)
 
 mark-at-requires : tie.Need-mark-at-requires
 mark-at-requires c κs =

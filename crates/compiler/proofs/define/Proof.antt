@@ -1,6 +1,5 @@
 -- `define`: the name is taken, or its definition becomes known.
 use Rattle.compiler.proofs.Items.{defines-again, defines}
-use mathlib.Core.Path.{refl}
 use borrow.Author.Needs.{needs}
 use Rattle.compiler.proofs.define.Statement.{statement}
 use Rattle.compiler.proofs.define.Tie as tie
@@ -8,14 +7,14 @@ use Rattle.compiler.proofs.define.Tie as tie
 is-taken-requires : tie.Need-is-taken-requires
 is-taken-requires c κs = search needs
 
-cast-t9 : tie.Need-cast-t9
-cast-t9 c = search needs
+at-requires : tie.Need-at-requires
+at-requires c κs = search needs
 
 same-length : tie.Need-same-length
 same-length c = search needs
 
 returns : tie.Need-returns
-returns c = defines-again _ _ _ _ (c .before .is-taken .ensures) _ refl (c .if1 .taken)
+returns c = defines-again _ _ _ _ (c .before .before .is-taken .ensures) _ (c .at .ensures) (c .before .if1 .taken)
 
 define-requires : tie.Need-define-requires
 define-requires c κs = search needs
@@ -31,7 +30,7 @@ define-spec =
     tie.close
     (tie.spec
     is-taken-requires
-    cast-t9
+    at-requires
     same-length
     returns
     define-requires

@@ -25,11 +25,11 @@ clear-requires c κs = search needs
 clear-rest-requires : tie.Need-clear-rest-requires
 clear-rest-requires c κs = search needs
 
-cast-t26 : tie.Need-cast-t26
-cast-t26 c = omega (arith, run-done (c .before .before .before .before .before .before .before .before .before .before .before .before .before .before .before .run-manifest .ensures .ends) (c .before .before .before .before .before .before .before .before .before .r2 .given .1) .short)
+cast-t25 : tie.Need-cast-t25
+cast-t25 c = omega (arith, run-done (c .before .before .before .before .before .before .before .before .before .before .before .before .before .before .before .run-manifest .ensures .ends) (c .before .before .before .before .before .before .before .before .before .r2 .given .1) .short)
 
-sub-t28 : tie.Need-sub-t28
-sub-t28 c = omega (arith, c .before .before .before .before .before .before .before .before .before .before .before .before .before .before .before .run-manifest .ensures .steps)
+sub-t27 : tie.Need-sub-t27
+sub-t27 c = omega (arith, c .before .before .before .before .before .before .before .before .before .before .before .before .before .before .before .run-manifest .ensures .steps)
 
 same-length : tie.Need-same-length
 same-length c = search needs
@@ -59,8 +59,8 @@ run-checked-spec =
     enum-known-r-2
     clear-requires
     clear-rest-requires
-    cast-t26
-    sub-t28
+    cast-t25
+    sub-t27
     same-length
     same-length-2
     returns

@@ -1,4 +1,7 @@
 -- `run_item`: a node passed over, the node that runs, a definition, a statement.
+use Rattle.rules.specs.Run.{topContext, nodeContext}
+use Rattle.cells.specs.Scopes.{scopeOf}
+use Rattle.cells.specs.Memory.{baseFor}
 use Rattle.labels.specs.Sets.{noLabels}
 use Rattle.compiler.proofs.Items.{passes-over, runs-node, stands-statement, runs-statement, is-definition, runs-definition}
 use borrow.Author.Needs.{needs}
@@ -33,7 +36,7 @@ same-length-2 : tie.Need-same-length-2
 same-length-2 c = search needs
 
 returns-2 : tie.Need-returns-2
-unfolding noLabels
+unfolding noLabels nodeContext scopeOf baseFor
 returns-2 c = runs-node _ _ _ _ _ _ _ (c .before .before .before .before .before .before .before .before .before .before .before .before .before .before .before .before .pre .0) (c .before .before .before .before .before .before .before .before .before .before .before .before .before .before .before .before .pre .1) (c .before .before .before .before .before .before .before .before .before .before .before .before .byte-at .ensures) _ _ (c .before .before .before .before .before .before .before .before .before .before .before .match .keys1) (c .before .before .before .before .before .before .before .before .before .before .is-chosen .ensures) (c .before .before .before .before .before .before .before .before .before .if1 .left) (c .before .before .before .before .before .before .before .before .node-block .ensures) (c .before .before .before .before .run-block .ensures)
 
 same-length-3 : tie.Need-same-length-3
@@ -49,7 +52,7 @@ same-length-5 : tie.Need-same-length-5
 same-length-5 c = search needs
 
 returns-4 : tie.Need-returns-4
-unfolding noLabels
+unfolding noLabels topContext scopeOf baseFor
 returns-4 c = runs-statement _ _ _ _ _ _ _ (c .before .before .before .before .before .before .before .before .before .before .before .before .before .pre .0) (c .before .before .before .before .before .before .before .before .before .before .before .before .before .pre .1) (c .before .before .before .before .before .before .before .before .before .byte-at .ensures) _ _ (c .before .before .before .before .before .before .before .before .match .rest .0 .1) (c .before .before .before .before .before .before .before .before .match .rest .1) (c .before .before .before .before .run-statement .ensures)
 
 pub run-item-spec : {M : Type 1} → statement M

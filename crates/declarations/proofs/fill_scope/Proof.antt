@@ -21,7 +21,7 @@ same-length : tie.Need-same-length
 same-length c = search needs
 
 returns : tie.Need-returns
-returns c = fill-stopped (c .before .before .before .before .before .store-title .ensures) _ _ (c .before .t .given .1)
+returns c = fill-stopped (c .before .before .before .before .before .store-title .ensures) _ (c .before .t .given .1)
 
 same-length-2 : tie.Need-same-length-2
 same-length-2 c = search needs

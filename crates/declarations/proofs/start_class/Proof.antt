@@ -16,7 +16,7 @@ class-base-requires : tie.Need-class-base-requires
 class-base-requires c κs = let pre = c .before .before .before .before .before .pre in ((pre .0 .memory, class-place (pre .0) (pre .1)), parent-small (pre .0 .strings) (pre .1))
 
 parent-scope-requires : tie.Need-parent-scope-requires
-parent-scope-requires c κs = let pre = c .before .before .before .before .before .before .before .pre in (class-place (pre .0) (pre .1), parent-small (pre .0 .strings) (pre .1))
+parent-scope-requires c κs = let pre = c .before .before .before .before .before .before .pre in (class-place (pre .0) (pre .1), parent-small (pre .0 .strings) (pre .1))
 
 declare-class-requires : tie.Need-declare-class-requires
 declare-class-requires c κs = let pre = c .before .before .before .before .before .before .before .before .pre in (pre .0 .memory, omega (arith, c .before .before .before .before .two-at .ensures, class-small (pre .0 .strings) (pre .1)))
@@ -27,13 +27,13 @@ first-parameter-requires c κs = let pre = c .before .before .before .before .be
 end-of-parameters-requires : tie.Need-end-of-parameters-requires
 end-of-parameters-requires c κs = let pre = c .before .before .before .before .before .before .before .before .before .before .before .before .pre in (pre .0 .manifest, class-start (pre .0) (pre .1) (c .first-parameter .ensures))
 
-add-store-parameters : tie.Need-add-store-parameters
-add-store-parameters c = let pre = c .before .before .before .before .before .before .before .before .before .before .before .before .before .before .pre in omega (arith, c .before .before .before .before .before .before .before .before .before .before .two-at .ensures, class-small (pre .0 .strings) (pre .1))
+add-number : tie.Need-add-number
+add-number c = let pre = c .before .before .before .before .before .before .before .before .before .before .before .before .before .pre in omega (arith, c .before .before .before .before .before .before .before .before .before .two-at .ensures, class-small (pre .0 .strings) (pre .1))
 
 store-parameters-requires : tie.Need-store-parameters-requires
 store-parameters-requires c κs =
-    let pre = c .before .before .before .before .before .before .before .before .before .before .before .before .before .before .pre in
-    let parts = class-parts (pre .0) (pre .1) (c .before .before .first-parameter .ensures) (c .before .end-of-parameters .ensures) in
+    let pre = c .before .before .before .before .before .before .before .before .before .before .before .before .before .before .before .pre in
+    let parts = class-parts (pre .0) (pre .1) (c .before .before .before .first-parameter .ensures) (c .before .before .end-of-parameters .ensures) in
     ((block-place (pre .0) parts, (omega (arith, pre .0 .memory), pre .0 .manifest)), (parts .laid .parameters, parts .laid .small))
 
 enum-known-r : tie.Need-enum-known-r
@@ -47,18 +47,18 @@ same-length c = search needs
 
 returns : tie.Need-returns
 returns c =
-    let pre = c .before .before .before .before .before .before .before .before .before .before .before .before .before .before .before .before .before .before .before .before .pre in
-    let parts = class-parts (pre .0) (pre .1) (c .before .before .before .before .before .before .before .before .first-parameter .ensures) (c .before .before .before .before .before .before .before .end-of-parameters .ensures) in
-    class-stopped _ _ _ _ _ _ _ _ (c .before .before .before .before .before .before .before .before .before .before .before .before .before .before .before .before .two-at .ensures) (class-small (pre .0 .strings) (pre .1)) (c .before .before .before .before .before .before .before .before .before .before .before .before .parent-scope .ensures) (c .before .before .before .before .before .before .before .before .before .before .before .before .before .before .class-base .ensures) (c .before .before .before .before .before .before .before .before .before .before .before .declare-class .ensures) (c .before .before .before .before .before .before .before .before .first-parameter .ensures) parts (c .before .before .before .before .before .store-parameters .ensures) _ _ (c .before .r .given .1)
+    let pre = c .before .before .before .before .before .before .before .before .before .before .before .before .before .before .before .before .before .before .before .before .before .pre in
+    let parts = class-parts (pre .0) (pre .1) (c .before .before .before .before .before .before .before .before .before .first-parameter .ensures) (c .before .before .before .before .before .before .before .before .end-of-parameters .ensures) in
+    class-stopped _ _ _ _ _ _ _ (c .before .before .before .before .before .before .before .before .before .before .before .before .before .before .before .before .before .two-at .ensures) (class-small (pre .0 .strings) (pre .1)) (c .before .before .before .before .before .before .before .before .before .before .before .before .before .before .parent-scope .ensures) (c .before .before .before .before .before .before .before .before .before .before .before .before .before .before .before .class-base .ensures) (c .before .before .before .before .before .before .before .before .before .before .before .before .declare-class .ensures) (c .before .before .before .before .before .before .before .before .before .first-parameter .ensures) parts (c .before .before .before .before .before .store-parameters .ensures) _ (c .before .r .given .1)
 
 same-length-2 : tie.Need-same-length-2
 same-length-2 c = search needs
 
 returns-2 : tie.Need-returns-2
 returns-2 c =
-    let pre = c .before .before .before .before .before .before .before .before .before .before .before .before .before .before .before .before .before .before .before .pre in
-    let parts = class-parts (pre .0) (pre .1) (c .before .before .before .before .before .before .before .first-parameter .ensures) (c .before .before .before .before .before .before .end-of-parameters .ensures) in
-    class-started _ _ _ _ _ _ _ _ (c .before .before .before .before .before .before .before .before .before .before .before .before .before .before .before .two-at .ensures) (class-small (pre .0 .strings) (pre .1)) (c .before .before .before .before .before .before .before .before .before .before .before .parent-scope .ensures) (c .before .before .before .before .before .before .before .before .before .before .before .before .before .class-base .ensures) (c .before .before .before .before .before .before .before .before .before .before .declare-class .ensures) (c .before .before .before .before .before .before .before .first-parameter .ensures) parts (c .before .before .before .before .store-parameters .ensures) (c .enum-told .given .1)
+    let pre = c .before .before .before .before .before .before .before .before .before .before .before .before .before .before .before .before .before .before .before .before .pre in
+    let parts = class-parts (pre .0) (pre .1) (c .before .before .before .before .before .before .before .before .first-parameter .ensures) (c .before .before .before .before .before .before .before .end-of-parameters .ensures) in
+    class-started _ _ _ _ _ _ _ (c .before .before .before .before .before .before .before .before .before .before .before .before .before .before .before .before .two-at .ensures) (class-small (pre .0 .strings) (pre .1)) (c .before .before .before .before .before .before .before .before .before .before .before .before .before .parent-scope .ensures) (c .before .before .before .before .before .before .before .before .before .before .before .before .before .before .class-base .ensures) (c .before .before .before .before .before .before .before .before .before .before .before .declare-class .ensures) (c .before .before .before .before .before .before .before .before .first-parameter .ensures) parts (c .before .before .before .before .store-parameters .ensures) (c .enum-told .given .1)
 
 pub start-class-spec : {M : Type 1} → statement M
 start-class-spec =
@@ -71,7 +71,7 @@ start-class-spec =
     declare-class-requires
     first-parameter-requires
     end-of-parameters-requires
-    add-store-parameters
+    add-number
     store-parameters-requires
     enum-known-r
     enum-told

@@ -20,20 +20,20 @@ enum-known-found c = search needs
 enum-told : tie.Need-enum-told
 enum-told c = search needs
 
-cast-t25 : tie.Need-cast-t25
-cast-t25 c = search needs
+at-requires : tie.Need-at-requires
+at-requires c κs = search needs
 
 same-length : tie.Need-same-length
 same-length c = search needs
 
 returns : tie.Need-returns
-returns c = type-unknown _ _ _ _ _ _ _ _ _ (c .before .before .before .two-at .ensures) (c .before .before .find-definition .ensures) (c .enum-told .given .1)
+returns c = type-unknown _ _ _ _ _ _ _ _ (c .before .before .before .before .two-at .ensures) (c .before .before .before .find-definition .ensures) (c .before .enum-told .given .1) (c .at .ensures)
 
-cast-from : tie.Need-cast-from
-cast-from c = search needs
+cast-first : tie.Need-cast-first
+cast-first c = search needs
 
-add-from : tie.Need-add-from
-add-from c = search needs
+add-first : tie.Need-add-first
+add-first c = search needs
 
 end-of-parameters-requires : tie.Need-end-of-parameters-requires
 end-of-parameters-requires c κs =
@@ -56,13 +56,10 @@ returns-2 : tie.Need-returns-2
 returns-2 c =
     let pre = c .before .before .before .before .before .before .before .before .before .before .before .before .before .before .pre in
     let found = found-at (pre .0) (c .before .before .before .before .before .before .before .before .find-definition .ensures) (c .before .before .before .before .before .before .found .given .1) in
-    type-unchecked _ _ _ _ _ _ _ _ _ (c .before .before .before .before .before .before .before .before .before .two-at .ensures) found (type-parts (pre .0) found (c .before .before .before .before .end-of-parameters .ensures)) (c .before .before .before .check-parameters .ensures) _ _ (c .before .c .given .1)
+    type-unchecked _ _ _ _ _ _ _ _ (c .before .before .before .before .before .before .before .before .before .two-at .ensures) found (type-parts (pre .0) found (c .before .before .before .before .end-of-parameters .ensures)) (c .before .before .before .check-parameters .ensures) _ (c .before .c .given .1)
 
 enum-told-2 : tie.Need-enum-told-2
 enum-told-2 c = search needs
-
-add-fill-scope : tie.Need-add-fill-scope
-add-fill-scope c = search needs
 
 fill-scope-requires : tie.Need-fill-scope-requires
 fill-scope-requires c κs =
@@ -84,7 +81,7 @@ returns-3 : tie.Need-returns-3
 returns-3 c =
     let pre = c .before .before .before .before .before .before .before .before .before .before .before .before .before .before .before .before .before .before .before .before .pre in
     let found = found-at (pre .0) (c .before .before .before .before .before .before .before .before .before .before .before .before .before .before .find-definition .ensures) (c .before .before .before .before .before .before .before .before .before .before .before .before .found .given .1) in
-    type-unfilled _ _ _ _ _ _ _ _ _ (c .before .before .before .before .before .before .before .before .before .before .before .before .before .before .before .two-at .ensures) found (type-parts (pre .0) found (c .before .before .before .before .before .before .before .before .before .before .end-of-parameters .ensures)) (c .before .before .before .before .before .before .before .before .before .check-parameters .ensures) (c .before .before .before .before .before .before .before .enum-told2 .given .1) (c .before .before .before .before .before .fill-scope .ensures) _ _ (c .before .r .given .1)
+    type-unfilled _ _ _ _ _ _ _ _ (c .before .before .before .before .before .before .before .before .before .before .before .before .before .before .before .two-at .ensures) found (type-parts (pre .0) found (c .before .before .before .before .before .before .before .before .before .before .end-of-parameters .ensures)) (c .before .before .before .before .before .before .before .before .before .check-parameters .ensures) (c .before .before .before .before .before .before .before .enum-told2 .given .1) (c .before .before .before .before .before .fill-scope .ensures) _ (c .before .r .given .1)
 
 same-length-4 : tie.Need-same-length-4
 same-length-4 c = search needs
@@ -93,7 +90,7 @@ returns-4 : tie.Need-returns-4
 returns-4 c =
     let pre = c .before .before .before .before .before .before .before .before .before .before .before .before .before .before .before .before .before .before .before .pre in
     let found = found-at (pre .0) (c .before .before .before .before .before .before .before .before .before .before .before .before .before .find-definition .ensures) (c .before .before .before .before .before .before .before .before .before .before .before .found .given .1) in
-    type-filled _ _ _ _ _ _ _ _ _ (c .before .before .before .before .before .before .before .before .before .before .before .before .before .before .two-at .ensures) found (type-parts (pre .0) found (c .before .before .before .before .before .before .before .before .before .end-of-parameters .ensures)) (c .before .before .before .before .before .before .before .before .check-parameters .ensures) (c .before .before .before .before .before .before .enum-told2 .given .1) (c .before .before .before .before .fill-scope .ensures) (c .enum-told3 .given .1)
+    type-filled _ _ _ _ _ _ _ _ (c .before .before .before .before .before .before .before .before .before .before .before .before .before .before .two-at .ensures) found (type-parts (pre .0) found (c .before .before .before .before .before .before .before .before .before .end-of-parameters .ensures)) (c .before .before .before .before .before .before .before .before .check-parameters .ensures) (c .before .before .before .before .before .before .enum-told2 .given .1) (c .before .before .before .before .fill-scope .ensures) (c .enum-told3 .given .1)
 
 pub start-type-spec : {M : Type 1} → statement M
 start-type-spec =
@@ -104,18 +101,17 @@ start-type-spec =
     find-definition-requires
     enum-known-found
     enum-told
-    cast-t25
+    at-requires
     same-length
     returns
-    cast-from
-    add-from
+    cast-first
+    add-first
     end-of-parameters-requires
     check-parameters-requires
     enum-known-c
     same-length-2
     returns-2
     enum-told-2
-    add-fill-scope
     fill-scope-requires
     enum-known-r
     enum-told-3

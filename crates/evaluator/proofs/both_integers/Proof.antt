@@ -1,4 +1,5 @@
 -- `both_integers`: the left value is no integer, the right one is none, a comparison, or arithmetic.
+use Rattle.evaluator.proofs.Outcomes.{refusal-is}
 use mir.Syntax.{w64}
 use mir.ValLaws.{toZ-ofZ}
 use Rattle.evaluator.proofs.Operators.{left-unlike, right-unlike, both-greater, both-computed}
@@ -11,20 +12,20 @@ use Rattle.evaluator.proofs.both_integers.Tie as tie
 enum-known-x : tie.Need-enum-known-x
 enum-known-x c = c .match .keys1
 
-refusal-requires : tie.Need-refusal-requires
-refusal-requires c κs = search needs
+at-requires : tie.Need-at-requires
+at-requires c κs = search needs
 
 returns : tie.Need-returns
-returns c = left-unlike _ _ _ _ _ (λ e. ⊎-elim (λ p. omega arith) (λ p. omega arith) (c .before .match .keys2)) (c .refusal .ensures)
+returns c = left-unlike _ _ _ _ _ (λ e. ⊎-elim (λ p. omega arith) (λ p. omega arith) (c .before .match .keys2)) (refusal-is (c .at .ensures))
 
 enum-known-y : tie.Need-enum-known-y
 enum-known-y c = c .match2 .keys1
 
-refusal-requires-2 : tie.Need-refusal-requires-2
-refusal-requires-2 c κs = search needs
+at-requires-2 : tie.Need-at-requires-2
+at-requires-2 c κs = search needs
 
 returns-2 : tie.Need-returns-2
-returns-2 c = right-unlike _ _ _ _ _ (c .before .before .before .x .given .1) (λ e. ⊎-elim (λ p. omega arith) (λ p. omega arith) (c .before .match2 .keys2)) (c .refusal2 .ensures)
+returns-2 c = right-unlike _ _ _ _ _ (c .before .before .before .x .given .1) (λ e. ⊎-elim (λ p. omega arith) (λ p. omega arith) (c .before .match2 .keys2)) (refusal-is (c .at2 .ensures))
 
 is-greater-requires : tie.Need-is-greater-requires
 is-greater-requires c κs = tt
@@ -49,10 +50,10 @@ both-integers-spec =
     tie.close
     (tie.spec
     enum-known-x
-    refusal-requires
+    at-requires
     returns
     enum-known-y
-    refusal-requires-2
+    at-requires-2
     returns-2
     is-greater-requires
     plain-value-requires

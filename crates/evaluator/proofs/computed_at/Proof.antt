@@ -1,4 +1,5 @@
 -- `computed_at`: by what the operation answered.
+use Rattle.evaluator.proofs.Outcomes.{refusal-is}
 use mir.Syntax.{w64}
 use mir.ValLaws.{toZ-ofZ}
 use Rattle.evaluator.proofs.Operators.{computed-whole, computed-large, computed-by-zero}
@@ -15,23 +16,23 @@ plain-value-requires c κs = tt
 enum-told : tie.Need-enum-told
 enum-told c = c .match .keys2
 
-refusal-requires : tie.Need-refusal-requires
-refusal-requires c κs = search needs
+at-requires : tie.Need-at-requires
+at-requires c κs = search needs
 
 enum-told-2 : tie.Need-enum-told-2
 enum-told-2 c = c .match .keys3
 
-refusal-requires-2 : tie.Need-refusal-requires-2
-refusal-requires-2 c κs = search needs
+at-requires-2 : tie.Need-at-requires-2
+at-requires-2 c κs = search needs
 
 returns : tie.Need-returns
 returns c = computed-whole _ (c .before .before .c .given .1) (toZ-ofZ w64 _ (record { sfits = c .before .known-told .given .0 .1 })) (c .plain-value .ensures)
 
 returns-2 : tie.Need-returns-2
-returns-2 c = computed-large _ (c .before .enum-told .given .1) (c .refusal .ensures)
+returns-2 c = computed-large _ (c .before .enum-told .given .1) (refusal-is (c .at .ensures))
 
 returns-3 : tie.Need-returns-3
-returns-3 c = computed-by-zero _ (c .before .enum-told2 .given .1) (c .refusal2 .ensures)
+returns-3 c = computed-by-zero _ (c .before .enum-told2 .given .1) (refusal-is (c .at2 .ensures))
 
 pub computed-at-spec : {M : Type 1} → statement M
 computed-at-spec =
@@ -40,9 +41,9 @@ computed-at-spec =
     enum-known-c
     plain-value-requires
     enum-told
-    refusal-requires
+    at-requires
     enum-told-2
-    refusal-requires-2
+    at-requires-2
     returns
     returns-2
     returns-3)

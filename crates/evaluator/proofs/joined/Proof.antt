@@ -9,14 +9,14 @@ enum-known-e c = c .match .keys1
 enum-known-e-2 : tie.Need-enum-known-e-2
 enum-known-e-2 c = c .match .keys2
 
-union-requires : tie.Need-union-requires
-union-requires c κs = tt
+under-requires : tie.Need-under-requires
+under-requires c κs = tt
 
 returns : tie.Need-returns
 returns c = answer-kept _ (c .before .e .given .1)
 
 returns-2 : tie.Need-returns-2
-returns-2 c = answer-joined _ _ (c .before .before .before .e2 .given .1) (c .union .ensures)
+returns-2 c = answer-joined _ _ (c .before .before .e2 .given .1) (c .under .ensures)
 
 pub joined-spec : {M : Type 1} → statement M
-joined-spec = tie.close (tie.spec enum-known-e enum-known-e-2 union-requires returns returns-2)
+joined-spec = tie.close (tie.spec enum-known-e enum-known-e-2 under-requires returns returns-2)

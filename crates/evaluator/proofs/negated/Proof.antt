@@ -1,4 +1,5 @@
 -- `negated`: no boolean, or its opposite.
+use Rattle.evaluator.proofs.Outcomes.{refusal-is}
 use Rattle.evaluator.proofs.Operators.{negates-unlike, negates}
 use mathlib.Core.Logic.{⊎-elim}
 use native.Mathlib.Omega.{arith}
@@ -9,11 +10,11 @@ use Rattle.evaluator.proofs.negated.Tie as tie
 enum-known-x : tie.Need-enum-known-x
 enum-known-x c = c .match .keys1
 
-refusal-requires : tie.Need-refusal-requires
-refusal-requires c κs = search needs
+at-requires : tie.Need-at-requires
+at-requires c κs = search needs
 
 returns : tie.Need-returns
-returns c = negates-unlike _ _ (λ e. ⊎-elim (λ p. omega arith) (λ p. omega arith) (c .before .match .keys2)) (c .refusal .ensures)
+returns c = negates-unlike _ _ (λ e. ⊎-elim (λ p. omega arith) (λ p. omega arith) (c .before .match .keys2)) (refusal-is (c .at .ensures))
 
 plain-value-requires : tie.Need-plain-value-requires
 plain-value-requires c κs = tt
@@ -23,4 +24,4 @@ returns-2 c = negates _ _ (c .before .before .x .given .1) (c .plain-value .ensu
 
 pub negated-spec : {M : Type 1} → statement M
 negated-spec =
-    tie.close (tie.spec enum-known-x refusal-requires returns plain-value-requires returns-2)
+    tie.close (tie.spec enum-known-x at-requires returns plain-value-requires returns-2)

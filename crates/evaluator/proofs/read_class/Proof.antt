@@ -1,4 +1,5 @@
 -- `read_class`: no class of that name, or its cell.
+use Rattle.evaluator.proofs.Outcomes.{refusal-is}
 use Rattle.evaluator.proofs.Reading.{class-unknown, class-cell, was-true}
 use Rattle.cells.specs.Memory.{baseFor}
 use Rattle.rules.specs.State.{topBase}
@@ -10,14 +11,14 @@ use Rattle.evaluator.proofs.read_class.Tie as tie
 is-class-requires : tie.Need-is-class-requires
 is-class-requires c κs = search needs
 
-refusal-requires : tie.Need-refusal-requires
-refusal-requires c κs = search needs
+at-requires : tie.Need-at-requires
+at-requires c κs = search needs
 
 returns : tie.Need-returns
-returns c = class-unknown _ _ _ _ _ (c .before .before .is-class .ensures .0) (c .before .if1 .taken) (c .refusal .ensures)
+returns c = class-unknown _ _ _ _ _ (c .before .before .is-class .ensures .0) (c .before .if1 .taken) (refusal-is (c .at .ensures))
 
-add-read-up : tie.Need-add-read-up
-add-read-up c = omega (arith, c .before .is-class .ensures .1 (was-true _ (c .if1 .left)))
+add-number : tie.Need-add-number
+add-number c = omega (arith, c .before .is-class .ensures .1 (was-true _ (c .if1 .left)))
 
 read-up-requires : tie.Need-read-up-requires
 read-up-requires c κs = search needs
@@ -29,4 +30,4 @@ returns-2 c = class-cell _ _ _ _ _ (c .before .before .is-class .ensures .0) top
 pub read-class-spec : {M : Type 1} → statement M
 read-class-spec =
     tie.close
-    (tie.spec is-class-requires refusal-requires returns add-read-up read-up-requires returns-2)
+    (tie.spec is-class-requires at-requires returns add-number read-up-requires returns-2)

@@ -1,4 +1,5 @@
 -- `read_up`: the loop keeps this: the marks joined so far, joined to what the scopes from here on give, is what all give. It ends since `left` falls.
+use Rattle.evaluator.proofs.Outcomes.{refusal-is}
 use Rattle.evaluator.proofs.Reading.{read-here, read-end, read-on, read-out, read-begin}
 use Rattle.cells.specs.Memory.{cellsOf, classesOf, baseFor}
 use Rattle.cells.specs.Scopes.{scopeOf}
@@ -12,10 +13,10 @@ use Rattle.evaluator.proofs.read_up.Statement.{statement}
 use Rattle.evaluator.proofs.read_up.Tie as tie
 
 abbrev Inv-loop : tie.InvT-loop
-Inv-loop work p scope name base-is-node tries marks₀ at₀ left₀ marks at left = joining marks (readIn p (cellsOf work) name (upward left (classesOf work) (baseFor base-is-node) (scopeOf at))) ≡ readIn p (cellsOf work) name (upward tries (classesOf work) (baseFor base-is-node) (scopeOf scope))
+Inv-loop work p scope name tries marks₀ at₀ left₀ marks at left = joining marks (readIn p (cellsOf work) name (upward left (classesOf work) (baseFor (scope .«base_is_node»)) (scopeOf at))) ≡ readIn p (cellsOf work) name (upward tries (classesOf work) (baseFor (scope .«base_is_node»)) (scopeOf (scope .number)))
 
 abbrev μ-loop : tie.MeasureT-loop
-μ-loop work p scope name base-is-node tries marks₀ at₀ left₀ marks at left = left
+μ-loop work p scope name tries marks₀ at₀ left₀ marks at left = left
 
 loop-holds : tie.Need-loop-holds Inv-loop μ-loop
 unfolding noLabels
@@ -48,11 +49,11 @@ enum-known-q c = c .match2 .keys1
 enum-told-2 : tie.Need-enum-told-2 Inv-loop μ-loop
 enum-told-2 c = c .match2 .keys2
 
-refusal-requires : tie.Need-refusal-requires Inv-loop μ-loop
-refusal-requires c κs = c .before .before .before .before .before .before .before .before .before .before .before .pre .1
+at-requires : tie.Need-at-requires Inv-loop μ-loop
+at-requires c κs = c .before .before .before .before .before .before .before .before .before .before .before .pre .1
 
 returns-2 : tie.Need-returns-2 Inv-loop μ-loop
-returns-2 c = read-end _ _ _ _ _ _ _ _ (c .before .before .before .before .before .before .before .before .before .before .loop .inv) (c .before .before .before .before .before .before .before .before .before .loop-test .taken) (c .before .before .before .before .before .before .before .before .read-cell .ensures) (c .before .before .before .before .before .before .union .ensures) (c .before .before .before .before .enum-told .given .1) (c .before .before .before .parent-of .ensures) (c .before .enum-told2 .given .1) (c .refusal .ensures)
+returns-2 c = read-end _ _ _ _ _ _ _ _ (c .before .before .before .before .before .before .before .before .before .before .loop .inv) (c .before .before .before .before .before .before .before .before .before .loop-test .taken) (c .before .before .before .before .before .before .before .before .read-cell .ensures) (c .before .before .before .before .before .before .union .ensures) (c .before .before .before .before .enum-told .given .1) (c .before .before .before .parent-of .ensures) (c .before .enum-told2 .given .1) (refusal-is (c .at .ensures))
 
 sub-left : tie.Need-sub-left Inv-loop μ-loop
 sub-left c = omega (arith, c .before .before .before .before .before .before .before .before .before .loop-test .taken)
@@ -63,11 +64,11 @@ loop-less c = omega (arith, c .before .before .before .before .before .before .b
 loop-again : tie.Need-loop-again Inv-loop μ-loop
 loop-again c = read-on _ _ _ _ _ _ _ _ (c .before .before .before .before .before .before .before .before .before .before .loop .inv) (c .before .before .before .before .before .before .before .before .before .loop-test .taken) (c .before .before .before .before .before .before .before .before .read-cell .ensures) (c .before .before .before .before .before .before .union .ensures) (c .before .before .before .before .enum-told .given .1) (c .before .before .before .parent-of .ensures) (c .before .q .given .1)
 
-refusal-requires-2 : tie.Need-refusal-requires-2 Inv-loop μ-loop
-refusal-requires-2 c κs = c .before .before .before .pre .1
+at-requires-2 : tie.Need-at-requires-2 Inv-loop μ-loop
+at-requires-2 c κs = c .before .before .before .pre .1
 
 returns-3 : tie.Need-returns-3 Inv-loop μ-loop
-returns-3 c = read-out _ _ _ _ _ _ _ _ (c .before .before .loop .inv) (omega (arith, c .before .loop-test .left)) (c .refusal2 .ensures)
+returns-3 c = read-out _ _ _ _ _ _ _ _ (c .before .before .loop .inv) (omega (arith, c .before .loop-test .left)) (refusal-is (c .at2 .ensures))
 
 pub read-up-spec : {M : Type 1} → statement M
 read-up-spec =
@@ -85,10 +86,10 @@ read-up-spec =
     parent-of-requires
     enum-known-q
     enum-told-2
-    refusal-requires
+    at-requires
     returns-2
     sub-left
     loop-less
     loop-again
-    refusal-requires-2
+    at-requires-2
     returns-3)

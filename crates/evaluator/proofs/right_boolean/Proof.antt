@@ -1,4 +1,5 @@
 -- `right_boolean`: no boolean, or the value itself.
+use Rattle.evaluator.proofs.Outcomes.{refusal-is}
 use Rattle.evaluator.proofs.Operators.{boolean-unlike, boolean-right}
 use mathlib.Core.Logic.{⊎-elim}
 use native.Mathlib.Omega.{arith}
@@ -9,11 +10,11 @@ use Rattle.evaluator.proofs.right_boolean.Tie as tie
 enum-told : tie.Need-enum-told
 enum-told c = c .match .keys1
 
-refusal-requires : tie.Need-refusal-requires
-refusal-requires c κs = search needs
+at-requires : tie.Need-at-requires
+at-requires c κs = search needs
 
 returns : tie.Need-returns
-returns c = boolean-unlike _ _ (λ e. ⊎-elim (λ p. omega arith) (λ p. omega arith) (c .before .match .keys2)) (c .refusal .ensures)
+returns c = boolean-unlike _ _ (λ e. ⊎-elim (λ p. omega arith) (λ p. omega arith) (c .before .match .keys2)) (refusal-is (c .at .ensures))
 
 plain-value-requires : tie.Need-plain-value-requires
 plain-value-requires c κs = tt
@@ -23,4 +24,4 @@ returns-2 c = boolean-right _ _ (c .before .before .match .keys1) (c .plain-valu
 
 pub right-boolean-spec : {M : Type 1} → statement M
 right-boolean-spec =
-    tie.close (tie.spec enum-told refusal-requires returns plain-value-requires returns-2)
+    tie.close (tie.spec enum-told at-requires returns plain-value-requires returns-2)

@@ -21,7 +21,7 @@ same-length : tie.Need-same-length
 same-length c = search needs
 
 returns : tie.Need-returns
-returns c = λ n levels. assignment-refused _ _ _ (c .before .before .before .before .before .assign .ensures) n levels _ _ (c .before .r .given .1)
+returns c = λ n levels. assignment-refused _ _ _ (c .before .before .before .before .before .assign .ensures) n levels _ (c .before .r .given .1)
 
 same-length-2 : tie.Need-same-length-2
 same-length-2 c = search needs

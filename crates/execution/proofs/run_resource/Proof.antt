@@ -20,9 +20,6 @@ built-in-requires : tie.Need-built-in-requires
 unfolding formOf formIn forms
 built-in-requires c κs = (c .before .before .before .before .pre .0 .0 .set .memory, let small = name-small (c .before .before .before .before .pre .0 .1 .0 .stands) (c .before .before .before .before .pre .1) refl (c .before .before .before .before .pre .0 .0 .set .strings) (c .before .before .before .before .pre .0 .1 .1) in omega (arith, c .two-at .ensures))
 
-trail-requires : tie.Need-trail-requires
-trail-requires c κs = search needs
-
 room-in-requires : tie.Need-room-in-requires
 room-in-requires c κs = search needs
 
@@ -30,13 +27,13 @@ sub-room : tie.Need-sub-room
 sub-room c = search needs
 
 add-resource-requires : tie.Need-add-resource-requires
-add-resource-requires c κs = (sized (c .before .before .before .before .before .before .before .before .pre .0 .0) (c .before .before .before .before .before .before .before .before .pre .0 .1 .0), (omega (arith, c .before .room-in .ensures, room-within (length (c .before .before .before .before .before .before .before .before .args .out .now)) .1), omega (arith, c .before .room-in .ensures, room-within (length (c .before .before .before .before .before .before .before .before .args .out .now)) .0)))
+add-resource-requires c κs = (sized (c .before .before .before .before .before .before .before .pre .0 .0) (c .before .before .before .before .before .before .before .pre .0 .1 .0), (omega (arith, c .before .room-in .ensures, room-within (length (c .before .before .before .before .before .before .before .args .out .now)) .1), omega (arith, c .before .room-in .ensures, room-within (length (c .before .before .before .before .before .before .before .args .out .now)) .0)))
 
 same-length : tie.Need-same-length
 same-length c = search needs
 
 returns : tie.Need-returns
-returns c = resource-runs _ (c .before .before .before .before .before .before .before .before .before .before .before .pre .0 .0) (c .before .before .before .before .before .before .before .before .before .before .before .pre .0 .1 .0) (c .before .before .before .before .before .before .before .before .before .before .before .pre .1) (c .before .before .before .before .before .before .before .two-at .ensures) (c .before .before .before .before .before .before .built-in .ensures) (c .before .before .before .before .before .trail .ensures) (ap (λ (r : ℕ). r - c .before .before .before .before .before .before .before .before .before .before .before .args .fill) (c .before .before .before .before .room-in .ensures)) (c .before .before .add-resource .ensures)
+returns c = resource-runs _ (c .before .before .before .before .before .before .before .before .before .before .pre .0 .0) (c .before .before .before .before .before .before .before .before .before .before .pre .0 .1 .0) (c .before .before .before .before .before .before .before .before .before .before .pre .1) (c .before .before .before .before .before .before .two-at .ensures) (c .before .before .before .before .before .built-in .ensures) (ap (λ (r : ℕ). r - c .before .before .before .before .before .before .before .before .before .before .args .fill) (c .before .before .before .before .room-in .ensures)) (c .before .before .add-resource .ensures)
 
 pub run-resource-spec : {M : Type 1} → statement M
 run-resource-spec =
@@ -45,7 +42,6 @@ run-resource-spec =
     add-two-at
     two-at-requires
     built-in-requires
-    trail-requires
     room-in-requires
     sub-room
     add-resource-requires

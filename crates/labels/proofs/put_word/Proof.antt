@@ -5,30 +5,30 @@ use Prim.Native.Nat.{ℕ, suc, _+_, _-_, _%_, _/_, _≤_}
 use native.Mathlib.Nat.{add-zero}
 use native.Mathlib.Omega.{arith}
 use lib.ListN.{length, length-set, set}
-use lib.Seq.{sets}
+use Rattle.wire.specs.Runs.{over}
 use Rattle.labels.specs.Bytes.{lowBytes}
 use Rattle.labels.proofs.put_word.Statement.{statement}
 use Rattle.labels.proofs.put_word.Tie as tie
 
 abbrev Inv-loop : tie.InvT-loop
 Inv-loop out₀ at word left₀ i₀ out left i =
-    (i ≤ 8) × (length out ≡ length out₀) × (sets out (at + i) (lowBytes (8 - i) left) ≡ sets out₀ at (lowBytes 8 word))
+    (i ≤ 8) × (length out ≡ length out₀) × (over out (at + i) (lowBytes (8 - i) left) ≡ over out₀ at (lowBytes 8 word))
 
 abbrev μ-loop : tie.MeasureT-loop
 μ-loop out₀ at word left₀ i₀ out left i = 8 - i
 
 -- one store, in the words of the loop
-store : (m : List ℕ) (at i v : ℕ) → i + 1 ≤ 8 → sets (set m (at + i) (v % 256)) (at + (i + 1)) (lowBytes (8 - (i + 1)) (v / 256)) ≡ sets m (at + i) (lowBytes (8 - i) v)
-unfolding lowBytes
+store : (m : List ℕ) (at i v : ℕ) → i + 1 ≤ 8 → over (set m (at + i) (v % 256)) (at + (i + 1)) (lowBytes (8 - (i + 1)) (v / 256)) ≡ over m (at + i) (lowBytes (8 - i) v)
+unfolding lowBytes over
 store m at i v h =
     let e : at + (i + 1) ≡ suc (at + i) = omega arith in
     let f : 8 - i ≡ suc (8 - (i + 1)) = omega arith in
-    ap (λ (k : ℕ). sets (set m (at + i) (v % 256)) k (lowBytes (8 - (i + 1)) (v / 256))) e
-    ∙ sym (ap (λ (k : ℕ). sets m (at + i) (lowBytes k v)) f)
+    ap (λ (k : ℕ). over (set m (at + i) (v % 256)) k (lowBytes (8 - (i + 1)) (v / 256))) e
+    ∙ sym (ap (λ (k : ℕ). over m (at + i) (lowBytes k v)) f)
 
-done : (m : List ℕ) (at i v : ℕ) → 8 ≤ i → m ≡ sets m (at + i) (lowBytes (8 - i) v)
-unfolding lowBytes
-done m at i v h = let e : 0 ≡ 8 - i = omega arith in ap (λ (k : ℕ). sets m (at + i) (lowBytes k v)) e
+done : (m : List ℕ) (at i v : ℕ) → 8 ≤ i → m ≡ over m (at + i) (lowBytes (8 - i) v)
+unfolding lowBytes over
+done m at i v h = let e : 0 ≡ 8 - i = omega arith in ap (λ (k : ℕ). over m (at + i) (lowBytes k v)) e
 
 loop-holds : tie.Need-loop-holds Inv-loop μ-loop
 loop-holds c = (omega arith, refl, rw add-zero)

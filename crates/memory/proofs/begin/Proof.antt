@@ -7,9 +7,6 @@ use Rattle.memory.proofs.begin.Tie as tie
 clear-requires : tie.Need-clear-requires
 clear-requires c κs = tt
 
-add-clear : tie.Need-add-clear
-add-clear c = search needs
-
 clear-requires-2 : tie.Need-clear-requires-2
 clear-requires-2 c κs = tt
 
@@ -20,4 +17,4 @@ returns : tie.Need-returns
 returns c = begin-way _ _ _ (c .before .before .before .before .before .before .before .before .before .pre) (c .before .before .before .before .before .before .clear .ensures) (c .before .before .clear2 .ensures)
 
 pub begin-spec : {M : Type 1} → statement M
-begin-spec = tie.close (tie.spec clear-requires add-clear clear-requires-2 same-length returns)
+begin-spec = tie.close (tie.spec clear-requires clear-requires-2 same-length returns)

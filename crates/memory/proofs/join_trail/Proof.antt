@@ -11,18 +11,17 @@ trail-requires c κs = omega arith
 union-requires : tie.Need-union-requires
 union-requires c κs = tt
 
-put-labels-requires : tie.Need-put-labels-requires
-put-labels-requires c κs = omega arith
+write-at-requires : tie.Need-write-at-requires
+write-at-requires c κs = omega arith
 
 same-length : tie.Need-same-length
 same-length c = search needs
 
 returns : tie.Need-returns
 returns c =
-    let start = c .before .before .before .before .before .before .before .before in
-    let union = c .before .before .before .union in
-    trail-way _ _ _ (start .pre) (record { small0 = omega (arith, union .ok); small1 = omega (arith, union .ok); small2 = omega (arith, union .ok); small3 = omega (arith, union .ok) }) (c .before .before .before .before .before .trail .ensures) (union .ensures) (c .before .before .put-labels .ensures)
+    let union = c .before .before .before .before .union in
+    trail-way _ _ _ (c .before .before .before .before .before .before .before .before .pre) (record { small0 = omega (arith, union .ok); small1 = omega (arith, union .ok); small2 = omega (arith, union .ok); small3 = omega (arith, union .ok) }) (c .before .before .before .before .before .trail .ensures) (union .ensures) (c .before .before .write-at .ensures)
 
 pub join-trail-spec : {M : Type 1} → statement M
 join-trail-spec =
-    tie.close (tie.spec trail-requires union-requires put-labels-requires same-length returns)
+    tie.close (tie.spec trail-requires union-requires write-at-requires same-length returns)

@@ -11,8 +11,8 @@ value-of-requires c κs = search needs
 enum-told : tie.Need-enum-told
 enum-told c = search needs
 
-refusal-requires : tie.Need-refusal-requires
-refusal-requires c κs = search needs
+at-requires : tie.Need-at-requires
+at-requires c κs = search needs
 
 enum-known-held : tie.Need-enum-known-held
 enum-known-held c = search needs
@@ -41,7 +41,7 @@ store-parameter-spec =
     (tie.spec
     value-of-requires
     enum-told
-    refusal-requires
+    at-requires
     enum-known-held
     add-two-at
     two-at-requires

@@ -9,13 +9,13 @@ use Rattle.parameters.proofs.store_parameters.Statement.{statement}
 use Rattle.parameters.proofs.store_parameters.Tie as tie
 
 abbrev Inv-loop : tie.InvT-loop
-Inv-loop m from to table work₀ scope path q₀ work q = (length work ≡ length work₀) × Storing m table work₀ work from to q scope path
+Inv-loop m table work₀ here to q₀ work q = (length work ≡ length work₀) × Storing m table work₀ work q₀ to q here
 
 abbrev μ-loop : tie.MeasureT-loop
-μ-loop m from to table work₀ scope path q₀ work q = to - q
+μ-loop m table work₀ here to q₀ work q = to - q
 
 loop-holds : tie.Need-loop-holds Inv-loop μ-loop
-loop-holds c = (refl, storing-begins _ _ _ _ _ _ _ (c .before .before .before .pre .1 .1))
+loop-holds c = (refl, storing-begins _ _ _ _ _ _ (c .before .before .before .pre .1 .1))
 
 store-parameter-requires : tie.Need-store-parameter-requires Inv-loop μ-loop
 store-parameter-requires c κs = (omega (arith, c .before .loop-test .taken, c .before .before .before .before .before .before .pre .0 .0), (omega (arith, c .before .before .loop .inv .0, c .before .before .before .before .before .before .pre .0 .1 .0), here-small (c .before .before .loop .inv .1) (c .before .loop-test .taken)))
@@ -27,7 +27,7 @@ same-length : tie.Need-same-length Inv-loop μ-loop
 same-length c = search needs
 
 returns : tie.Need-returns Inv-loop μ-loop
-returns c = store-refused (c .before .before .before .before .before .before .before .before .loop .inv .1) (c .before .before .before .before .before .before .before .loop-test .taken) _ _ (c .before .before .before .before .before .store-parameter .ensures) (c .before .r .given .1)
+returns c = store-refused (c .before .before .before .before .before .before .before .before .loop .inv .1) (c .before .before .before .before .before .before .before .loop-test .taken) _ (c .before .before .before .before .before .store-parameter .ensures) (c .before .r .given .1)
 
 enum-told : tie.Need-enum-told Inv-loop μ-loop
 enum-told c = search needs

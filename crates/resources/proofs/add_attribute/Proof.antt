@@ -34,13 +34,13 @@ same-length : tie.Need-same-length
 same-length c = search needs
 
 returns : tie.Need-returns
-returns c = attribute-stops _ _ _ _ _ _ _ _ _ _ _ (c .before .before .before .before .before .before .before .before .before .pre .0 .manifest) (c .before .before .before .before .before .place .ensures) _ (c .before .before .before .evaluate .ensures) (c .before .e .given .1)
+returns c = attribute-stops _ _ _ _ _ _ _ _ _ _ (c .before .before .before .before .before .before .before .before .before .pre .0 .manifest) (c .before .before .before .before .before .place .ensures) _ (c .before .before .before .evaluate .ensures) (c .before .e .given .1)
 
 same-length-2 : tie.Need-same-length-2
 same-length-2 c = c .before .before .append .ensures .kept .long
 
 returns-2 : tie.Need-returns-2
-returns-2 c = attribute-goes-on _ _ _ _ _ _ _ _ _ _ _ (c .before .before .before .before .before .before .before .before .before .before .before .before .before .before .pre .0 .manifest) (c .before .before .before .before .before .before .before .before .before .before .place .ensures) _ (c .before .before .before .before .before .before .before .before .evaluate .ensures) _ (c .before .before .before .before .before .before .e2 .given .1) (c .before .before .before .before .two-at .ensures) (c .before .before .append .ensures)
+returns-2 c = attribute-goes-on _ _ _ _ _ _ _ _ _ _ (c .before .before .before .before .before .before .before .before .before .before .before .before .before .before .pre .0 .manifest) (c .before .before .before .before .before .before .before .before .before .before .place .ensures) _ (c .before .before .before .before .before .before .before .before .evaluate .ensures) _ (c .before .before .before .before .before .before .e2 .given .1) (c .before .before .before .before .two-at .ensures) (c .before .before .append .ensures)
 
 pub add-attribute-spec : {M : Type 1} → statement M
 add-attribute-spec =

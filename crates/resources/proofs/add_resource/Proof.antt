@@ -1,4 +1,6 @@
 -- `add_resource`: the title is refused, or what follows it runs.
+use mathlib.Core.Path.{ap}
+use Rattle.resources.specs.declared.Filled.the-variants.{Refused}
 use Prim.Native.Nat.{_-_}
 use native.Mathlib.Omega.{arith}
 use Rattle.resources.proofs.Whole.{resource-flat, resource-stops, resource-goes-on}
@@ -6,11 +8,11 @@ use borrow.Author.Needs.{needs}
 use Rattle.resources.proofs.add_resource.Statement.{statement}
 use Rattle.resources.proofs.add_resource.Tie as tie
 
-refusal-requires : tie.Need-refusal-requires
-refusal-requires c κs = search needs
+at-requires : tie.Need-at-requires
+at-requires c κs = search needs
 
 returns : tie.Need-returns
-returns c = resource-flat _ _ _ _ _ _ _ _ _ _ _ _ (c .before .if1 .taken) (c .refusal .ensures)
+returns c = resource-flat _ _ _ _ _ _ _ _ _ (c .before .if1 .taken) (ap Refused (c .at .ensures))
 
 sub-evaluate : tie.Need-sub-evaluate
 sub-evaluate c = search needs
@@ -37,19 +39,19 @@ same-length : tie.Need-same-length
 same-length c = search needs
 
 returns-2 : tie.Need-returns-2
-returns-2 c = resource-stops _ _ _ _ _ _ _ _ _ _ _ _ {b = c .before .before .before .before .before .before .before .before .before .before .args .depth - 1} (omega (arith, c .before .before .before .before .before .before .if1 .left)) (c .before .before .before .before .before .before .before .before .before .before .pre .0 .manifest) (c .before .before .before .before .before .place .ensures) _ (c .before .before .before .evaluate .ensures) (c .before .t .given .1)
+returns-2 c = resource-stops _ _ _ _ _ _ _ _ _ {b = c .before .before .before .before .before .before .before .before .before .before .before .args .depth - 1} (omega (arith, c .before .before .before .before .before .before .before .if1 .left)) (c .before .before .before .before .before .before .before .before .before .before .before .pre .0 .manifest) (c .before .before .before .before .before .place .ensures) _ (c .before .before .before .evaluate .ensures) (c .before .t .given .1)
 
 same-length-2 : tie.Need-same-length-2
 same-length-2 c = search needs
 
 returns-3 : tie.Need-returns-3
-returns-3 c = resource-goes-on _ _ _ _ _ _ _ _ _ _ _ _ {b = c .before .before .before .before .before .before .before .before .before .before .before .before .before .before .args .depth - 1} (omega (arith, c .before .before .before .before .before .before .before .before .before .before .if1 .left)) (c .before .before .before .before .before .before .before .before .before .before .before .before .before .before .pre .0 .manifest) (c .before .before .before .before .before .before .before .before .before .place .ensures) _ (c .before .before .before .before .before .before .before .evaluate .ensures) _ {inner = c .before .before .before .before .before .before .before .before .before .before .before .before .before .before .args .depth - 2} (c .before .before .before .before .before .t2 .given .1) (omega (arith, c .before .before .before .before .before .before .before .before .before .before .if1 .left)) (c .before .before .add-titled .ensures)
+returns-3 c = resource-goes-on _ _ _ _ _ _ _ _ _ {b = c .before .before .before .before .before .before .before .before .before .before .before .before .before .before .before .args .depth - 1} (omega (arith, c .before .before .before .before .before .before .before .before .before .before .before .if1 .left)) (c .before .before .before .before .before .before .before .before .before .before .before .before .before .before .before .pre .0 .manifest) (c .before .before .before .before .before .before .before .before .before .place .ensures) _ (c .before .before .before .before .before .before .before .evaluate .ensures) _ {inner = c .before .before .before .before .before .before .before .before .before .before .before .before .before .before .before .args .depth - 2} (c .before .before .before .before .before .t2 .given .1) (omega (arith, c .before .before .before .before .before .before .before .before .before .before .before .if1 .left)) (c .before .before .add-titled .ensures)
 
 pub add-resource-spec : {M : Type 1} → statement M
 add-resource-spec =
     tie.close
     (tie.spec
-    refusal-requires
+    at-requires
     returns
     sub-evaluate
     add-place

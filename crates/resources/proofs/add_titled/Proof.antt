@@ -1,4 +1,6 @@
 -- `add_titled`: the title is no string, an attribute is refused, or the checks follow.
+use mathlib.Core.Path.{ap}
+use Rattle.resources.specs.declared.Filled.the-variants.{Refused}
 use mathlib.Core.Logic.{⊎-elim}
 use native.Mathlib.Omega.{arith}
 use Rattle.resources.proofs.Whole.{titled-wrong, gathered-kept, gathered-least, titled-stops, titled-goes-on}
@@ -15,17 +17,17 @@ add-place c = search needs
 place-requires : tie.Need-place-requires
 place-requires c κs = search needs
 
-refusal-requires : tie.Need-refusal-requires
-refusal-requires c κs = search needs
+at-requires : tie.Need-at-requires
+at-requires c κs = search needs
 
 returns : tie.Need-returns
-returns c = titled-wrong _ _ _ _ _ _ _ _ _ _ _ _ _ (λ e. ⊎-elim (λ p. omega arith) (λ p. omega arith) (c .before .before .match .keys2)) (c .before .place .ensures) (c .refusal .ensures)
+returns c = titled-wrong _ _ _ _ _ _ _ _ _ _ (λ e. ⊎-elim (λ p. omega arith) (λ p. omega arith) (c .before .before .match .keys2)) (c .before .place .ensures) (ap Refused (c .at .ensures))
+
+path-and-trail-requires : tie.Need-path-and-trail-requires
+path-and-trail-requires c κs = search needs
 
 union-requires : tie.Need-union-requires
 union-requires c κs = search needs
-
-union-requires-2 : tie.Need-union-requires-2
-union-requires-2 c κs = search needs
 
 add-end-of : tie.Need-add-end-of
 add-end-of c = search needs
@@ -52,20 +54,20 @@ same-length : tie.Need-same-length
 same-length c = search needs
 
 returns-2 : tie.Need-returns-2
-returns-2 c = titled-stops _ _ _ _ _ _ _ _ _ _ _ _ _ (c .before .before .before .before .before .before .before .before .before .before .before .before .before .value .given .1) (c .before .before .before .before .before .before .before .before .before .before .before .union .ensures) (c .before .before .before .before .before .before .before .before .before .union2 .ensures) (c .before .before .before .before .before .before .before .before .end-of .ensures) (c .before .before .before .before .before .before .before .end-of2 .ensures) (c .before .before .before .before .before .before .place2 .ensures) (c .before .before .before .before .gather .ensures) (c .enum-told .given .1)
+returns-2 c = titled-stops _ _ _ _ _ _ _ _ _ _ (c .before .before .before .before .before .before .before .before .before .before .before .before .before .before .before .value .given .1) (c .before .before .before .before .before .before .before .before .before .before .before .before .path-and-trail .ensures) (c .before .before .before .before .before .before .before .before .before .before .union .ensures) (c .before .before .before .before .before .before .before .before .end-of .ensures) (c .before .before .before .before .before .before .before .end-of2 .ensures) (c .before .before .before .before .before .before .place2 .ensures) (c .before .before .before .before .gather .ensures) (c .enum-told .given .1)
 
 check-requires : tie.Need-check-requires
 check-requires c κs =
-    let s = c .before .before .before .before .before .before .before .before .before .before .before .before .before .before .before .before .before .before .before .before in
+    let s = c .before .before .before .before .before .before .before .before .before .before .before .before .before .before .before .before .before .before .before .before .before .before in
     let a = s .args in
-    let kept = gathered-kept (a .m .now) (a .work .now) (a .out .now) (a .fill) (a .room) (a .scope) (a .base-is-node) (a .inner) (a .p) (a .x) (a .built-in) (a .path) (a .trail) (c .before .before .before .before .before .before .before .before .before .before .before .before .before .before .before .value .given .1) (c .before .before .before .before .before .before .before .before .before .before .before .before .before .union .ensures) (c .before .before .before .before .before .before .before .before .before .before .before .union2 .ensures) (c .before .before .before .before .before .before .before .before .before .before .end-of .ensures) (c .before .before .before .before .before .before .before .before .before .end-of2 .ensures) (c .before .before .before .before .before .before .before .before .place2 .ensures) (c .before .before .before .before .before .before .gather .ensures) in
-    (omega (arith, kept .long, s .pre .0 .filled), (s .pre .0 .short, (gathered-least (a .m .now) (a .work .now) (a .out .now) (a .fill) (a .room) (a .scope) (a .base-is-node) (a .inner) (a .p) (a .x) (a .built-in) (a .path) (a .trail) (c .before .before .before .before .before .before .before .before .before .before .before .before .before .before .before .value .given .1) (c .before .before .before .before .before .before .before .before .before .before .before .before .before .union .ensures) (c .before .before .before .before .before .before .before .before .before .before .before .union2 .ensures) (c .before .before .before .before .before .before .before .before .before .before .end-of .ensures) (c .before .before .before .before .before .before .before .before .before .end-of2 .ensures) (c .before .before .before .before .before .before .before .before .place2 .ensures) (c .before .before .before .before .before .before .gather .ensures) (c .before .before .g .given .1), (s .pre .1 .0, (omega (arith, kept .long, s .pre .1 .1), (s .pre .0 .place, c .before .before .before .before .before .before .before .before .place2 .ensures .0))))))
+    let kept = gathered-kept (a .m .now) (a .work .now) (a .out .now) (a .fill) (a .room) (a .here) (a .inner) (a .p) (a .x) (a .built-in) (c .before .before .before .before .before .before .before .before .before .before .before .before .before .before .before .before .before .value .given .1) (c .before .before .before .before .before .before .before .before .before .before .before .before .before .before .path-and-trail .ensures) (c .before .before .before .before .before .before .before .before .before .before .before .before .union .ensures) (c .before .before .before .before .before .before .before .before .before .before .end-of .ensures) (c .before .before .before .before .before .before .before .before .before .end-of2 .ensures) (c .before .before .before .before .before .before .before .before .place2 .ensures) (c .before .before .before .before .before .before .gather .ensures) in
+    (omega (arith, kept .long, s .pre .0 .filled), (s .pre .0 .short, (gathered-least (a .m .now) (a .work .now) (a .out .now) (a .fill) (a .room) (a .here) (a .inner) (a .p) (a .x) (a .built-in) (c .before .before .before .before .before .before .before .before .before .before .before .before .before .before .before .before .before .value .given .1) (c .before .before .before .before .before .before .before .before .before .before .before .before .before .before .path-and-trail .ensures) (c .before .before .before .before .before .before .before .before .before .before .before .before .union .ensures) (c .before .before .before .before .before .before .before .before .before .before .end-of .ensures) (c .before .before .before .before .before .before .before .before .before .end-of2 .ensures) (c .before .before .before .before .before .before .before .before .place2 .ensures) (c .before .before .before .before .before .before .gather .ensures) (c .before .before .g .given .1), (s .pre .1 .0, (omega (arith, kept .long, s .pre .1 .1), (s .pre .0 .place, c .before .before .before .before .before .before .before .before .place2 .ensures .0))))))
 
 same-length-2 : tie.Need-same-length-2
 same-length-2 c = search needs
 
 returns-3 : tie.Need-returns-3
-returns-3 c = titled-goes-on _ _ _ _ _ _ _ _ _ _ _ _ _ (c .before .before .before .before .before .before .before .before .before .before .before .before .before .before .before .before .before .before .value .given .1) (c .before .before .before .before .before .before .before .before .before .before .before .before .before .before .before .before .union .ensures) (c .before .before .before .before .before .before .before .before .before .before .before .before .before .before .union2 .ensures) (c .before .before .before .before .before .before .before .before .before .before .before .before .before .end-of .ensures) (c .before .before .before .before .before .before .before .before .before .before .before .before .end-of2 .ensures) (c .before .before .before .before .before .before .before .before .before .before .before .place2 .ensures) (c .before .before .before .before .before .before .before .before .before .gather .ensures) (c .before .before .before .before .before .g .given .1) (c .before .before .check .ensures)
+returns-3 c = titled-goes-on _ _ _ _ _ _ _ _ _ _ (c .before .before .before .before .before .before .before .before .before .before .before .before .before .before .before .before .before .before .before .before .value .given .1) (c .before .before .before .before .before .before .before .before .before .before .before .before .before .before .before .before .before .path-and-trail .ensures) (c .before .before .before .before .before .before .before .before .before .before .before .before .before .before .before .union .ensures) (c .before .before .before .before .before .before .before .before .before .before .before .before .before .end-of .ensures) (c .before .before .before .before .before .before .before .before .before .before .before .before .end-of2 .ensures) (c .before .before .before .before .before .before .before .before .before .before .before .place2 .ensures) (c .before .before .before .before .before .before .before .before .before .gather .ensures) (c .before .before .before .before .before .g .given .1) (c .before .before .check .ensures)
 
 pub add-titled-spec : {M : Type 1} → statement M
 add-titled-spec =
@@ -74,10 +76,10 @@ add-titled-spec =
     enum-known-value
     add-place
     place-requires
-    refusal-requires
+    at-requires
     returns
+    path-and-trail-requires
     union-requires
-    union-requires-2
     add-end-of
     end-of-requires
     end-of-requires-2

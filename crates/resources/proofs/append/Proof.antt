@@ -7,11 +7,11 @@ use borrow.Author.Needs.{needs}
 use Rattle.resources.proofs.append.Statement.{statement}
 use Rattle.resources.proofs.append.Tie as tie
 
-union-requires : tie.Need-union-requires
-union-requires c κs = search needs
+under-requires : tie.Need-under-requires
+under-requires c κs = search needs
 
-union-requires-2 : tie.Need-union-requires-2
-union-requires-2 c κs = search needs
+under-requires-2 : tie.Need-under-requires-2
+under-requires-2 c κs = search needs
 
 sub-add-attribute : tie.Need-sub-add-attribute
 sub-add-attribute c = search needs
@@ -37,16 +37,16 @@ set-fits c = (
 
 returns : tie.Need-returns
 returns c =
-    let s = c .before .before .before .before .before .before .before .before in
+    let s = c .before .before .before .before .before .before .before in
     let a = s .args in
-    appended (a .out .now) (a .fill) (a .size) (a .name) (a .x) (a .outer) (a .own) (s .pre .0) (c .before .before .before .before .before .union .ensures) (c .before .before .before .before .union2 .ensures) (c .before .before .add-attribute .ensures) (omega (arith, s .fits .name)) (value-fits _ _ (s .good .1 .1 .1 .1 .0 .1 .1 .0)) (set-fits s .0) (set-fits s .1 .0) (set-fits s .1 .1)
+    appended (a .out .now) (a .fill) (a .size) (a .name) (a .x) (a .outer) (a .own) (s .pre .0) (c .before .before .before .before .before .under .ensures) (c .before .before .before .before .under2 .ensures) (c .before .before .add-attribute .ensures) (omega (arith, s .fits .name)) (value-fits _ _ (s .good .1 .1 .1 .1 .0 .1 .1 .0)) (set-fits s .0) (set-fits s .1 .0) (set-fits s .1 .1)
 
 pub append-spec : {M : Type 1} → statement M
 append-spec =
     tie.close
     (tie.spec
-    union-requires
-    union-requires-2
+    under-requires
+    under-requires-2
     sub-add-attribute
     part-add-attribute-start
     part-add-attribute-end

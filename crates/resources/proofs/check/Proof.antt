@@ -1,4 +1,6 @@
 -- `check`: one way for each refusal, and one for the entry.
+use mathlib.Core.Path.{ap}
+use Rattle.resources.specs.declared.Filled.the-variants.{Refused}
 use native.Mathlib.Omega.{arith}
 use Rattle.catalog.proofs.Entries.{below-at}
 use Rattle.resources.proofs.Checking.{check-unknown, check-again, check-twice, check-rest}
@@ -6,11 +8,11 @@ use borrow.Author.Needs.{needs}
 use Rattle.resources.proofs.check.Statement.{statement}
 use Rattle.resources.proofs.check.Tie as tie
 
-refusal-requires : tie.Need-refusal-requires
-refusal-requires c κs = search needs
+at-requires : tie.Need-at-requires
+at-requires c κs = search needs
 
 returns : tie.Need-returns
-returns c = check-unknown _ _ _ _ _ _ _ _ _ _ _ (c .before .if1 .taken) (c .refusal .ensures)
+returns c = check-unknown _ _ _ _ _ _ _ _ _ _ _ (c .before .if1 .taken) (ap Refused (c .at .ensures))
 
 add-two-at : tie.Need-add-two-at
 add-two-at c = search needs
@@ -21,14 +23,14 @@ two-at-requires c κs = search needs
 has-entry-requires : tie.Need-has-entry-requires
 has-entry-requires c κs = search needs
 
-refusal-requires-2 : tie.Need-refusal-requires-2
-refusal-requires-2 c κs = search needs
+at-requires-2 : tie.Need-at-requires-2
+at-requires-2 c κs = search needs
 
 same-length : tie.Need-same-length
 same-length c = search needs
 
 returns-2 : tie.Need-returns-2
-returns-2 c = check-again _ _ _ _ _ _ _ _ _ _ _ (c .before .before .before .before .before .if1 .left) (c .before .before .before .before .two-at .ensures) (c .before .before .has-entry .ensures) (c .before .if2 .taken) (c .refusal2 .ensures)
+returns-2 c = check-again _ _ _ _ _ _ _ _ _ _ _ (c .before .before .before .before .before .if1 .left) (c .before .before .before .before .two-at .ensures) (c .before .before .has-entry .ensures) (c .before .if2 .taken) (ap Refused (c .at2 .ensures))
 
 find-repeated-requires : tie.Need-find-repeated-requires
 find-repeated-requires c κs = search needs
@@ -36,8 +38,8 @@ find-repeated-requires c κs = search needs
 enum-known-again : tie.Need-enum-known-again
 enum-known-again c = search needs
 
-refusal-requires-3 : tie.Need-refusal-requires-3
-refusal-requires-3 c κs = omega (arith, below-at (c .before .before .before .find-repeated .ensures .1) (c .before .again .given .1), c .before .before .before .before .before .before .before .before .before .before .before .pre .1 .1 .1 .1 .1 .1)
+at-requires-3 : tie.Need-at-requires-3
+at-requires-3 c κs = omega (arith, below-at (c .before .before .before .find-repeated .ensures .1) (c .before .again .given .1), c .before .before .before .before .before .before .before .before .before .before .before .pre .1 .1 .1 .1 .1 .1)
 
 enum-told : tie.Need-enum-told
 enum-told c = search needs
@@ -49,7 +51,7 @@ same-length-2 : tie.Need-same-length-2
 same-length-2 c = search needs
 
 returns-3 : tie.Need-returns-3
-returns-3 c = check-twice _ _ _ _ _ _ _ _ _ _ _ (c .before .before .before .before .before .before .before .before .before .if1 .left) (c .before .before .before .before .before .before .before .before .two-at .ensures) (c .before .before .before .before .before .before .has-entry .ensures) (c .before .before .before .before .before .if2 .left) (c .before .before .before .before .find-repeated .ensures .0) (c .before .before .again .given .1) (c .refusal3 .ensures)
+returns-3 c = check-twice _ _ _ _ _ _ _ _ _ _ _ (c .before .before .before .before .before .before .before .before .before .if1 .left) (c .before .before .before .before .before .before .before .before .two-at .ensures) (c .before .before .before .before .before .before .has-entry .ensures) (c .before .before .before .before .before .if2 .left) (c .before .before .before .before .find-repeated .ensures .0) (c .before .before .again .given .1) (ap Refused (c .at3 .ensures))
 
 same-length-3 : tie.Need-same-length-3
 same-length-3 c = search needs
@@ -61,17 +63,17 @@ pub check-spec : {M : Type 1} → statement M
 check-spec =
     tie.close
     (tie.spec
-    refusal-requires
+    at-requires
     returns
     add-two-at
     two-at-requires
     has-entry-requires
-    refusal-requires-2
+    at-requires-2
     same-length
     returns-2
     find-repeated-requires
     enum-known-again
-    refusal-requires-3
+    at-requires-3
     enum-told
     finish-requires
     same-length-2

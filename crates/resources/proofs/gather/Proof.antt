@@ -3,18 +3,19 @@ use Prim.Native.Nat.{ℕ, suc, _+_, _*_, _-_, _≤_}
 use mathlib.Core.Path.{_≡_, refl, _∙_}
 use native.Mathlib.Omega.{arith}
 use borrow.Author.Needs.{needs}
+use Rattle.catalog.specs.Layout.{entryAttributes}
 use Rattle.resources.proofs.Gathering.{Gathering, gathering-begins, gathering-on, gathering-stops, gathering-ends, added-kept, added-most, sized-kept}
 use Rattle.resources.proofs.gather.Statement.{statement}
 use Rattle.resources.proofs.gather.Tie as tie
 
 abbrev Inv-loop : tie.InvT-loop
-Inv-loop m inner first end work out₀ fill scope base-is-node outer own size₀ q₀ out size q = ((d : ℕ) → d ≡ suc inner → Gathering m work out₀ out fill scope base-is-node d first end outer own size q) × (size ≤ 39 + 48 * q)
+Inv-loop m inner work out₀ fill scope outer own end size₀ q₀ out size q = ((d : ℕ) → d ≡ suc inner → Gathering m work out₀ out fill scope d q₀ end outer own size q) × (size ≤ entryAttributes + 48 * q)
 
 abbrev μ-loop : tie.MeasureT-loop
-μ-loop m inner first end work out₀ fill scope base-is-node outer own size₀ q₀ out size q = end - q
+μ-loop m inner work out₀ fill scope outer own end size₀ q₀ out size q = end - q
 
 loop-holds : tie.Need-loop-holds Inv-loop μ-loop
-loop-holds c = (λ d e. gathering-begins _ _ _ _ _ _ _ _ _ _ _, omega arith)
+loop-holds c = (λ d e. gathering-begins _ _ _ _ _ _ _ _ _ _, omega arith)
 
 add-attribute-requires : tie.Need-add-attribute-requires Inv-loop μ-loop
 add-attribute-requires c κs = (sized-kept (c .before .before .before .before .before .before .pre) (c .before .before .loop .inv .0 _ refl .kept .long) (omega (arith, c .before .loop-test .taken)), omega (arith, c .before .before .loop .inv .1, c .before .loop-test .taken, c .before .before .before .before .before .before .pre .place))

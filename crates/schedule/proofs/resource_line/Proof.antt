@@ -13,7 +13,7 @@ returns c =
     let start = none .before .before .before .before .before in
     let read = start .before .before in
     line-finished _ _
-    (piece-is _ _ (resource-pieces _ _ _ (read .labels-at .ensures)) (then-piece _ _ _ _ (start .put-start .ensures) (then-piece _ _ _ _ (none .put-text .ensures) (labels .put-labels .ensures))))
+    (piece-is _ _ (resource-pieces _ _ _ (read .read-at .ensures)) (then-piece _ _ _ _ (start .put-start .ensures) (then-piece _ _ _ _ (none .put-text .ensures) (labels .put-labels .ensures))))
     (end .finish .ensures)
 
 pub resource-line-spec : {M : Type 1} → statement M

@@ -11,25 +11,25 @@ enum-told c = search needs
 enum-told-2 : tie.Need-enum-told-2
 enum-told-2 c = search needs
 
-cast-t5 : tie.Need-cast-t5
-cast-t5 c = search needs
+at-requires : tie.Need-at-requires
+at-requires c κs = search needs
 
 enum-told-3 : tie.Need-enum-told-3
 enum-told-3 c = search needs
 
-cast-t7 : tie.Need-cast-t7
-cast-t7 c = search needs
+at-requires-2 : tie.Need-at-requires-2
+at-requires-2 c κs = search needs
 
 returns : tie.Need-returns
 returns c = ran-done _ (c .enum-told .given .1)
 
 returns-2 : tie.Need-returns-2
-returns-2 c = ran-again _ (c .enum-told2 .given .1)
+returns-2 c = ran-again _ (c .before .enum-told2 .given .1) (c .at .ensures)
 
 returns-3 : tie.Need-returns-3
-returns-3 c = ran-full _ (c .enum-told3 .given .1)
+returns-3 c = ran-full _ (c .before .enum-told3 .given .1) (c .at2 .ensures)
 
 pub store-answer-spec : {M : Type 1} → statement M
 store-answer-spec =
     tie.close
-    (tie.spec enum-told enum-told-2 cast-t5 enum-told-3 cast-t7 returns returns-2 returns-3)
+    (tie.spec enum-told enum-told-2 at-requires enum-told-3 at-requires-2 returns returns-2 returns-3)

@@ -11,7 +11,7 @@ use Rattle.evaluator.proofs.evaluate.Reads as evaluate-reads
 use Rattle.statements.proofs.decide_case.Reads as decide-case-reads
 
 sub-evaluate : tie.Need-sub-evaluate
-sub-evaluate c = omega (arith, has-level (c .before .before .before .pre .0 .1))
+sub-evaluate c = omega (arith, has-level (c .before .before .before .before .pre .0 .1))
 
 add-evaluate : tie.Need-add-evaluate
 add-evaluate c = search needs
@@ -26,22 +26,22 @@ enum-known-e-2 : tie.Need-enum-known-e-2
 enum-known-e-2 c = search needs
 
 sub-decide-case : tie.Need-sub-decide-case
-sub-decide-case c = omega (arith, has-level (c .before .before .before .before .before .before .before .before .pre .0 .1))
+sub-decide-case c = omega (arith, has-level (c .before .before .before .before .before .before .before .before .before .pre .0 .1))
 
 decide-case-requires : tie.Need-decide-case-requires
-decide-case-requires c κs = let pre = c .before .before .before .before .before .before .before .before .before .pre in (((pre .0 .0 .manifest, omega (arith, pre .0 .0 .memory)), (condition-place (pre .0 .1) (pre .0 .0 .manifest), omega (arith, pre .0 .1 .stands .ends, pre .0 .0 .manifest))), (choice-here (pre .0 .1) (pre .1 .0) .branches, case-small (pre .0 .1) (pre .1 .0) (pre .1 .1)))
+decide-case-requires c κs = let pre = c .before .before .before .before .before .before .before .before .before .before .pre in (((pre .0 .0 .manifest, omega (arith, pre .0 .0 .memory)), (condition-place (pre .0 .1) (pre .0 .0 .manifest), omega (arith, pre .0 .1 .stands .ends, pre .0 .0 .manifest))), (choice-here (pre .0 .1) (pre .1 .0) .branches, case-small (pre .0 .1) (pre .1 .0) (pre .1 .1)))
 
 same-length : tie.Need-same-length
 same-length c = search needs
 
 returns : tie.Need-returns
-returns c = let pre = c .before .before .before .before .before .before .before .before .pre in test-refused (pre .0 .1) (pre .1 .0) _ (c .before .before .before .evaluate .ensures) _ _ (c .before .e .given .1)
+returns c = let pre = c .before .before .before .before .before .before .before .before .before .pre in test-refused _ (pre .0 .1) (pre .1 .0) _ (c .before .before .before .evaluate .ensures) _ (c .before .e .given .1)
 
 same-length-2 : tie.Need-same-length-2
 same-length-2 c = search needs
 
 returns-2 : tie.Need-returns-2
-returns-2 c = let pre = c .before .before .before .before .before .before .before .before .before .before .before .before .pre in test-decided (pre .0 .1) (pre .1 .0) _ (c .before .before .before .before .before .before .before .evaluate .ensures) _ _ (c .before .before .before .before .before .e2 .given .1) (c .before .before .decide-case .ensures)
+returns-2 c = let pre = c .before .before .before .before .before .before .before .before .before .before .before .before .before .pre in test-decided _ (pre .0 .1) (pre .1 .0) _ (c .before .before .before .before .before .before .before .evaluate .ensures) _ _ (c .before .before .before .before .before .e2 .given .1) (c .before .before .decide-case .ensures)
 
 pub test-case-spec : {M : Type 1} → statement M
 test-case-spec =

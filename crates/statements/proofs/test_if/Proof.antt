@@ -10,7 +10,7 @@ use Rattle.evaluator.proofs.evaluate.Reads as evaluate-reads
 use Rattle.statements.proofs.decide_if.Reads as decide-if-reads
 
 sub-evaluate : tie.Need-sub-evaluate
-sub-evaluate c = omega (arith, has-level (c .before .before .before .pre .0 .1))
+sub-evaluate c = omega (arith, has-level (c .before .before .before .before .pre .0 .1))
 
 add-evaluate : tie.Need-add-evaluate
 add-evaluate c = search needs
@@ -25,22 +25,22 @@ enum-known-e-2 : tie.Need-enum-known-e-2
 enum-known-e-2 c = search needs
 
 sub-decide-if : tie.Need-sub-decide-if
-sub-decide-if c = omega (arith, has-level (c .before .before .before .before .before .before .before .before .pre .0 .1))
+sub-decide-if c = omega (arith, has-level (c .before .before .before .before .before .before .before .before .before .pre .0 .1))
 
 decide-if-requires : tie.Need-decide-if-requires
-decide-if-requires c κs = let pre = c .before .before .before .before .before .before .before .before .before .pre in let here = conditional-here (pre .0 .1) (pre .1 .0) in (((pre .0 .0 .manifest, omega (arith, pre .0 .0 .memory)), condition-place (pre .0 .1) (pre .0 .0 .manifest)), ((here .ifTrue, here .ifFalse), if-small (pre .0 .1) (pre .1 .0) (pre .1 .1)))
+decide-if-requires c κs = let pre = c .before .before .before .before .before .before .before .before .before .before .pre in let here = conditional-here (pre .0 .1) (pre .1 .0) in (((pre .0 .0 .manifest, omega (arith, pre .0 .0 .memory)), condition-place (pre .0 .1) (pre .0 .0 .manifest)), ((here .ifTrue, here .ifFalse), if-small (pre .0 .1) (pre .1 .0) (pre .1 .1)))
 
 same-length : tie.Need-same-length
 same-length c = search needs
 
 returns : tie.Need-returns
-returns c = let pre = c .before .before .before .before .before .before .before .before .pre in test-refused (pre .0 .1) (pre .1 .0) _ (c .before .before .before .evaluate .ensures) _ _ (c .before .e .given .1)
+returns c = let pre = c .before .before .before .before .before .before .before .before .before .pre in test-refused _ (pre .0 .1) (pre .1 .0) _ (c .before .before .before .evaluate .ensures) _ (c .before .e .given .1)
 
 same-length-2 : tie.Need-same-length-2
 same-length-2 c = search needs
 
 returns-2 : tie.Need-returns-2
-returns-2 c = let pre = c .before .before .before .before .before .before .before .before .before .before .before .before .pre in test-decided (pre .0 .1) (pre .1 .0) _ (c .before .before .before .before .before .before .before .evaluate .ensures) _ _ (c .before .before .before .before .before .e2 .given .1) (c .before .before .decide-if .ensures)
+returns-2 c = let pre = c .before .before .before .before .before .before .before .before .before .before .before .before .before .pre in test-decided _ (pre .0 .1) (pre .1 .0) _ (c .before .before .before .before .before .before .before .evaluate .ensures) _ _ (c .before .before .before .before .before .e2 .given .1) (c .before .before .decide-if .ensures)
 
 pub test-if-spec : {M : Type 1} → statement M
 test-if-spec =

@@ -13,10 +13,10 @@ pub evaluate-requires : (t : ℕ) → attribute-read-lts.Need-evaluate-requires 
 evaluate-requires t c κs = (omega (arith, c .before .before .before .before .pre .0), resized (c .before .before .before .before .pre .1) (c .place .ensures .0))
 
 pub returns : (t : ℕ) → attribute-read-lts.Need-returns (attribute-read-calls t) (attribute-read-at t) attribute-read.Post
-returns t c = λ d o. title-stops _ _ _ _ _ _ o (c .before .before .before .before .before .before .before .before .pre .1 .manifest) (c .before .before .before .before .place .ensures) (c .before .before .before .evaluate .ensures) (c .before .a .given .1)
+returns t c = λ d o. title-stops _ _ _ _ _ o (c .before .before .before .before .before .before .before .before .pre .1 .manifest) (c .before .before .before .before .place .ensures) (c .before .before .before .evaluate .ensures) (c .before .a .given .1)
 
 pub attribute-of-requires : (t : ℕ) → attribute-read-lts.Need-attribute-of-requires (attribute-read-calls t) (attribute-read-at t) attribute-read.Post
 attribute-of-requires t c κs = (c .before .before .before .before .before .before .before .before .before .pre .1, c .before .before .before .before .before .place .ensures .0)
 
 pub returns-2 : (t : ℕ) → attribute-read-lts.Need-returns-2 (attribute-read-calls t) (attribute-read-at t) attribute-read.Post
-returns-2 t c = λ d o. title-goes-on _ _ _ _ _ _ o (c .before .before .before .before .before .before .before .before .before .before .before .pre .1 .manifest) (c .before .before .before .before .before .before .before .place .ensures) (c .before .before .before .before .before .before .evaluate .ensures) _ (c .before .before .before .before .a2 .given .1) (c .before .attribute-of .ensures) (c .joined .ensures)
+returns-2 t c = λ d o. title-goes-on _ _ _ _ _ o (c .before .before .before .before .before .before .before .before .before .before .before .pre .1 .manifest) (c .before .before .before .before .before .before .before .place .ensures) (c .before .before .before .before .before .before .evaluate .ensures) _ (c .before .before .before .before .a2 .given .1) (c .before .attribute-of .ensures) (c .joined .ensures)

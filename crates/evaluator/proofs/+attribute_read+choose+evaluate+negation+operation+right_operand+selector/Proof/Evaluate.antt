@@ -6,11 +6,11 @@ use Rattle.evaluator.proofs.evaluate.Reads as evaluate
 use Rattle.evaluator.proofs.+attribute_read+choose+evaluate+negation+operation+right_operand+selector.Lts-evaluate as evaluate-lts
 use Rattle.evaluator.proofs.+attribute_read+choose+evaluate+negation+operation+right_operand+selector.Proof.Falls.{evaluate-calls, evaluate-at}
 
-pub refusal-requires : (t : ℕ) → evaluate-lts.Need-refusal-requires (evaluate-calls t) (evaluate-at t) evaluate.Post
-refusal-requires t c κs = c .before .before .before .before .pre .1 .place
+pub at-requires : (t : ℕ) → evaluate-lts.Need-at-requires (evaluate-calls t) (evaluate-at t) evaluate.Post
+at-requires t c κs = c .before .before .before .before .pre .1 .place
 
 pub returns : (t : ℕ) → evaluate-lts.Need-returns (evaluate-calls t) (evaluate-at t) evaluate.Post
-returns t c = no-level _ _ _ _ _ _ _ _ (c .before .if1 .taken)
+returns t c = no-level _ _ _ _ _ _ _ (c .before .if1 .taken)
 
 pub sub-below : (t : ℕ) → evaluate-lts.Need-sub-below (evaluate-calls t) (evaluate-at t) evaluate.Post
 sub-below t c = omega (arith, c .if1 .left)
@@ -19,7 +19,7 @@ pub constant-at-requires : (t : ℕ) → evaluate-lts.Need-constant-at-requires 
 constant-at-requires t c κs = omega (arith, c .before .before .before .before .before .before .pre .1 .place)
 
 pub returns-2 : (t : ℕ) → evaluate-lts.Need-returns-2 (evaluate-calls t) (evaluate-at t) evaluate.Post
-returns-2 t c = says-constant _ _ _ _ _ _ _ _ (c .before .before .byte-at .ensures) (c .before .if2 .taken) (c .constant-at .ensures)
+returns-2 t c = says-constant _ _ _ _ _ _ _ (c .before .before .byte-at .ensures) (c .before .if2 .taken) (c .constant-at .ensures)
 
 pub add-two-at : (t : ℕ) → evaluate-lts.Need-add-two-at (evaluate-calls t) (evaluate-at t) evaluate.Post
 add-two-at t c = omega (arith, c .before .before .before .before .before .before .before .pre .1 .place)
@@ -55,22 +55,22 @@ pub selector-requires : (t : ℕ) → evaluate-lts.Need-selector-requires (evalu
 selector-requires t c κs = (omega (arith, c .before .before .before .before .before .before .before .pre .0, c .before .before .before .if1 .left), c .before .before .before .before .before .before .before .pre .1)
 
 pub returns-3 : (t : ℕ) → evaluate-lts.Need-returns-3 (evaluate-calls t) (evaluate-at t) evaluate.Post
-returns-3 t c = says-variable _ _ _ _ _ _ _ _ (c .before .before .before .before .byte-at .ensures) (c .before .before .match .keys1) (c .before .two-at .ensures) (c .read-up .ensures)
+returns-3 t c = says-variable _ _ _ _ _ _ _ (c .before .before .before .before .byte-at .ensures) (c .before .before .match .keys1) (c .before .two-at .ensures) (c .read-up .ensures)
 
 pub returns-4 : (t : ℕ) → evaluate-lts.Need-returns-4 (evaluate-calls t) (evaluate-at t) evaluate.Post
-returns-4 t c = says-top _ _ _ _ _ _ _ _ (c .before .before .before .before .byte-at .ensures) (c .before .before .match .keys2) (c .before .two-at2 .ensures) (c .read-up2 .ensures)
+returns-4 t c = says-top _ _ _ _ _ _ _ (c .before .before .before .before .byte-at .ensures) (c .before .before .match .keys2) (c .before .two-at2 .ensures) (c .read-up2 .ensures)
 
 pub returns-5 : (t : ℕ) → evaluate-lts.Need-returns-5 (evaluate-calls t) (evaluate-at t) evaluate.Post
-returns-5 t c = says-class _ _ _ _ _ _ _ _ (c .before .before .before .before .before .byte-at .ensures) (c .before .before .before .match .keys3) (c .before .before .two-at3 .ensures) (c .before .two-at4 .ensures) (c .read-class .ensures)
+returns-5 t c = says-class _ _ _ _ _ _ _ (c .before .before .before .before .before .byte-at .ensures) (c .before .before .before .match .keys3) (c .before .before .two-at3 .ensures) (c .before .two-at4 .ensures) (c .read-class .ensures)
 
 pub returns-6 : (t : ℕ) → evaluate-lts.Need-returns-6 (evaluate-calls t) (evaluate-at t) evaluate.Post
-returns-6 t c = says-operation _ _ _ _ _ _ _ _ (c .before .before .before .byte-at .ensures) (c .before .before .before .before .if1 .left) (c .before .match .keys4) (c .operation .ensures)
+returns-6 t c = says-operation _ _ _ _ _ _ _ (c .before .before .before .byte-at .ensures) (c .before .before .before .before .if1 .left) (c .before .match .keys4) (c .operation .ensures)
 
 pub returns-7 : (t : ℕ) → evaluate-lts.Need-returns-7 (evaluate-calls t) (evaluate-at t) evaluate.Post
-returns-7 t c = says-negation _ _ _ _ _ _ _ _ (c .before .before .before .byte-at .ensures) (c .before .before .before .before .if1 .left) (c .before .match .keys5) (c .negation .ensures)
+returns-7 t c = says-negation _ _ _ _ _ _ _ (c .before .before .before .byte-at .ensures) (c .before .before .before .before .if1 .left) (c .before .match .keys5) (c .negation .ensures)
 
 pub returns-8 : (t : ℕ) → evaluate-lts.Need-returns-8 (evaluate-calls t) (evaluate-at t) evaluate.Post
-returns-8 t c = says-attribute _ _ _ _ _ _ _ _ (c .before .before .before .byte-at .ensures) (c .before .before .before .before .if1 .left) (c .before .match .keys6) (c .attribute-read .ensures)
+returns-8 t c = says-attribute _ _ _ _ _ _ _ (c .before .before .before .byte-at .ensures) (c .before .before .before .before .if1 .left) (c .before .match .keys6) (c .attribute-read .ensures)
 
 pub returns-9 : (t : ℕ) → evaluate-lts.Need-returns-9 (evaluate-calls t) (evaluate-at t) evaluate.Post
-returns-9 t c = says-selector _ _ _ _ _ _ _ _ (c .before .before .before .byte-at .ensures) (c .before .before .before .before .if1 .left) (c .before .before .if2 .left) (c .before .match .rest .0 .0 .0 .0 .0 .1) (c .before .match .rest .0 .0 .0 .0 .1) (c .before .match .rest .0 .0 .0 .1) (c .before .match .rest .0 .0 .1) (c .before .match .rest .0 .1) (c .before .match .rest .1) (c .selector .ensures)
+returns-9 t c = says-selector _ _ _ _ _ _ _ (c .before .before .before .byte-at .ensures) (c .before .before .before .before .if1 .left) (c .before .before .if2 .left) (c .before .match .rest .0 .0 .0 .0 .0 .1) (c .before .match .rest .0 .0 .0 .0 .1) (c .before .match .rest .0 .0 .0 .1) (c .before .match .rest .0 .0 .1) (c .before .match .rest .0 .1) (c .before .match .rest .1) (c .selector .ensures)

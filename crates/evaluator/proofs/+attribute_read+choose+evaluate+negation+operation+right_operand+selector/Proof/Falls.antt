@@ -30,11 +30,11 @@ use Rattle.evaluator.proofs.combine.Reads as combine-reads
 use Rattle.evaluator.proofs.constant_at.Reads as constant-at-reads
 use Rattle.evaluator.proofs.joined.Reads as joined-reads
 use Rattle.evaluator.proofs.negated.Reads as negated-reads
-use Rattle.evaluator.proofs.place.Reads as place-reads
+use Rattle.values.proofs.place.Reads as place-reads
 use Rattle.evaluator.proofs.plain_value.Reads as plain-value-reads
 use Rattle.evaluator.proofs.read_class.Reads as read-class-reads
 use Rattle.evaluator.proofs.read_up.Reads as read-up-reads
-use Rattle.evaluator.proofs.refusal.Reads as refusal-reads
+use Rattle.values.proofs.Refusal.at.Reads as at-reads
 use Rattle.evaluator.proofs.try_pattern.Reads as try-pattern-reads
 use Rattle.labels.proofs.Labels.union.Reads as union-reads
 use Rattle.wire.proofs.byte_at.Reads as byte-at-reads
@@ -110,11 +110,11 @@ attribute-read-calls t = (place-reads.Asked, place-reads.Learnt, evaluate-below 
 
 -- what choose knows of its callees
 abbrev pub choose-calls : ℕ → choose-lts.Claims
-choose-calls t = (try-pattern-reads.Asked, try-pattern-reads.Learnt, union-reads.Asked, union-reads.Learnt, end-of-reads.Asked, end-of-reads.Learnt, place-reads.Asked, place-reads.Learnt, evaluate-below t, evaluate.Post, joined-reads.Asked, joined-reads.Learnt, refusal-reads.Asked, refusal-reads.Learnt)
+choose-calls t = (try-pattern-reads.Asked, try-pattern-reads.Learnt, union-reads.Asked, union-reads.Learnt, end-of-reads.Asked, end-of-reads.Learnt, place-reads.Asked, place-reads.Learnt, evaluate-below t, evaluate.Post, joined-reads.Asked, joined-reads.Learnt, at-reads.Asked, at-reads.Learnt)
 
 -- what evaluate knows of its callees
 abbrev pub evaluate-calls : ℕ → evaluate-lts.Claims
-evaluate-calls t = (refusal-reads.Asked, refusal-reads.Learnt, byte-at-reads.Asked, byte-at-reads.Learnt, constant-at-reads.Asked, constant-at-reads.Learnt, two-at-reads.Asked, two-at-reads.Learnt, read-up-reads.Asked, read-up-reads.Learnt, read-class-reads.Asked, read-class-reads.Learnt, operation-below t, operation.Post, negation-below t, negation.Post, attribute-read-below t, attribute-read.Post, selector-below t, selector.Post)
+evaluate-calls t = (at-reads.Asked, at-reads.Learnt, byte-at-reads.Asked, byte-at-reads.Learnt, constant-at-reads.Asked, constant-at-reads.Learnt, two-at-reads.Asked, two-at-reads.Learnt, read-up-reads.Asked, read-up-reads.Learnt, read-class-reads.Asked, read-class-reads.Learnt, operation-below t, operation.Post, negation-below t, negation.Post, attribute-read-below t, attribute-read.Post, selector-below t, selector.Post)
 
 -- what negation knows of its callees
 abbrev pub negation-calls : ℕ → negation-lts.Claims
@@ -126,8 +126,8 @@ operation-calls t = (place-reads.Asked, place-reads.Learnt, evaluate-below t, ev
 
 -- what right_operand knows of its callees
 abbrev pub right-operand-calls : ℕ → right-operand-lts.Claims
-right-operand-calls t = (byte-at-reads.Asked, byte-at-reads.Learnt, begin-reads.Asked, begin-reads.Learnt, place-reads.Asked, place-reads.Learnt, refusal-reads.Asked, refusal-reads.Learnt, plain-value-reads.Asked, plain-value-reads.Learnt, end-of-reads.Asked, end-of-reads.Learnt, evaluate-below t, evaluate.Post, combine-reads.Asked, combine-reads.Learnt, joined-reads.Asked, joined-reads.Learnt)
+right-operand-calls t = (byte-at-reads.Asked, byte-at-reads.Learnt, begin-reads.Asked, begin-reads.Learnt, place-reads.Asked, place-reads.Learnt, at-reads.Asked, at-reads.Learnt, plain-value-reads.Asked, plain-value-reads.Learnt, end-of-reads.Asked, end-of-reads.Learnt, evaluate-below t, evaluate.Post, combine-reads.Asked, combine-reads.Learnt, joined-reads.Asked, joined-reads.Learnt)
 
 -- what selector knows of its callees
 abbrev pub selector-calls : ℕ → selector-lts.Claims
-selector-calls t = (refusal-reads.Asked, refusal-reads.Learnt, place-reads.Asked, place-reads.Learnt, evaluate-below t, evaluate.Post, end-of-reads.Asked, end-of-reads.Learnt, choose-below t, choose.Post, joined-reads.Asked, joined-reads.Learnt)
+selector-calls t = (at-reads.Asked, at-reads.Learnt, place-reads.Asked, place-reads.Learnt, evaluate-below t, evaluate.Post, end-of-reads.Asked, end-of-reads.Learnt, choose-below t, choose.Post, joined-reads.Asked, joined-reads.Learnt)

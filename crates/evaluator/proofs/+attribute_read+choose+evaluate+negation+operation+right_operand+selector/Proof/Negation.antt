@@ -13,10 +13,10 @@ pub evaluate-requires : (t : ℕ) → negation-lts.Need-evaluate-requires (negat
 evaluate-requires t c κs = (omega (arith, c .before .before .before .before .pre .0), resized (c .before .before .before .before .pre .1) (c .place .ensures .0))
 
 pub returns : (t : ℕ) → negation-lts.Need-returns (negation-calls t) (negation-at t) negation.Post
-returns t c = λ d o. negation-stops _ _ _ _ _ _ o (c .before .before .before .before .before .before .before .before .pre .1 .manifest) (c .before .before .before .before .place .ensures) (c .before .before .before .evaluate .ensures) (c .before .a .given .1)
+returns t c = λ d o. negation-stops _ _ _ _ _ o (c .before .before .before .before .before .before .before .before .pre .1 .manifest) (c .before .before .before .before .place .ensures) (c .before .before .before .evaluate .ensures) (c .before .a .given .1)
 
 pub negated-requires : (t : ℕ) → negation-lts.Need-negated-requires (negation-calls t) (negation-at t) negation.Post
 negated-requires t c κs = c .before .before .before .before .before .place .ensures .0
 
 pub returns-2 : (t : ℕ) → negation-lts.Need-returns-2 (negation-calls t) (negation-at t) negation.Post
-returns-2 t c = λ d o. negation-goes-on _ _ _ _ _ _ o (c .before .before .before .before .before .before .before .before .before .before .before .pre .1 .manifest) (c .before .before .before .before .before .before .before .place .ensures) (c .before .before .before .before .before .before .evaluate .ensures) _ (c .before .before .before .before .a2 .given .1) (c .before .negated .ensures) (c .joined .ensures)
+returns-2 t c = λ d o. negation-goes-on _ _ _ _ _ o (c .before .before .before .before .before .before .before .before .before .before .before .pre .1 .manifest) (c .before .before .before .before .before .before .before .place .ensures) (c .before .before .before .before .before .before .evaluate .ensures) _ (c .before .before .before .before .a2 .given .1) (c .before .negated .ensures) (c .joined .ensures)

@@ -7,8 +7,8 @@ use Rattle.evaluator.proofs.selector.Reads as selector
 use Rattle.evaluator.proofs.+attribute_read+choose+evaluate+negation+operation+right_operand+selector.Lts-selector as selector-lts
 use Rattle.evaluator.proofs.+attribute_read+choose+evaluate+negation+operation+right_operand+selector.Proof.Falls.{selector-calls, selector-at}
 
-pub refusal-requires : (t : ℕ) → selector-lts.Need-refusal-requires (selector-calls t) (selector-at t) selector.Post
-refusal-requires t c κs = c .before .before .before .before .pre .1 .place
+pub at-requires : (t : ℕ) → selector-lts.Need-at-requires (selector-calls t) (selector-at t) selector.Post
+at-requires t c κs = c .before .before .before .before .pre .1 .place
 
 pub returns : (t : ℕ) → selector-lts.Need-returns (selector-calls t) (selector-at t) selector.Post
 returns t c = λ d o. absurd (selector-deep o (c .before .if1 .taken))
@@ -20,7 +20,7 @@ pub evaluate-requires : (t : ℕ) → selector-lts.Need-evaluate-requires (selec
 evaluate-requires t c κs = (omega (arith, c .before .before .before .before .before .pre .0), resized (c .before .before .before .before .before .pre .1) (c .place .ensures .0))
 
 pub returns-2 : (t : ℕ) → selector-lts.Need-returns-2 (selector-calls t) (selector-at t) selector.Post
-returns-2 t c = λ d o. selector-stops _ _ _ _ _ _ o (c .before .before .before .before .before .before .before .before .before .pre .1 .manifest) (c .before .before .before .before .place .ensures) (c .before .before .before .evaluate .ensures) (c .before .a .given .1)
+returns-2 t c = λ d o. selector-stops _ _ _ _ _ o (c .before .before .before .before .before .before .before .before .before .pre .1 .manifest) (c .before .before .before .before .place .ensures) (c .before .before .before .evaluate .ensures) (c .before .a .given .1)
 
 pub add-end-of : (t : ℕ) → selector-lts.Need-add-end-of (selector-calls t) (selector-at t) selector.Post
 add-end-of t c = omega (arith, c .before .before .before .before .before .before .before .before .before .before .pre .1 .place)
@@ -38,4 +38,4 @@ pub choose-requires : (t : ℕ) → selector-lts.Need-choose-requires (selector-
 choose-requires t c κs = (omega (arith, c .before .before .before .before .before .before .before .before .before .before .before .before .before .pre .0, c .before .before .before .before .before .before .before .before .before .if1 .left), (c .before .before .before .before .before .before .before .before .before .before .before .before .before .pre .1, c .place2 .ensures .0))
 
 pub returns-3 : (t : ℕ) → selector-lts.Need-returns-3 (selector-calls t) (selector-at t) selector.Post
-returns-3 t c = λ d o. selector-goes-on _ _ _ _ _ _ o (c .before .before .before .before .before .before .before .before .before .before .before .before .before .before .before .pre .1 .manifest) (c .before .before .before .before .before .before .before .before .before .before .place .ensures) (c .before .before .before .before .before .before .before .before .before .evaluate .ensures) _ (c .before .before .before .before .before .before .before .before .before .before .before .if1 .left) (c .before .before .before .before .before .before .before .a2 .given .1) (c .before .before .before .before .end-of .ensures) (c .before .before .before .end-of2 .ensures) (c .before .before .place2 .ensures) (c .before .choose .ensures) (c .joined .ensures)
+returns-3 t c = λ d o. selector-goes-on _ _ _ _ _ o (c .before .before .before .before .before .before .before .before .before .before .before .before .before .before .before .pre .1 .manifest) (c .before .before .before .before .before .before .before .before .before .before .place .ensures) (c .before .before .before .before .before .before .before .before .before .evaluate .ensures) _ (c .before .before .before .before .before .before .before .before .before .before .before .if1 .left) (c .before .before .before .before .before .before .before .a2 .given .1) (c .before .before .before .before .end-of .ensures) (c .before .before .before .end-of2 .ensures) (c .before .before .place2 .ensures) (c .before .choose .ensures) (c .joined .ensures)

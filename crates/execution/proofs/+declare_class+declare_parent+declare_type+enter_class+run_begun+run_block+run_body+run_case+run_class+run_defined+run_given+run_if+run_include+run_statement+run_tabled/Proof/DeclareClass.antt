@@ -1,4 +1,6 @@
 -- The answers of `declare_class`.
+use Rattle.resources.specs.declared.Filled.the-variants.{Refused}
+use mathlib.Core.Path.{ap}
 use Prim.Native.Nat.{ℕ}
 use Prim.Native.Nat.{suc, _-_}
 use mathlib.Core.Path.{_≡_, _∙_}
@@ -9,11 +11,11 @@ use Rattle.execution.proofs.declare_class.Reads as declare-class
 use Rattle.execution.proofs.+declare_class+declare_parent+declare_type+enter_class+run_begun+run_block+run_body+run_case+run_class+run_defined+run_given+run_if+run_include+run_statement+run_tabled.Lts-declare_class as declare-class-lts
 use Rattle.execution.proofs.+declare_class+declare_parent+declare_type+enter_class+run_begun+run_block+run_body+run_case+run_class+run_defined+run_given+run_if+run_include+run_statement+run_tabled.Proof.Measures.{declare-class-calls, declare-class-at}
 
-pub refusal-requires : (t : ℕ) → declare-class-lts.Need-refusal-requires (declare-class-calls t) (declare-class-at t) declare-class.Post
-refusal-requires t c κs = c .before .before .before .before .before .pre .1 .1 .0 .0
+pub at-requires : (t : ℕ) → declare-class-lts.Need-at-requires (declare-class-calls t) (declare-class-at t) declare-class.Post
+at-requires t c κs = c .before .before .before .before .before .pre .1 .1 .0 .0
 
 pub returns : (t : ℕ) → declare-class-lts.Need-returns (declare-class-calls t) (declare-class-at t) declare-class.Post
-returns t c = λ gs gives alikes empty. class-too-deep _ _ _ gs (c .before .if1 .taken) (c .refusal .ensures)
+returns t c = λ gs gives alikes empty. class-too-deep _ _ _ gs (c .before .if1 .taken) (ap Refused (c .at .ensures))
 
 pub check-class-requires : (t : ℕ) → declare-class-lts.Need-check-class-requires (declare-class-calls t) (declare-class-at t) declare-class.Post
 check-class-requires t c κs = (c .before .before .before .before .before .before .pre .1 .0 .set, c .before .before .before .before .before .before .pre .1 .1)

@@ -1,4 +1,6 @@
 -- The answers of `declare_parent`.
+use Rattle.resources.specs.declared.Filled.the-variants.{Refused}
+use mathlib.Core.Path.{ap}
 use Prim.Native.Nat.{ℕ}
 use mathlib.Core.Path.{refl, sym, _∙_}
 use native.Mathlib.Omega.{arith}
@@ -22,11 +24,11 @@ is-declared-requires t c κs = (c .before .before .before .before .before .befor
 pub returns-2 : (t : ℕ) → declare-parent-lts.Need-returns-2 (declare-parent-calls t) (declare-parent-at t) declare-parent.Post
 returns-2 t c = parent-declared _ _ _ _ (c .before .before .before .before .before .byte-at .ensures) (c .before .before .before .before .if1 .left) (c .before .before .before .two-at .ensures) (c .before .is-declared .ensures) (c .before .before .before .before .before .before .before .before .before .pre .1 .0) (c .if2 .taken)
 
-pub refusal-requires : (t : ℕ) → declare-parent-lts.Need-refusal-requires (declare-parent-calls t) (declare-parent-at t) declare-parent.Post
-refusal-requires t c κs = omega (arith, class-near (c .before .before .before .before .before .before .before .before .before .before .before .pre .1 .0 .set) (c .before .before .before .before .before .before .before .before .before .before .before .pre .1 .1))
+pub at-requires : (t : ℕ) → declare-parent-lts.Need-at-requires (declare-parent-calls t) (declare-parent-at t) declare-parent.Post
+at-requires t c κs = omega (arith, class-near (c .before .before .before .before .before .before .before .before .before .before .before .pre .1 .0 .set) (c .before .before .before .before .before .before .before .before .before .before .before .pre .1 .1))
 
 pub returns-3 : (t : ℕ) → declare-parent-lts.Need-returns-3 (declare-parent-calls t) (declare-parent-at t) declare-parent.Post
-returns-3 t c = parent-no-step _ _ _ _ (c .before .before .before .before .before .before .before .before .byte-at .ensures) (c .before .before .before .before .before .before .before .if1 .left) (c .before .before .before .before .before .before .two-at .ensures) (c .before .before .before .before .is-declared .ensures) (c .before .before .before .if2 .left) (c .before .if3 .taken) (c .refusal .ensures)
+returns-3 t c = parent-no-step _ _ _ _ (c .before .before .before .before .before .before .before .before .byte-at .ensures) (c .before .before .before .before .before .before .before .if1 .left) (c .before .before .before .before .before .before .two-at .ensures) (c .before .before .before .before .is-declared .ensures) (c .before .before .before .if2 .left) (c .before .if3 .taken) (ap Refused (c .at .ensures))
 
 pub sub-left : (t : ℕ) → declare-parent-lts.Need-sub-left (declare-parent-calls t) (declare-parent-at t) declare-parent.Post
 sub-left t c = omega (arith, c .if3 .left)
@@ -44,10 +46,10 @@ pub declare-class-requires : (t : ℕ) → declare-parent-lts.Need-declare-class
 declare-class-requires t c κs = (omega (arith, c .before .before .before .before .before .before .before .before .before .before .before .before .before .before .before .pre .0, c .before .before .before .before .if3 .left), (c .before .before .before .before .before .before .before .before .before .before .before .before .before .before .before .pre .1 .0, ((omega (arith, class-near (c .before .before .before .before .before .before .before .before .before .before .before .before .before .before .before .pre .1 .0 .set) (c .before .before .before .before .before .before .before .before .before .before .before .before .before .before .before .pre .1 .1)), omega arith), omega (arith, c .before .before .before .before .before .before .before .before .before .two-at .ensures, parent-name (c .before .before .before .before .before .before .before .before .before .before .before .before .before .before .before .pre .1 .0 .set) (c .before .before .before .before .before .before .before .before .before .before .before .before .before .before .before .pre .1 .1) (sym (c .before .before .before .before .before .before .before .before .before .before .before .byte-at .ensures) ∙ c .before .before .before .before .before .before .before .before .before .before .if1 .left)))))
 
 pub same-length-3 : (t : ℕ) → declare-parent-lts.Need-same-length-3 (declare-parent-calls t) (declare-parent-at t) declare-parent.Post
-same-length-3 t c = c .before .before .before .before .declare-class .kept .1 .1 .1 .1 .1 .1 .1 .0
+same-length-3 t c = c .before .before .before .before .declare-class .kept .1 .1 .1 .0
 
 pub same-length-4 : (t : ℕ) → declare-parent-lts.Need-same-length-4 (declare-parent-calls t) (declare-parent-at t) declare-parent.Post
-same-length-4 t c = c .before .before .before .before .declare-class .kept .1 .1 .1 .1 .1 .1 .1 .1 .0
+same-length-4 t c = c .before .before .before .before .declare-class .kept .1 .1 .1 .1 .0
 
 pub returns-4 : (t : ℕ) → declare-parent-lts.Need-returns-4 (declare-parent-calls t) (declare-parent-at t) declare-parent.Post
 returns-4 t c = parent-declares _ _ _ _ (c .before .before .before .before .before .before .before .before .before .before .before .before .before .before .before .before .byte-at .ensures) (c .before .before .before .before .before .before .before .before .before .before .before .before .before .before .before .if1 .left) (c .before .before .before .before .before .before .before .before .before .before .before .before .before .before .two-at .ensures) (c .before .before .before .before .before .before .before .before .before .before .before .before .is-declared .ensures) (c .before .before .before .before .before .before .before .before .before .before .before .if2 .left) (c .before .before .before .before .before .before .before .before .before .if3 .left) (nothing-given _ _ _ refl (c .before .before .before .before .declare-class .ensures))

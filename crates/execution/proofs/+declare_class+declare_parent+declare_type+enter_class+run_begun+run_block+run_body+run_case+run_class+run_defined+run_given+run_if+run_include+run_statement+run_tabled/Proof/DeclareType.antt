@@ -1,4 +1,6 @@
 -- The answers of `declare_type`.
+use Rattle.resources.specs.declared.Filled.the-variants.{Refused}
+use mathlib.Core.Path.{ap}
 use Prim.Native.Nat.{ℕ}
 use Prim.Native.Nat.{suc, _-_}
 use mathlib.Core.Path.{_≡_, _∙_}
@@ -10,34 +12,43 @@ use Rattle.execution.proofs.declare_type.Reads as declare-type
 use Rattle.execution.proofs.+declare_class+declare_parent+declare_type+enter_class+run_begun+run_block+run_body+run_case+run_class+run_defined+run_given+run_if+run_include+run_statement+run_tabled.Lts-declare_type as declare-type-lts
 use Rattle.execution.proofs.+declare_class+declare_parent+declare_type+enter_class+run_begun+run_block+run_body+run_case+run_class+run_defined+run_given+run_if+run_include+run_statement+run_tabled.Proof.Measures.{declare-type-calls, declare-type-at}
 
-pub refusal-requires : (t : ℕ) → declare-type-lts.Need-refusal-requires (declare-type-calls t) (declare-type-at t) declare-type.Post
-refusal-requires t c κs = c .before .before .before .before .before .pre .1 .1 .0 .0
+pub at-requires : (t : ℕ) → declare-type-lts.Need-at-requires (declare-type-calls t) (declare-type-at t) declare-type.Post
+at-requires t c κs = c .before .before .before .before .before .pre .1 .1 .0 .0
 
 pub returns : (t : ℕ) → declare-type-lts.Need-returns (declare-type-calls t) (declare-type-at t) declare-type.Post
 unfolding declarationPlace
-returns t c = λ gs gives alikes. too-deep _ (omega (arith, c .before .if1 .taken)) (c .refusal .ensures)
+returns t c = λ gs gives alikes. too-deep _ (omega (arith, c .before .if1 .taken)) (ap Refused (c .at .ensures))
+
+pub add-end-of : (t : ℕ) → declare-type-lts.Need-add-end-of (declare-type-calls t) (declare-type-at t) declare-type.Post
+add-end-of t c = omega (arith, c .before .before .before .before .before .pre .1 .1 .0 .0)
+
+pub end-of-requires : (t : ℕ) → declare-type-lts.Need-end-of-requires (declare-type-calls t) (declare-type-at t) declare-type.Post
+end-of-requires t c κs = omega (arith, c .before .before .before .before .before .pre .1 .1 .0 .0)
+
+pub end-of-requires-2 : (t : ℕ) → declare-type-lts.Need-end-of-requires-2 (declare-type-calls t) (declare-type-at t) declare-type.Post
+end-of-requires-2 t c κs = omega (arith, c .before .before .before .before .before .before .pre .1 .1 .0 .0)
 
 pub start-type-requires : (t : ℕ) → declare-type-lts.Need-start-type-requires (declare-type-calls t) (declare-type-at t) declare-type.Post
-start-type-requires t c κs = (c .before .before .before .before .before .before .pre .1 .0 .set, c .before .before .before .before .before .before .pre .1 .1)
+start-type-requires t c κs = (c .before .before .before .before .before .before .before .before .before .pre .1 .0 .set, ((c .before .before .before .before .before .before .before .before .before .pre .1 .1 .0 .0, omega (arith, c .before .before .end-of2 .ensures, c .before .before .before .before .before .before .before .before .before .pre .1 .1 .0 .1)), c .before .before .before .before .before .before .before .before .before .pre .1 .1 .1))
 
 pub run-body-requires : (t : ℕ) → declare-type-lts.Need-run-body-requires (declare-type-calls t) (declare-type-at t) declare-type.Post
-run-body-requires t c κs = (omega (arith, c .before .before .before .before .before .before .before .before .before .before .before .before .before .before .before .pre .0, c .before .before .before .before .before .before .before .before .before .before .if1 .left), (able-kept (c .before .before .before .before .before .before .before .before .start-type .ensures .keeps) (c .before .before .before .before .before .before .before .before .start-type .kept .1 .1 .1 .1 .1 .1 .0) (c .before .before .before .before .before .before .before .before .before .before .before .before .before .before .before .pre .1 .0), type-body-stands (c .before .before .before .before .before .before .before .before .start-type .ensures) (c .before .before .before .before .s2 .given .1)))
+run-body-requires t c κs = (omega (arith, c .before .before .before .before .before .before .before .before .before .before .before .before .before .before .before .before .before .before .pre .0, c .before .before .before .before .before .before .before .before .before .before .before .before .before .if1 .left), (able-kept (c .before .before .before .before .before .before .before .before .start-type .ensures .keeps) (c .before .before .before .before .before .before .before .before .start-type .kept .1 .1 .1 .1 .1 .0) (c .before .before .before .before .before .before .before .before .before .before .before .before .before .before .before .before .before .before .pre .1 .0), type-body-stands (c .before .before .before .before .before .before .before .before .start-type .ensures) (c .before .before .before .before .s2 .given .1)))
 
 pub same-length : (t : ℕ) → declare-type-lts.Need-same-length (declare-type-calls t) (declare-type-at t) declare-type.Post
-same-length t c = c .before .before .before .before .before .start-type .kept .1 .1 .1 .1 .1 .1 .0
+same-length t c = c .before .before .before .before .before .start-type .kept .1 .1 .1 .1 .1 .0
 
 pub returns-2 : (t : ℕ) → declare-type-lts.Need-returns-2 (declare-type-calls t) (declare-type-at t) declare-type.Post
 returns-2 t c =
-    let up : c .before .before .before .before .before .before .before .before .before .before .before .before .args .levels ≡ suc (c .before .before .before .before .before .before .before .before .before .before .before .before .args .levels - 1) = omega (arith, c .before .before .before .before .before .before .before .if1 .left) in
-    type-refused (c .before .before .before .before .before .start-type .ensures) up (c .before .s .given .1)
+    let up : c .before .before .before .before .before .before .before .before .before .before .before .before .before .before .before .args .levels ≡ suc (c .before .before .before .before .before .before .before .before .before .before .before .before .before .before .before .args .levels - 1) = omega (arith, c .before .before .before .before .before .before .before .before .before .before .if1 .left) in
+    type-refused _ _ (c .before .before .before .before .before .before .before .before .before .end-of .ensures) (c .before .before .before .before .before .before .before .before .end-of2 .ensures) (c .before .before .before .before .before .before .before .body-context .ensures) (c .before .before .before .before .before .start-type .ensures) up (c .before .s .given .1)
 
 pub same-length-2 : (t : ℕ) → declare-type-lts.Need-same-length-2 (declare-type-calls t) (declare-type-at t) declare-type.Post
-same-length-2 t c = c .before .before .before .before .run-body .kept .1 .1 .0 ∙ c .before .before .before .before .before .before .before .before .before .before .before .before .before .start-type .kept .1 .1 .1 .1 .1 .1 .0
+same-length-2 t c = c .before .before .before .before .run-body .kept .1 .1 .0 ∙ c .before .before .before .before .before .before .before .before .before .before .before .before .before .start-type .kept .1 .1 .1 .1 .1 .0
 
 pub same-length-3 : (t : ℕ) → declare-type-lts.Need-same-length-3 (declare-type-calls t) (declare-type-at t) declare-type.Post
 same-length-3 t c = c .before .before .before .before .run-body .kept .1 .1 .1 .0
 
 pub returns-3 : (t : ℕ) → declare-type-lts.Need-returns-3 (declare-type-calls t) (declare-type-at t) declare-type.Post
 returns-3 t c =
-    let up : c .before .before .before .before .before .before .before .before .before .before .before .before .before .before .before .before .before .before .before .before .args .levels ≡ suc (c .before .before .before .before .before .before .before .before .before .before .before .before .before .before .before .before .before .before .before .before .args .levels - 1) = omega (arith, c .before .before .before .before .before .before .before .before .before .before .before .before .before .before .before .if1 .left) in
-    type-runs-body (c .before .before .before .before .before .before .before .before .before .before .before .before .before .start-type .ensures) up (c .before .before .before .before .before .before .before .before .before .s2 .given .1) (c .before .before .before .before .run-body .ensures)
+    let up : c .before .before .before .before .before .before .before .before .before .before .before .before .before .before .before .before .before .before .before .before .before .before .before .args .levels ≡ suc (c .before .before .before .before .before .before .before .before .before .before .before .before .before .before .before .before .before .before .before .before .before .before .before .args .levels - 1) = omega (arith, c .before .before .before .before .before .before .before .before .before .before .before .before .before .before .before .before .before .before .if1 .left) in
+    type-runs-body _ _ (c .before .before .before .before .before .before .before .before .before .before .before .before .before .before .before .before .before .end-of .ensures) (c .before .before .before .before .before .before .before .before .before .before .before .before .before .before .before .before .end-of2 .ensures) (c .before .before .before .before .before .before .before .before .before .before .before .before .before .before .before .body-context .ensures) (c .before .before .before .before .before .before .before .before .before .before .before .before .before .start-type .ensures) up (c .before .before .before .before .before .before .before .before .before .s2 .given .1) (c .before .before .before .before .run-body .ensures)

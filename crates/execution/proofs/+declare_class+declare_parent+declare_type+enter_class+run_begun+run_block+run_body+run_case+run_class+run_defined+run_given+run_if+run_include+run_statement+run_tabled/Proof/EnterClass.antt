@@ -1,10 +1,9 @@
 -- The answers of `enter_class`.
 use Prim.Native.Nat.{ℕ}
-use Prim.Native.Nat.{_+_}
-use mathlib.Core.Path.{ap, _∙_}
+use mathlib.Core.Path.{_∙_}
 use native.Mathlib.Omega.{arith}
 use Rattle.execution.proofs.Ends.{able-kept}
-use Rattle.execution.proofs.Classes.{own-name, class-near, enter-refused, enter-runs, class-body-stands}
+use Rattle.execution.proofs.Classes.{enter-refused, enter-runs, class-body-stands}
 use Rattle.execution.proofs.enter_class.Reads as enter-class
 use Rattle.execution.proofs.+declare_class+declare_parent+declare_type+enter_class+run_begun+run_block+run_body+run_case+run_class+run_defined+run_given+run_if+run_include+run_statement+run_tabled.Lts-enter_class as enter-class-lts
 use Rattle.execution.proofs.+declare_class+declare_parent+declare_type+enter_class+run_begun+run_block+run_body+run_case+run_class+run_defined+run_given+run_if+run_include+run_statement+run_tabled.Proof.Measures.{enter-class-calls, enter-class-at}
@@ -12,14 +11,8 @@ use Rattle.execution.proofs.+declare_class+declare_parent+declare_type+
 pub start-class-requires : (t : ℕ) → enter-class-lts.Need-start-class-requires (enter-class-calls t) (enter-class-at t) enter-class.Post
 start-class-requires t c κs = (c .before .before .before .before .before .pre .1 .0 .set, c .before .before .before .before .before .pre .1 .1)
 
-pub add-two-at : (t : ℕ) → enter-class-lts.Need-add-two-at (enter-class-calls t) (enter-class-at t) enter-class.Post
-add-two-at t c = omega (arith, class-near (c .before .before .before .before .before .before .before .before .before .before .before .pre .1 .0 .set) (c .before .before .before .before .before .before .before .before .before .before .before .pre .1 .1))
-
-pub add-scope : (t : ℕ) → enter-class-lts.Need-add-scope (enter-class-calls t) (enter-class-at t) enter-class.Post
-add-scope t c = omega (arith, c .two-at .ensures, own-name (c .before .before .before .before .before .before .before .before .before .before .before .before .pre .1 .0 .set) (c .before .before .before .before .before .before .before .before .before .before .before .before .pre .1 .1))
-
 pub run-block-requires : (t : ℕ) → enter-class-lts.Need-run-block-requires (enter-class-calls t) (enter-class-at t) enter-class.Post
-run-block-requires t c κs = (omega (arith, c .before .before .before .before .before .before .before .before .before .before .before .before .before .before .before .pre .0), (able-kept (c .before .before .before .before .before .before .before .before .before .start-class .ensures .keeps) (c .before .before .before .before .before .before .before .before .before .start-class .kept .1 .1 .1 .0) (c .before .before .before .before .before .before .before .before .before .before .before .before .before .before .before .pre .1 .0), class-body-stands (c .before .before .before .before .before .before .before .before .before .start-class .ensures) 0 (c .before .before .before .before .before .s2 .given .1)))
+run-block-requires t c κs = (omega (arith, c .before .before .before .before .before .before .before .before .before .before .before .before .before .before .pre .0), (able-kept (c .before .before .before .before .before .before .before .before .start-class .ensures .keeps) (c .before .before .before .before .before .before .before .before .start-class .kept .1 .1 .1 .0) (c .before .before .before .before .before .before .before .before .before .before .before .before .before .before .pre .1 .0), class-body-stands (c .before .before .before .before .before .before .before .before .start-class .ensures) (c .before .before .before .before .s2 .given .1)))
 
 pub same-length : (t : ℕ) → enter-class-lts.Need-same-length (enter-class-calls t) (enter-class-at t) enter-class.Post
 same-length t c = c .before .before .before .before .before .start-class .kept .1 .1 .1 .0
@@ -28,10 +21,10 @@ pub returns : (t : ℕ) → enter-class-lts.Need-returns (enter-class-calls t) (
 returns t c = enter-refused (c .before .before .before .before .before .start-class .ensures) _ (c .before .s .given .1)
 
 pub same-length-2 : (t : ℕ) → enter-class-lts.Need-same-length-2 (enter-class-calls t) (enter-class-at t) enter-class.Post
-same-length-2 t c = c .before .before .before .before .run-block .kept .1 .1 .1 .0 ∙ c .before .before .before .before .before .before .before .before .before .before .before .before .before .before .start-class .kept .1 .1 .1 .0
+same-length-2 t c = c .before .before .before .before .run-block .kept .1 .1 .1 .0 ∙ c .before .before .before .before .before .before .before .before .before .before .before .before .before .start-class .kept .1 .1 .1 .0
 
 pub same-length-3 : (t : ℕ) → enter-class-lts.Need-same-length-3 (enter-class-calls t) (enter-class-at t) enter-class.Post
 same-length-3 t c = c .before .before .before .before .run-block .kept .1 .1 .1 .1 .0
 
 pub returns-2 : (t : ℕ) → enter-class-lts.Need-returns-2 (enter-class-calls t) (enter-class-at t) enter-class.Post
-returns-2 t c = enter-runs (c .before .before .before .before .before .before .before .before .before .before .before .before .before .before .start-class .ensures) _ (c .before .before .before .before .before .before .before .before .before .before .s2 .given .1) (ap (λ (x : ℕ). 2 + x) (c .before .before .before .before .before .before .before .before .two-at .ensures)) (own-name (c .before .before .before .before .before .before .before .before .before .before .before .before .before .before .before .before .before .before .before .before .pre .1 .0 .set) (c .before .before .before .before .before .before .before .before .before .before .before .before .before .before .before .before .before .before .before .before .pre .1 .1)) (c .before .before .before .before .run-block .ensures)
+returns-2 t c = enter-runs (c .before .before .before .before .before .before .before .before .before .before .before .before .before .start-class .ensures) _ _ (c .before .before .before .before .before .before .before .before .before .s2 .given .1) (c .before .before .before .before .run-block .ensures)

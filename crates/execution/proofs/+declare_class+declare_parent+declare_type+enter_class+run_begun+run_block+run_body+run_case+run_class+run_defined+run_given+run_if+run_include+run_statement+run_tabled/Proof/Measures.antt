@@ -58,7 +58,7 @@ use Rattle.attributes.proofs.evaluate_titled.Reads as evaluate-titled-reads
 use Rattle.cells.proofs.free_scope.Reads as free-scope-reads
 use Rattle.attributes.proofs.has_name_from.Reads as has-name-from-reads
 use Rattle.memory.proofs.is_declared.Reads as is-declared-reads
-use Rattle.execution.proofs.refusal.Reads as refusal-reads
+use Rattle.values.proofs.Refusal.at.Reads as at-reads
 use Rattle.execution.proofs.run_assignment.Reads as run-assignment-reads
 use Rattle.execution.proofs.run_resource.Reads as run-resource-reads
 use Rattle.declarations.proofs.start_class.Reads as start-class-reads
@@ -66,16 +66,17 @@ use Rattle.declarations.proofs.start_type.Reads as start-type-reads
 use Rattle.statements.proofs.test_case.Reads as test-case-reads
 use Rattle.statements.proofs.test_if.Reads as test-if-reads
 use Rattle.wire.proofs.two_at.Reads as two-at-reads
-use Rattle.labels.proofs.Labels.union.Reads as union-reads
+use Rattle.execution.proofs.body_context.Reads as body-context-reads
+use Rattle.execution.proofs.branch_context.Reads as branch-context-reads
 
 abbrev pub μ-declare-class : Measures 5 declare-class-kinds.ps ℕ
-μ-declare-class κs a = a .1 .1 .1 .1 .1 .1 .1 .1 .1 .1 .0 .now + 512 * a .1 .1 .1 .1 .1 .1 .1 .1 .1 .1 .1 .0
+μ-declare-class κs a = a .1 .1 .1 .1 .1 .1 .0 .now + 512 * a .1 .1 .1 .1 .1 .1 .1 .0
 
 abbrev pub μ-declare-parent : Measures 4 declare-parent-kinds.ps ℕ
 μ-declare-parent κs a = a .1 .1 .1 .1 .1 .0 .now + 512 * a .1 .1 .1 .1 .1 .1 .0 + 5
 
 abbrev pub μ-declare-type : Measures 5 declare-type-kinds.ps ℕ
-μ-declare-type κs a = a .1 .1 .1 .1 .1 .1 .1 .1 .1 .0 .now + 512 * a .1 .1 .1 .1 .1 .1 .1 .1 .1 .1 .0
+μ-declare-type κs a = a .1 .1 .1 .1 .1 .1 .1 .0 .now + 512 * a .1 .1 .1 .1 .1 .1 .1 .1 .0
 
 abbrev pub μ-enter-class : Measures 5 enter-class-kinds.ps ℕ
 μ-enter-class κs a = a .1 .1 .1 .1 .1 .1 .0 .now + 512 * a .1 .1 .1 .1 .1 .1 .1 .0 + 256
@@ -204,16 +205,16 @@ abbrev pub run-tabled-below : ℕ → In 5 run-tabled-kinds.ps
 run-tabled-below t = and 5 run-tabled-kinds.ps (falls 5 run-tabled-kinds.ps _<_ μ-run-tabled t) run-tabled.Pre
 
 abbrev pub declare-class-calls : ℕ → declare-class-lts.Claims
-declare-class-calls t = (refusal-reads.Asked, refusal-reads.Learnt, check-class-reads.Asked, check-class-reads.Learnt, declare-parent-below t, declare-parent.Post, is-declared-reads.Asked, is-declared-reads.Learnt, declared-meanwhile-reads.Asked, declared-meanwhile-reads.Learnt, enter-class-below t, enter-class.Post)
+declare-class-calls t = (at-reads.Asked, at-reads.Learnt, check-class-reads.Asked, check-class-reads.Learnt, declare-parent-below t, declare-parent.Post, is-declared-reads.Asked, is-declared-reads.Learnt, declared-meanwhile-reads.Asked, declared-meanwhile-reads.Learnt, enter-class-below t, enter-class.Post)
 
 abbrev pub declare-parent-calls : ℕ → declare-parent-lts.Claims
-declare-parent-calls t = (byte-at-reads.Asked, byte-at-reads.Learnt, two-at-reads.Asked, two-at-reads.Learnt, is-declared-reads.Asked, is-declared-reads.Learnt, refusal-reads.Asked, refusal-reads.Learnt, declare-class-below t, declare-class.Post)
+declare-parent-calls t = (byte-at-reads.Asked, byte-at-reads.Learnt, two-at-reads.Asked, two-at-reads.Learnt, is-declared-reads.Asked, is-declared-reads.Learnt, at-reads.Asked, at-reads.Learnt, declare-class-below t, declare-class.Post)
 
 abbrev pub declare-type-calls : ℕ → declare-type-lts.Claims
-declare-type-calls t = (refusal-reads.Asked, refusal-reads.Learnt, start-type-reads.Asked, start-type-reads.Learnt, run-body-below t, run-body.Post)
+declare-type-calls t = (at-reads.Asked, at-reads.Learnt, end-of-reads.Asked, end-of-reads.Learnt, body-context-reads.Asked, body-context-reads.Learnt, start-type-reads.Asked, start-type-reads.Learnt, run-body-below t, run-body.Post)
 
 abbrev pub enter-class-calls : ℕ → enter-class-lts.Claims
-enter-class-calls t = (start-class-reads.Asked, start-class-reads.Learnt, two-at-reads.Asked, two-at-reads.Learnt, run-block-below t, run-block.Post)
+enter-class-calls t = (start-class-reads.Asked, start-class-reads.Learnt, run-block-below t, run-block.Post)
 
 abbrev pub run-begun-calls : ℕ → run-begun-lts.Claims
 run-begun-calls t = (byte-at-reads.Asked, byte-at-reads.Learnt, run-assignment-reads.Asked, run-assignment-reads.Learnt, run-if-below t, run-if.Post, run-case-below t, run-case.Post, run-resource-reads.Asked, run-resource-reads.Learnt, end-of-reads.Asked, end-of-reads.Learnt, run-given-below t, run-given.Post, run-include-below t, run-include.Post)
@@ -225,25 +226,25 @@ abbrev pub run-body-calls : ℕ → run-body-lts.Claims
 run-body-calls t = (run-block-below t, run-block.Post, free-scope-reads.Asked, free-scope-reads.Learnt)
 
 abbrev pub run-case-calls : ℕ → run-case-lts.Claims
-run-case-calls t = (test-case-reads.Asked, test-case-reads.Learnt, union-reads.Asked, union-reads.Learnt, run-block-below t, run-block.Post)
+run-case-calls t = (test-case-reads.Asked, test-case-reads.Learnt, branch-context-reads.Asked, branch-context-reads.Learnt, run-block-below t, run-block.Post)
 
 abbrev pub run-class-calls : ℕ → run-class-lts.Claims
 run-class-calls t = (end-of-reads.Asked, end-of-reads.Learnt, evaluate-attributes-reads.Asked, evaluate-attributes-reads.Learnt, two-at-reads.Asked, two-at-reads.Learnt, declare-class-below t, declare-class.Post)
 
 abbrev pub run-defined-calls : ℕ → run-defined-lts.Claims
-run-defined-calls t = (evaluate-titled-reads.Asked, evaluate-titled-reads.Learnt, end-of-reads.Asked, end-of-reads.Learnt, declare-type-below t, declare-type.Post)
+run-defined-calls t = (evaluate-titled-reads.Asked, evaluate-titled-reads.Learnt, declare-type-below t, declare-type.Post)
 
 abbrev pub run-given-calls : ℕ → run-given-lts.Claims
 run-given-calls t = (end-of-reads.Asked, end-of-reads.Learnt, has-name-from-reads.Asked, has-name-from-reads.Learnt, run-tabled-below t, run-tabled.Post)
 
 abbrev pub run-if-calls : ℕ → run-if-lts.Claims
-run-if-calls t = (test-if-reads.Asked, test-if-reads.Learnt, chosen-block-reads.Asked, chosen-block-reads.Learnt, union-reads.Asked, union-reads.Learnt, run-block-below t, run-block.Post)
+run-if-calls t = (test-if-reads.Asked, test-if-reads.Learnt, chosen-block-reads.Asked, chosen-block-reads.Learnt, branch-context-reads.Asked, branch-context-reads.Learnt, run-block-below t, run-block.Post)
 
 abbrev pub run-include-calls : ℕ → run-include-lts.Claims
 run-include-calls t = (two-at-reads.Asked, two-at-reads.Learnt, is-declared-reads.Asked, is-declared-reads.Learnt, declare-class-below t, declare-class.Post)
 
 abbrev pub run-statement-calls : ℕ → run-statement-lts.Claims
-run-statement-calls t = (refusal-reads.Asked, refusal-reads.Learnt, run-begun-below t, run-begun.Post)
+run-statement-calls t = (at-reads.Asked, at-reads.Learnt, run-begun-below t, run-begun.Post)
 
 abbrev pub run-tabled-calls : ℕ → run-tabled-lts.Claims
 run-tabled-calls t = (byte-at-reads.Asked, byte-at-reads.Learnt, run-class-below t, run-class.Post, run-defined-below t, run-defined.Post)

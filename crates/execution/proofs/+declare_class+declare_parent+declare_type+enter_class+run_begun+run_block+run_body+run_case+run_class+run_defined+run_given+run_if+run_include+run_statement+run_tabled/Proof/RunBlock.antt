@@ -8,15 +8,15 @@ use mathlib.Core.Path.{_∙_}
 use Rattle.rules.specs.Run.{runBlock, declaration}
 use Rattle.places.specs.At.{blockAt}
 use Rattle.branches.proofs.Standing.{has-level, sibling-here}
-use Rattle.execution.specs.Executed.{Here}
+use Rattle.memory.specs.Contexts.{contextOf}
 use Rattle.execution.proofs.Statements.{sized}
 use Rattle.execution.proofs.Blocks.{ToRun, block-begins, block-ends, block-stops, block-goes-on}
 
 abbrev pub Inv-loop : run-block-lts.InvT-loop
-Inv-loop m depth p work₀ out₀ fill left₀ levels scope base-is-node path end q₀ filled₀ work out left q filled = ToRun m (depth - 1) levels q end work₀ work out₀ out fill filled left₀ left (Here scope base-is-node path) (λ k. runBlock k (declaration k levels) (blockAt m depth p))
+Inv-loop m depth p work₀ out₀ fill left₀ levels here end q₀ filled₀ work out left q filled = ToRun m (depth - 1) levels q end work₀ work out₀ out fill filled left₀ left (contextOf here) (λ k. runBlock k (declaration k levels) (blockAt m depth p))
 
 abbrev pub μ-loop : run-block-lts.MeasureT-loop
-μ-loop m depth p work₀ out₀ fill left₀ levels scope base-is-node path end q₀ filled₀ work out left q filled = end - q
+μ-loop m depth p work₀ out₀ fill left₀ levels here end q₀ filled₀ work out left q filled = end - q
 
 pub end-of-requires : (t : ℕ) → run-block-lts.Need-end-of-requires (run-block-calls t) (run-block-at t) run-block.Post Inv-loop μ-loop
 end-of-requires t c κs = omega (arith, sized (c .before .before .before .pre .1 .0) (c .before .before .before .pre .1 .1 .0) .place)

@@ -13,7 +13,7 @@ pub test-case-requires : (t : ℕ) → run-case-lts.Need-test-case-requires (run
 test-case-requires t c κs = ((sized (c .before .before .before .before .before .pre .1 .0 .0) (c .before .before .before .before .before .pre .1 .0 .1 .0), c .before .before .before .before .before .pre .1 .0 .1 .0), (c .before .before .before .before .before .pre .1 .1, small-statement (c .before .before .before .before .before .pre .1 .0 .0 .set .strings) (c .before .before .before .before .before .pre .1 .0 .1 .0) (c .before .before .before .before .before .pre .1 .0 .1 .1)))
 
 pub sub-run-block : (t : ℕ) → run-case-lts.Need-sub-run-block (run-case-calls t) (run-case-at t) run-case.Post
-sub-run-block t c = case-block (c .before .before .before .before .before .before .before .before .before .before .before .pre .1 .0 .1 .0) (c .before .before .before .before .before .before .before .before .before .before .before .pre .1 .0 .1 .1) (c .before .before .before .before .before .before .before .before .before .before .before .pre .1 .1) (c .before .t2 .given .1) (c .before .before .before .before .before .test-case .ensures .1) .0
+sub-run-block t c = case-block (c .before .before .before .before .before .before .before .before .before .before .before .before .pre .1 .0 .1 .0) (c .before .before .before .before .before .before .before .before .before .before .before .before .pre .1 .0 .1 .1) (c .before .before .before .before .before .before .before .before .before .before .before .before .pre .1 .1) (c .before .before .t2 .given .1) (c .before .before .before .before .before .before .test-case .ensures .1) .0
 
 pub run-block-requires : (t : ℕ) → run-case-lts.Need-run-block-requires (run-case-calls t) (run-case-at t) run-case.Post
 run-block-requires t c κs =
@@ -24,7 +24,7 @@ pub same-length : (t : ℕ) → run-case-lts.Need-same-length (run-case-calls t)
 same-length t c = c .before .before .before .before .before .test-case .kept .1 .1 .1 .0
 
 pub returns : (t : ℕ) → run-case-lts.Need-returns (run-case-calls t) (run-case-at t) run-case.Post
-returns t c = case-refused _ (c .before .before .before .before .before .before .before .before .before .before .before .pre .1 .0 .1 .0) (c .before .before .before .before .before .before .before .before .before .before .before .pre .1 .1) _ (c .before .before .before .before .before .test-case .ensures .0) _ _ _ (c .before .t .given .1)
+returns t c = case-refused _ (c .before .before .before .before .before .before .before .before .before .before .before .pre .1 .0 .1 .0) (c .before .before .before .before .before .before .before .before .before .before .before .pre .1 .1) _ (c .before .before .before .before .before .test-case .ensures .0) _ _ (c .before .t .given .1)
 
 pub same-length-3 : (t : ℕ) → run-case-lts.Need-same-length-3 (run-case-calls t) (run-case-at t) run-case.Post
 same-length-3 t c = c .before .before .before .before .test-case .kept .1 .1 .1 .0
@@ -39,4 +39,4 @@ pub same-length-6 : (t : ℕ) → run-case-lts.Need-same-length-6 (run-case-call
 same-length-6 t c = c .before .before .before .before .run-block .kept .1 .1 .1 .1 .0
 
 pub returns-3 : (t : ℕ) → run-case-lts.Need-returns-3 (run-case-calls t) (run-case-at t) run-case.Post
-returns-3 t c = case-chosen _ (c .before .before .before .before .before .before .before .before .before .before .before .before .before .before .before .before .before .before .before .before .pre .1 .0 .1 .0) (c .before .before .before .before .before .before .before .before .before .before .before .before .before .before .before .before .before .before .before .before .pre .1 .1) _ (c .before .before .before .before .before .before .before .before .before .before .before .before .before .before .test-case .ensures .0) (c .before .before .before .before .before .before .before .before .before .before .t2 .given .1) refl (c .before .before .before .before .before .union .ensures) (c .before .before .before .before .run-block .ensures)
+returns-3 t c = case-chosen _ (c .before .before .before .before .before .before .before .before .before .before .before .before .before .before .before .before .before .before .before .before .pre .1 .0 .1 .0) (c .before .before .before .before .before .before .before .before .before .before .before .before .before .before .before .before .before .before .before .before .pre .1 .1) _ (c .before .before .before .before .before .before .before .before .before .before .before .before .before .before .test-case .ensures .0) (c .before .before .before .before .before .before .before .before .before .before .t2 .given .1) refl (c .before .before .before .before .before .before .before .before .branch-context .ensures) (c .before .before .before .before .run-block .ensures)

@@ -17,35 +17,35 @@ pub end-of-requires : (t : ℕ) → run-class-lts.Need-end-of-requires (run-clas
 end-of-requires t c κs = omega (arith, header-within (c .before .before .before .before .pre .1 .0 .1 .0 .stands), c .before .before .before .before .pre .1 .0 .0 .set .manifest)
 
 pub sub-evaluate-attributes : (t : ℕ) → run-class-lts.Need-sub-evaluate-attributes (run-class-calls t) (run-class-at t) run-class.Post
-sub-evaluate-attributes t c = omega (arith, level (c .before .before .before .before .before .pre .1 .0 .1 .0 .stands))
+sub-evaluate-attributes t c = omega (arith, level (c .before .before .before .before .before .before .pre .1 .0 .1 .0 .stands))
 
 pub evaluate-attributes-requires : (t : ℕ) → run-class-lts.Need-evaluate-attributes-requires (run-class-calls t) (run-class-at t) run-class.Post
 evaluate-attributes-requires t c κs =
-    let pre = c .before .before .before .before .before .before .before .before .pre .1 in
-    ((resized (sized (pre .0 .0) (pre .0 .1 .0)) (omega (arith, c .before .before .before .end-of .ensures, pre .0 .1 .0 .stands .ends, pre .0 .0 .set .manifest)), class-attributes (pre .0 .1 .0) (pre .1 .0) (c .before .before .before .end-of .ensures)), fresh-class (pre .1 .0) (c .before .before .before .end-of .ensures) (pre .1 .1))
+    let pre = c .before .before .before .before .before .before .before .before .before .pre .1 in
+    ((resized (sized (pre .0 .0) (pre .0 .1 .0)) (omega (arith, c .before .before .before .before .end-of .ensures, pre .0 .1 .0 .stands .ends, pre .0 .0 .set .manifest)), class-attributes (pre .0 .1 .0) (pre .1 .0) (c .before .before .before .before .end-of .ensures)), fresh-class (pre .1 .0) (c .before .before .before .before .end-of .ensures) (pre .1 .1))
 
 pub add-two-at : (t : ℕ) → run-class-lts.Need-add-two-at (run-class-calls t) (run-class-at t) run-class.Post
-add-two-at t c = omega (arith, header-within (c .before .before .before .before .before .before .before .before .before .before .before .before .before .pre .1 .0 .1 .0 .stands), c .before .before .before .before .before .before .before .before .before .before .before .before .before .pre .1 .0 .0 .set .manifest)
+add-two-at t c = omega (arith, header-within (c .before .before .before .before .before .before .before .before .before .before .before .before .before .before .pre .1 .0 .1 .0 .stands), c .before .before .before .before .before .before .before .before .before .before .before .before .before .before .pre .1 .0 .0 .set .manifest)
 
 pub declare-class-requires : (t : ℕ) → run-class-lts.Need-declare-class-requires (run-class-calls t) (run-class-at t) run-class.Post
 declare-class-requires t c κs =
-    let pre = c .before .before .before .before .before .before .before .before .before .before .before .before .before .before .before .before .before .before .pre .1 in
-    (omega (arith, c .before .before .before .before .before .before .before .before .before .before .before .before .before .before .before .before .before .before .pre .0), (pre .0 .0, ((omega (arith, header-within (pre .0 .1 .0 .stands), pre .0 .0 .set .manifest), omega (arith, c .before .before .before .before .before .before .before .before .before .before .before .before .before .end-of .ensures, pre .0 .1 .0 .stands .ends, pre .0 .0 .set .manifest)), omega (arith, c .before .before .before .before .two-at .ensures, class-name (pre .0 .0 .set) (pre .0 .1 .0) (pre .1 .0) (pre .0 .1 .1)))))
+    let pre = c .before .before .before .before .before .before .before .before .before .before .before .before .before .before .before .before .before .before .before .pre .1 in
+    (omega (arith, c .before .before .before .before .before .before .before .before .before .before .before .before .before .before .before .before .before .before .before .pre .0), (pre .0 .0, ((omega (arith, header-within (pre .0 .1 .0 .stands), pre .0 .0 .set .manifest), omega (arith, c .before .before .before .before .before .before .before .before .before .before .before .before .before .before .end-of .ensures, pre .0 .1 .0 .stands .ends, pre .0 .0 .set .manifest)), omega (arith, c .before .before .before .before .two-at .ensures, class-name (pre .0 .0 .set) (pre .0 .1 .0) (pre .1 .0) (pre .0 .1 .1)))))
 
 pub same-length-3 : (t : ℕ) → run-class-lts.Need-same-length-3 (run-class-calls t) (run-class-at t) run-class.Post
-same-length-3 t c = c .before .before .before .before .before .evaluate-attributes .kept .1 .1 .1 .1 .1 .1 .1 .1 .1 .0
+same-length-3 t c = c .before .before .before .before .before .evaluate-attributes .kept .1 .1 .1 .1 .1 .1 .1 .0
 
 pub returns : (t : ℕ) → run-class-lts.Need-returns (run-class-calls t) (run-class-at t) run-class.Post
-returns t c = class-refused (c .before .before .before .before .before .before .before .before .before .before .before .before .before .before .pre .1 .0 .1 .0) (c .before .before .before .before .before .before .before .before .before .before .before .before .before .before .pre .1 .1 .0) _ (c .before .before .before .before .before .before .before .before .before .end-of .ensures) (c .before .before .before .before .before .evaluate-attributes .ensures) (c .before .g .given .1)
+returns t c = class-refused (c .before .before .before .before .before .before .before .before .before .before .before .before .before .before .before .pre .1 .0 .1 .0) (c .before .before .before .before .before .before .before .before .before .before .before .before .before .before .before .pre .1 .1 .0) _ (c .before .before .before .before .before .before .before .before .before .before .end-of .ensures) (c .before .before .before .before .before .evaluate-attributes .ensures) (c .before .g .given .1)
 
 pub same-length-4 : (t : ℕ) → run-class-lts.Need-same-length-4 (run-class-calls t) (run-class-at t) run-class.Post
-same-length-4 t c = c .before .before .before .before .declare-class .kept .1 .1 .1 .1 .1 .1 .1 .0
+same-length-4 t c = c .before .before .before .before .declare-class .kept .1 .1 .1 .0
 
 pub same-length-5 : (t : ℕ) → run-class-lts.Need-same-length-5 (run-class-calls t) (run-class-at t) run-class.Post
-same-length-5 t c = c .before .before .before .before .declare-class .kept .1 .1 .1 .1 .1 .1 .1 .1 .0
+same-length-5 t c = c .before .before .before .before .declare-class .kept .1 .1 .1 .1 .0
 
 pub same-length-6 : (t : ℕ) → run-class-lts.Need-same-length-6 (run-class-calls t) (run-class-at t) run-class.Post
-same-length-6 t c = c .before .before .before .before .before .before .before .before .before .before .before .before .before .before .evaluate-attributes .kept .1 .1 .1 .1 .1 .1 .1 .1 .1 .0
+same-length-6 t c = c .before .before .before .before .before .before .before .before .before .before .before .before .before .before .evaluate-attributes .kept .1 .1 .1 .1 .1 .1 .1 .0
 
 pub returns-2 : (t : ℕ) → run-class-lts.Need-returns-2 (run-class-calls t) (run-class-at t) run-class.Post
-returns-2 t c = class-declares (c .before .before .before .before .before .before .before .before .before .before .before .before .before .before .before .before .before .before .before .before .before .before .before .pre .1 .0 .1 .0) (c .before .before .before .before .before .before .before .before .before .before .before .before .before .before .before .before .before .before .before .before .before .before .before .pre .1 .1 .0) _ (c .before .before .before .before .before .before .before .before .before .before .before .before .before .before .before .before .before .before .end-of .ensures) (c .before .before .before .before .before .before .before .before .before .before .before .before .before .before .evaluate-attributes .ensures) (c .before .before .before .before .before .before .before .before .before .before .enum-told .given .1) (c .before .before .before .before .before .before .before .before .before .two-at .ensures) (c .before .before .before .before .declare-class .ensures)
+returns-2 t c = class-declares (c .before .before .before .before .before .before .before .before .before .before .before .before .before .before .before .before .before .before .before .before .before .before .before .before .pre .1 .0 .1 .0) (c .before .before .before .before .before .before .before .before .before .before .before .before .before .before .before .before .before .before .before .before .before .before .before .before .pre .1 .1 .0) _ (c .before .before .before .before .before .before .before .before .before .before .before .before .before .before .before .before .before .before .before .end-of .ensures) (c .before .before .before .before .before .before .before .before .before .before .before .before .before .before .evaluate-attributes .ensures) (c .before .before .before .before .before .before .before .before .before .before .enum-told .given .1) (c .before .before .before .before .before .before .before .before .before .two-at .ensures) (c .before .before .before .before .declare-class .ensures)

@@ -11,37 +11,28 @@ use Rattle.execution.proofs.+declare_class+declare_parent+declare_type+
 
 pub evaluate-titled-requires : (t : ℕ) → run-defined-lts.Need-evaluate-titled-requires (run-defined-calls t) (run-defined-at t) run-defined.Post
 evaluate-titled-requires t c κs =
-    let pre = c .before .before .before .before .before .before .before .pre .1 in
+    let pre = c .before .before .before .before .before .before .before .before .pre .1 in
     (((sized (pre .0 .0) (pre .0 .1 .0), pre .0 .1 .0), pre .1 .0), fresh-defined (pre .1 .0) (pre .1 .1))
-
-pub add-end-of : (t : ℕ) → run-defined-lts.Need-add-end-of (run-defined-calls t) (run-defined-at t) run-defined.Post
-add-end-of t c = omega (arith, header-within (c .before .before .before .before .before .before .before .before .before .before .before .before .before .pre .1 .0 .1 .0 .stands), c .before .before .before .before .before .before .before .before .before .before .before .before .before .pre .1 .0 .0 .set .manifest)
-
-pub end-of-requires : (t : ℕ) → run-defined-lts.Need-end-of-requires (run-defined-calls t) (run-defined-at t) run-defined.Post
-end-of-requires t c κs = omega (arith, header-within (c .before .before .before .before .before .before .before .before .before .before .before .before .before .pre .1 .0 .1 .0 .stands), c .before .before .before .before .before .before .before .before .before .before .before .before .before .pre .1 .0 .0 .set .manifest)
-
-pub end-of-requires-2 : (t : ℕ) → run-defined-lts.Need-end-of-requires-2 (run-defined-calls t) (run-defined-at t) run-defined.Post
-end-of-requires-2 t c κs = omega (arith, header-within (c .before .before .before .before .before .before .before .before .before .before .before .before .before .before .pre .1 .0 .1 .0 .stands), c .before .before .before .before .before .before .before .before .before .before .before .before .before .before .pre .1 .0 .0 .set .manifest)
 
 pub declare-type-requires : (t : ℕ) → run-defined-lts.Need-declare-type-requires (run-defined-calls t) (run-defined-at t) run-defined.Post
 declare-type-requires t c κs =
-    let pre = c .before .before .before .before .before .before .before .before .before .before .before .before .before .before .before .before .before .before .before .pre .1 in
-    (omega (arith, c .before .before .before .before .before .before .before .before .before .before .before .before .before .before .before .before .before .before .before .pre .0), (pre .0 .0, ((omega (arith, header-within (pre .0 .1 .0 .stands), pre .0 .0 .set .manifest), omega (arith, c .before .before .before .before .end-of2 .ensures, pre .0 .1 .0 .stands .ends, pre .0 .0 .set .manifest)), defined-name (pre .0 .0 .set) (pre .0 .1 .0) (pre .1 .0) (pre .0 .1 .1))))
+    let pre = c .before .before .before .before .before .before .before .before .before .before .before .before .before .before .before .before .before .before .pre .1 in
+    (omega (arith, c .before .before .before .before .before .before .before .before .before .before .before .before .before .before .before .before .before .before .pre .0), (pre .0 .0, ((omega (arith, header-within (pre .0 .1 .0 .stands), pre .0 .0 .set .manifest), omega (arith, pre .0 .1 .0 .stands .ends, pre .0 .0 .set .manifest)), defined-name (pre .0 .0 .set) (pre .0 .1 .0) (pre .1 .0) (pre .0 .1 .1))))
 
 pub same-length-3 : (t : ℕ) → run-defined-lts.Need-same-length-3 (run-defined-calls t) (run-defined-at t) run-defined.Post
-same-length-3 t c = c .before .before .before .before .before .evaluate-titled .kept .1 .1 .1 .1 .1 .1 .1 .1 .0
+same-length-3 t c = c .before .before .before .before .before .evaluate-titled .kept .1 .1 .1 .1 .1 .1 .1 .0
 
 pub returns : (t : ℕ) → run-defined-lts.Need-returns (run-defined-calls t) (run-defined-at t) run-defined.Post
-returns t c = defined-refused (c .before .before .before .before .before .before .before .before .before .before .before .before .before .pre .1 .0 .1 .0) (c .before .before .before .before .before .before .before .before .before .before .before .before .before .pre .1 .1 .0) _ (c .before .before .before .before .before .evaluate-titled .ensures) (c .before .t .given .1)
+returns t c = defined-refused (c .before .before .before .before .before .before .before .before .before .before .before .before .before .before .pre .1 .0 .1 .0) (c .before .before .before .before .before .before .before .before .before .before .before .before .before .before .pre .1 .1 .0) _ (c .before .before .before .before .before .evaluate-titled .ensures) (c .before .t .given .1)
 
 pub same-length-4 : (t : ℕ) → run-defined-lts.Need-same-length-4 (run-defined-calls t) (run-defined-at t) run-defined.Post
-same-length-4 t c = c .before .before .before .before .declare-type .kept .1 .1 .1 .1 .1 .1 .0
+same-length-4 t c = c .before .before .before .before .declare-type .kept .1 .1 .1 .1 .0
 
 pub same-length-5 : (t : ℕ) → run-defined-lts.Need-same-length-5 (run-defined-calls t) (run-defined-at t) run-defined.Post
-same-length-5 t c = c .before .before .before .before .declare-type .kept .1 .1 .1 .1 .1 .1 .1 .0
+same-length-5 t c = c .before .before .before .before .declare-type .kept .1 .1 .1 .1 .1 .0
 
 pub same-length-6 : (t : ℕ) → run-defined-lts.Need-same-length-6 (run-defined-calls t) (run-defined-at t) run-defined.Post
-same-length-6 t c = c .before .before .before .before .before .before .before .before .before .before .before .before .before .before .before .before .evaluate-titled .kept .1 .1 .1 .1 .1 .1 .1 .1 .0
+same-length-6 t c = c .before .before .before .before .before .before .before .before .before .before .before .before .before .before .evaluate-titled .kept .1 .1 .1 .1 .1 .1 .1 .0
 
 pub returns-2 : (t : ℕ) → run-defined-lts.Need-returns-2 (run-defined-calls t) (run-defined-at t) run-defined.Post
-returns-2 t c = defined-declares (c .before .before .before .before .before .before .before .before .before .before .before .before .before .before .before .before .before .before .before .before .before .before .before .before .pre .1 .0 .1 .0) (c .before .before .before .before .before .before .before .before .before .before .before .before .before .before .before .before .before .before .before .before .before .before .before .before .pre .1 .1 .0) _ (c .before .before .before .before .before .before .before .before .before .before .before .before .before .before .before .before .evaluate-titled .ensures) (c .before .before .before .before .before .before .before .before .before .before .before .before .t2 .given .1) (c .before .before .before .before .before .before .before .before .before .before .end-of .ensures) (c .before .before .before .before .before .before .before .before .before .end-of2 .ensures) (c .before .before .before .before .declare-type .ensures)
+returns-2 t c = defined-declares (c .before .before .before .before .before .before .before .before .before .before .before .before .before .before .before .before .before .before .before .before .before .before .before .pre .1 .0 .1 .0) (c .before .before .before .before .before .before .before .before .before .before .before .before .before .before .before .before .before .before .before .before .before .before .before .pre .1 .1 .0) _ (c .before .before .before .before .before .before .before .before .before .before .before .before .before .before .evaluate-titled .ensures) (c .before .before .before .before .before .before .before .before .before .before .t2 .given .1) (c .before .before .before .before .declare-type .ensures)

@@ -14,7 +14,7 @@ pub test-if-requires : (t : ℕ) → run-if-lts.Need-test-if-requires (run-if-ca
 test-if-requires t c κs = ((sized (c .before .before .before .before .before .pre .1 .0 .0) (c .before .before .before .before .before .pre .1 .0 .1 .0), c .before .before .before .before .before .pre .1 .0 .1 .0), (c .before .before .before .before .before .pre .1 .1, small-statement (c .before .before .before .before .before .pre .1 .0 .0 .set .strings) (c .before .before .before .before .before .pre .1 .0 .1 .0) (c .before .before .before .before .before .pre .1 .0 .1 .1)))
 
 pub sub-run-block : (t : ℕ) → run-if-lts.Need-sub-run-block (run-if-calls t) (run-if-at t) run-if.Post
-sub-run-block t c = omega (arith, has-level (c .before .before .before .before .before .before .before .before .before .before .before .pre .1 .0 .1 .0))
+sub-run-block t c = omega (arith, has-level (c .before .before .before .before .before .before .before .before .before .before .before .before .before .pre .1 .0 .1 .0))
 
 pub chosen-block-requires : (t : ℕ) → run-if-lts.Need-chosen-block-requires (run-if-calls t) (run-if-at t) run-if.Post
 chosen-block-requires t c κs = if-place (c .before .before .before .before .before .before .before .before .before .before .before .pre .1 .0 .0) (c .before .before .before .before .before .before .before .before .before .before .before .pre .1 .0 .1 .0) (c .before .before .before .before .before .before .before .before .before .before .before .pre .1 .1)
@@ -26,7 +26,7 @@ pub same-length : (t : ℕ) → run-if-lts.Need-same-length (run-if-calls t) (ru
 same-length t c = c .before .before .before .before .before .test-if .kept .1 .1 .1 .0
 
 pub returns : (t : ℕ) → run-if-lts.Need-returns (run-if-calls t) (run-if-at t) run-if.Post
-returns t c = if-refused _ (c .before .before .before .before .before .before .before .before .before .before .before .pre .1 .0 .1 .0) (c .before .before .before .before .before .before .before .before .before .before .before .pre .1 .1) _ (c .before .before .before .before .before .test-if .ensures) _ _ _ (c .before .t .given .1)
+returns t c = if-refused _ (c .before .before .before .before .before .before .before .before .before .before .before .pre .1 .0 .1 .0) (c .before .before .before .before .before .before .before .before .before .before .before .pre .1 .1) _ (c .before .before .before .before .before .test-if .ensures) _ _ (c .before .t .given .1)
 
 pub same-length-3 : (t : ℕ) → run-if-lts.Need-same-length-3 (run-if-calls t) (run-if-at t) run-if.Post
 same-length-3 t c = c .before .before .before .before .run-block .kept .1 .1 .1 .0 ∙ c .before .before .before .before .before .before .before .before .before .before .before .before .before .before .before .test-if .kept .1 .1 .1 .0
@@ -35,4 +35,4 @@ pub same-length-4 : (t : ℕ) → run-if-lts.Need-same-length-4 (run-if-calls t)
 same-length-4 t c = c .before .before .before .before .run-block .kept .1 .1 .1 .1 .0
 
 pub returns-2 : (t : ℕ) → run-if-lts.Need-returns-2 (run-if-calls t) (run-if-at t) run-if.Post
-returns-2 t c = if-goes-on _ (c .before .before .before .before .before .before .before .before .before .before .before .before .before .before .before .before .before .before .before .before .before .pre .1 .0 .1 .0) (c .before .before .before .before .before .before .before .before .before .before .before .before .before .before .before .before .before .before .before .before .before .pre .1 .1) _ (c .before .before .before .before .before .before .before .before .before .before .before .before .before .before .before .test-if .ensures) (c .before .before .before .before .before .before .before .before .before .before .before .t2 .given .1) (c .before .before .before .before .before .before .before .before .before .chosen-block .ensures) (c .before .before .before .before .before .union .ensures) (c .before .before .before .before .run-block .ensures)
+returns-2 t c = if-goes-on _ (c .before .before .before .before .before .before .before .before .before .before .before .before .before .before .before .before .before .before .before .before .before .pre .1 .0 .1 .0) (c .before .before .before .before .before .before .before .before .before .before .before .before .before .before .before .before .before .before .before .before .before .pre .1 .1) _ (c .before .before .before .before .before .before .before .before .before .before .before .before .before .before .before .test-if .ensures) (c .before .before .before .before .before .before .before .before .before .before .before .t2 .given .1) (c .before .before .before .before .before .before .before .before .before .chosen-block .ensures) (c .before .before .before .before .before .before .before .before .branch-context .ensures) (c .before .before .before .before .run-block .ensures)

@@ -29,10 +29,10 @@ pub declare-class-requires : (t : ℕ) → run-include-lts.Need-declare-class-re
 declare-class-requires t c κs = (omega (arith, c .before .before .before .before .before .before .before .before .before .before .before .pre .0), (c .before .before .before .before .before .before .before .before .before .before .before .pre .1 .0, ((omega (arith, c .before .before .before .before .before .before .before .before .before .before .before .pre .1 .1 .0), omega arith), omega (arith, c .before .before .before .before .before .before .before .two-at .ensures, c .before .before .before .before .before .before .before .before .before .before .before .pre .1 .1 .1))))
 
 pub same-length-2 : (t : ℕ) → run-include-lts.Need-same-length-2 (run-include-calls t) (run-include-at t) run-include.Post
-same-length-2 t c = c .before .before .before .before .declare-class .kept .1 .1 .1 .1 .1 .1 .1 .0
+same-length-2 t c = c .before .before .before .before .declare-class .kept .1 .1 .1 .0
 
 pub same-length-3 : (t : ℕ) → run-include-lts.Need-same-length-3 (run-include-calls t) (run-include-at t) run-include.Post
-same-length-3 t c = c .before .before .before .before .declare-class .kept .1 .1 .1 .1 .1 .1 .1 .1 .0
+same-length-3 t c = c .before .before .before .before .declare-class .kept .1 .1 .1 .1 .0
 
 pub returns-2 : (t : ℕ) → run-include-lts.Need-returns-2 (run-include-calls t) (run-include-at t) run-include.Post
 returns-2 t c = include-declares _ _ _ _ (c .before .before .before .before .before .before .before .before .before .before .before .before .two-at .ensures) (c .before .before .before .before .before .before .before .before .before .before .is-declared .ensures) (c .before .before .before .before .before .before .before .before .before .if1 .left) (nothing-given _ _ _ refl (c .before .before .before .before .declare-class .ensures))

@@ -1,4 +1,6 @@
 -- The answers of `run_statement`.
+use Rattle.resources.specs.declared.Filled.the-variants.{Refused}
+use mathlib.Core.Path.{ap}
 use Prim.Native.Nat.{ℕ}
 use native.Mathlib.Omega.{arith}
 use Rattle.execution.proofs.run_statement.Reads as run-statement
@@ -6,11 +8,11 @@ use Rattle.execution.proofs.+declare_class+declare_parent+declare_type+
 use Rattle.execution.proofs.+declare_class+declare_parent+declare_type+enter_class+run_begun+run_block+run_body+run_case+run_class+run_defined+run_given+run_if+run_include+run_statement+run_tabled.Proof.Measures.{run-statement-calls, run-statement-at}
 use Rattle.execution.proofs.Statements.{sized, no-step, step-taken}
 
-pub refusal-requires : (t : ℕ) → run-statement-lts.Need-refusal-requires (run-statement-calls t) (run-statement-at t) run-statement.Post
-refusal-requires t c κs = sized (c .before .before .before .before .before .pre .1 .0) (c .before .before .before .before .before .pre .1 .1 .0) .place
+pub at-requires : (t : ℕ) → run-statement-lts.Need-at-requires (run-statement-calls t) (run-statement-at t) run-statement.Post
+at-requires t c κs = sized (c .before .before .before .before .before .pre .1 .0) (c .before .before .before .before .before .pre .1 .1 .0) .place
 
 pub returns : (t : ℕ) → run-statement-lts.Need-returns (run-statement-calls t) (run-statement-at t) run-statement.Post
-returns t c = no-step _ _ _ (omega (arith, c .before .if1 .taken)) (c .refusal .ensures)
+returns t c = no-step _ _ _ (omega (arith, c .before .if1 .taken)) (ap Refused (c .at .ensures))
 
 pub sub-left : (t : ℕ) → run-statement-lts.Need-sub-left (run-statement-calls t) (run-statement-at t) run-statement.Post
 sub-left t c = omega (arith, c .if1 .left)

@@ -17,7 +17,7 @@ pub same-length-2 : (t : ℕ) → run-tabled-lts.Need-same-length-2 (run-tabled-
 same-length-2 t c = c .before .before .before .before .before .before .run-class .kept .1 .1 .1 .1 .0
 
 pub same-length-3 : (t : ℕ) → run-tabled-lts.Need-same-length-3 (run-tabled-calls t) (run-tabled-at t) run-tabled.Post
-same-length-3 t c = c .before .before .before .before .before .before .run-class .kept .1 .1 .1 .1 .1 .1 .1 .1 .1 .1 .1 .0
+same-length-3 t c = c .before .before .before .before .before .before .run-class .kept .1 .1 .1 .1 .1 .1 .1 .1 .1 .0
 
 pub returns : (t : ℕ) → run-tabled-lts.Need-returns (run-tabled-calls t) (run-tabled-at t) run-tabled.Post
 returns t c = c .before .before .before .before .before .before .run-class .ensures
@@ -32,7 +32,7 @@ pub same-length-5 : (t : ℕ) → run-tabled-lts.Need-same-length-5 (run-tabled-
 same-length-5 t c = c .before .before .before .before .before .before .run-defined .kept .1 .1 .1 .1 .0
 
 pub same-length-6 : (t : ℕ) → run-tabled-lts.Need-same-length-6 (run-tabled-calls t) (run-tabled-at t) run-tabled.Post
-same-length-6 t c = c .before .before .before .before .before .before .run-defined .kept .1 .1 .1 .1 .1 .1 .1 .1 .1 .1 .1 .0
+same-length-6 t c = c .before .before .before .before .before .before .run-defined .kept .1 .1 .1 .1 .1 .1 .1 .1 .1 .0
 
 pub returns-2 : (t : ℕ) → run-tabled-lts.Need-returns-2 (run-tabled-calls t) (run-tabled-at t) run-tabled.Post
 returns-2 t c = c .before .before .before .before .before .before .run-defined .ensures

@@ -61,7 +61,13 @@ same-length : tie.Need-same-length Inv-loop μ-loop
 same-length c = writing-length _ _ _ _ _ (c .before .loop .inv)
 
 returns : tie.Need-returns Inv-loop μ-loop
-returns c = (writing-done _ _ _ _ _ (c .before .loop .inv) _ (omega (arith, c .before .before .before .least .ensures, c .before .before .least2 .ensures)) (c .loop-test .left), counts _ _ (omega (arith, c .before .before .least2 .ensures, c .before .loop .inv .within, writing-length _ _ _ _ _ (c .before .loop .inv))))
+returns c = (
+  writing-done _ _ _ _ _ (c .before .loop .inv) _ (omega (arith, c .before .before .before .least .ensures, c .before .before .least2 .ensures)) (c .loop-test .left),
+  (
+    counts _ _ (omega (arith, c .before .before .least2 .ensures, c .before .loop .inv .within, writing-length _ _ _ _ _ (c .before .loop .inv))),
+    omega (arith, c .before .before .before .least .ensures, c .before .before .least2 .ensures, c .before .loop .inv .within, c .loop-test .left),
+  ),
+)
 
 pub put-hex-spec : {M : Type 1} → statement M
 put-hex-spec =

@@ -1,0 +1,47 @@
+// Where everything stands in the working memory; no other file of code has an offset of it (specs/Layout.antt says the same for proofs).
+
+// How many slots there are. Their states come first, one byte each.
+pub const SLOTS: usize = 512;
+
+// The slots' keys: scope number 2 bytes, name 2 bytes.
+pub const KEYS: usize = 512;
+
+pub const KEY_NAME: usize = 2;
+
+pub const KEY_SIZE: usize = 4;
+
+// The slots' bodies: the record of the value, 48 bytes, and the mark, 32.
+pub const BODIES: usize = 2560;
+
+pub const BODY_MARK: usize = 48;
+
+pub const BODY_SIZE: usize = 80;
+
+// The trail: 32 bytes.
+pub const TRAIL: usize = 43520;
+
+// The records of the 1,024 names: chain's head 2 bytes, definition's place 2, class 1, built-in 1, parent's scope number 2.
+pub const NAMES: usize = 43552;
+
+pub const NAME_DEFINITION: usize = 2;
+
+pub const NAME_CLASS: usize = 4;
+
+pub const NAME_BUILT_IN: usize = 5;
+
+pub const NAME_PARENT: usize = 6;
+
+pub const NAME_SIZE: usize = 8;
+
+// The slots' links: 2 bytes each.
+pub const LINKS: usize = 51744;
+
+pub const LINK_SIZE: usize = 2;
+
+// Sixteen words of 2 bytes, each one more than a number, or 0 for none. The first is for the string "title"; nothing uses the others yet.
+pub const WORDS: usize = 52768;
+
+pub const TITLE: usize = WORDS;
+
+// From here on nothing is kept.
+pub const FREE: usize = 52800;

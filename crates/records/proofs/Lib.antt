@@ -1,0 +1,4 @@
+pub mod Values
+pub mod Ranges
+pub mod Laws
+mod Ways

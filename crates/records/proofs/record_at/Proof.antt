@@ -1,0 +1,38 @@
+-- `record_at`: nothing, or the value.
+use borrow.Author.Needs.{needs}
+use Rattle.records.proofs.Ways.{read-nothing, read-value}
+use Rattle.records.proofs.record_at.Statement.{statement}
+use Rattle.records.proofs.record_at.Tie as tie
+
+add-byte-at : tie.Need-add-byte-at
+add-byte-at c = search needs
+
+byte-at-requires : tie.Need-byte-at-requires
+byte-at-requires c κs = search needs
+
+returns : tie.Need-returns
+returns c = read-nothing _ _ (c .before .byte-at .ensures) (c .if1 .taken)
+
+value-at-requires : tie.Need-value-at-requires
+value-at-requires c κs = search needs
+
+add-read-at : tie.Need-add-read-at
+add-read-at c = search needs
+
+read-at-requires : tie.Need-read-at-requires
+read-at-requires c κs = search needs
+
+returns-2 : tie.Need-returns-2
+returns-2 c = read-value _ _ (c .before .before .before .byte-at .ensures) (c .before .before .if1 .left) (c .before .value-at .ensures) (c .read-at .ensures)
+
+pub record-at-spec : {M : Type 1} → statement M
+record-at-spec =
+    tie.close
+    (tie.spec
+    add-byte-at
+    byte-at-requires
+    returns
+    value-at-requires
+    add-read-at
+    read-at-requires
+    returns-2)

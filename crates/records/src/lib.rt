@@ -1,0 +1,106 @@
+// A labelled value in 48 bytes, as the cells and the table of given values keep it: payload 8 bytes, source 2, key 2, kind 1, spare 3, set 32.
+// A store writes all of them: source, key and spare as zeros, which nothing reads yet.
+ghost use mathlib.Core.Path.{_≡_};
+ghost use Prim.Native.Nat.{_+_, _≤_};
+ghost use Rattle.wire.specs.Numbers.{highBytes};
+ghost use Rattle.wire.specs.Runs.{over};
+ghost use Rattle.records.specs.Record.{kindAt, kindOf, payloadOf, valueFrom, wordAt, recordBytes, recordIn, isEmpty, heldOf};
+use labels::Labels;
+use values::Labelled;
+use values::Value;
+
+// How many bytes a record has.
+pub const SIZE: usize = 48;
+
+// Where source and key stand in it, before the kind.
+const SOURCE: usize = 8;
+
+// The kind; 0 where the record holds nothing.
+const KIND: usize = 12;
+
+const SET: usize = 16;
+
+// What a record holds.
+pub enum Held {
+    Empty,
+    Holds(Labelled),
+}
+
+// ---- Values by kind and payload
+
+fn kind_of(value: Value) -> u8
+    ensures { λ r. ⌜ r ≡ kindOf value ⌝ }
+{
+    match value {
+        Value::Integer(_) => 2,
+        Value::String(_) => 3,
+        Value::Boolean(_) => 4,
+    }
+}
+
+fn put_payload(bytes: &mut [u8], at: usize, value: Value)
+    ensures { λ _. ⌜ now (bytes .exit) ≡ over (now (bytes .entry)) at (highBytes 8 (payloadOf value)) ⌝ }
+{
+    match value {
+        Value::Integer(z) => wire::put_signed(bytes, at, z),
+        Value::String(n) => wire::put_number(bytes, at, n as u64, 8),
+        Value::Boolean(b) => wire::put_number(bytes, at, b as u64, 8),
+    }
+}
+
+fn value_at(bytes: &[u8], kind: u8, at: usize) -> Value
+    ensures { λ r. ⌜ r ≡ valueFrom kind (wordAt (now (bytes .entry)) at) ⌝ }
+{
+    if kind == 2 {
+        return Value::Integer(wire::signed_at(bytes, at));
+    }
+    let payload = wire::number_at(bytes, at);
+    if kind == 3 {
+        return Value::String((payload % 65536) as u16);
+    }
+    Value::Boolean(payload == 1)
+}
+
+// ---- Records
+
+// What the record at a place holds.
+pub fn record_at(bytes: &[u8], at: usize) -> Held
+    requires { ⌜ at ≤ 4294967296 ⌝ }
+    ensures { λ r. ⌜ r ≡ heldOf (recordIn (now (bytes .entry)) at) ⌝ }
+{
+    let kind = wire::byte_at(bytes, at + KIND);
+    if kind == 0 {
+        return Held::Empty;
+    }
+    let value = value_at(bytes, kind, at);
+    let labels = Labels::read_at(bytes, at + SET);
+    Held::Holds(Labelled { value, labels })
+}
+
+// Whether the record at a place holds nothing.
+pub fn is_empty(bytes: &[u8], at: usize) -> bool
+    requires { ⌜ at ≤ 4294967296 ⌝ }
+    ensures { λ r. ⌜ r ≡ isEmpty (recordIn (now (bytes .entry)) at) ⌝ }
+{
+    wire::byte_at(bytes, at + KIND) == 0
+}
+
+// Source, key and spare are zeros: with the kind they are one number of eight bytes.
+pub fn put_record(bytes: &mut [u8], at: usize, x: Labelled)
+    requires { ⌜ at ≤ 4294967296 ⌝ }
+    ensures { λ _. ⌜ now (bytes .exit) ≡ over (now (bytes .entry)) at (recordBytes x) ⌝ }
+{
+    let value = x.value;
+    let labels = x.labels;
+    put_payload(bytes, at, value);
+    wire::put_number(bytes, at + SOURCE, kind_of(value) as u64 * 16777216, 8);
+    labels.write_at(bytes, at + SET);
+}
+
+// The record at a place then holds nothing.
+pub fn empty_record(bytes: &mut [u8], at: usize)
+    requires { ⌜ at ≤ 4294967296 ⌝ }
+    ensures { λ _. ⌜ now (bytes .exit) ≡ over (now (bytes .entry)) (kindAt at) (highBytes 1 0) ⌝ }
+{
+    wire::put_byte(bytes, at + KIND, 0);
+}
