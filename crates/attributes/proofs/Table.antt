@@ -5,18 +5,18 @@ use mathlib.Core.Bool.{Bool, true, false, _||_}
 use mathlib.Core.List.{List, [], _∷_, _++_}
 use mathlib.Core.Option.{Option, none, some}
 use native.Mathlib.Omega.{arith}
-use borrow.Author.Tests.{eqb-true, eqb-false, eq-eqb, ne-eqb, leb-false}
-use lib.Dec.{eqb, leb}
-use lib.ListN.{length, replicate, length-replicate, List·getD-eq-default}
+use borrow.Author.Tests.{eqb-true, eqb-false, eq-eqb, ne-eqb, leb-false, lt-ltb, le-ltb}
+use lib.Dec.{eqb, leb, ltb}
+use lib.ListN.{length, replicate, length-replicate}
 use Rattle.labels.specs.Sets.{Words64}
 use Rattle.values.specs.declared.Labelled.{Labelled}
 use Rattle.wire.specs.Bytes.{pick, byte, two, endOf, fieldsIn}
 use Rattle.wire.specs.Runs.{over, zeros}
 use Rattle.wire.proofs.Fields.{field-first}
-use Rattle.wire.proofs.Laws.{zeros-byte}
+use Rattle.wire.proofs.Laws.{over-length, zeros-byte}
 use Rattle.records.specs.declared.Held.{Held}
 use Rattle.records.specs.declared.Held.the-variants.{Empty, Holds}
-use Rattle.records.specs.Record.{kindAt, recordBytes, recordIn, heldOf}
+use Rattle.records.specs.Record.{recordSize, kindAt, recordBytes, recordIn, heldOf}
 use Rattle.records.proofs.Values.{Ranged}
 use Rattle.records.proofs.Laws.{record-length, record-back, record-outside, record-none, held-value, held-nothing}
 use Rattle.rules.specs.Evaluate.{any, firstWith}
@@ -27,10 +27,22 @@ use Rattle.attributes.specs.Table.{givenPlace, HasRow, givenAt, contentO
 
 -- ---- Tables that give nothing
 
+given-short : (t : List ℕ) (n : ℕ) → length t < givenPlace n + recordSize → givenAt t n ≡ none
+unfolding givenAt
+given-short t n h = rw (lt-ltb (length t) (givenPlace n + recordSize) h)
+
+given-within : (t : List ℕ) (n : ℕ) → HasRow (length t) n → givenAt t n ≡ recordIn t (givenPlace n)
+unfolding givenAt
+given-within t n row = rw (le-ltb (length t) (givenPlace n + recordSize) row)
+
 -- a row whose kind is 0
 given-blank : (t : List ℕ) (n : ℕ) → byte t (kindAt (givenPlace n)) ≡ 0 → givenAt t n ≡ none
 unfolding givenAt
-given-blank t n e = record-none t (givenPlace n) e
+given-blank t n e = rw (record-none t (givenPlace n) e) (go (ltb (length t) (givenPlace n + recordSize)))
+  where
+    go : (b : Bool) → _≡_ {A = Option Labelled} (pick b none none) none
+    go true = refl
+    go false = refl
 
 -- a local array of zeros
 no-given-zeros : (k n : ℕ) → givenAt (replicate k 0) n ≡ none
@@ -41,9 +53,9 @@ pub gives-nothing : {t : List ℕ} → ((n : ℕ) → givenAt t n ≡ none) → 
 unfolding contentOf firstWith
 gives-nothing blank = record { first = λ n l. blank n }
 
--- a table of no byte
-pub gives-none : (t : List ℕ) → length t < 1 → Gives t []
-gives-none t h = gives-nothing (λ n. given-blank t n (List·getD-eq-default t 0 (omega arith)))
+-- a table of no row
+pub gives-none : (t : List ℕ) → length t < recordSize → Gives t []
+gives-none t h = gives-nothing (λ n. given-short t n (omega arith))
 
 -- ---- Tables that have the rows
 
@@ -87,16 +99,36 @@ fresh-below m k limit {qs} long low = record { blank = no-given-zeros k; rows = 
 pub fresh-all : (m : List ℕ) (k : ℕ) {qs : List ℕ} → givenPlace 1024 ≤ k → Fresh m (replicate k 0) qs
 fresh-all m k {qs} long = record { blank = no-given-zeros k; rows = rows-all m (length (replicate k 0)) (omega (arith, length-replicate {A = ℕ} k 0)) qs }
 
+-- ---- The ways of `given`
+
+module _ (t : List ℕ) (name : ℕ) where
+  pub given-no-row : length t < givenPlace name + recordSize → Empty ≡ heldOf (givenAt t name)
+  unfolding heldOf
+  given-no-row h = ap heldOf (sym (given-short t name h))
+
+  pub given-read : {h : Held} → HasRow (length t) name → h ≡ heldOf (recordIn t (givenPlace name)) → h ≡ heldOf (givenAt t name)
+  given-read row read = read ∙ ap heldOf (sym (given-within t name row))
+
 -- ---- The way of `put_given`
 
 module _ (t : List ℕ) (name : ℕ) (x : Labelled) {t′ : List ℕ} (row : HasRow (length t) name) (value : Ranged (x .value)) (set : Words64 (x .labels)) (stored : t′ ≡ over t (givenPlace name) (recordBytes x)) where
+  after : List ℕ
+  after = over t (givenPlace name) (recordBytes x)
+
+  same-long : length after ≡ length t
+  unfolding after
+  same-long = over-length t (givenPlace name) (recordBytes x)
+
   pub put-way : (n : ℕ) → givenAt t′ n ≡ pick (eqb n name) (some x) (givenAt t n)
-  unfolding givenAt
+  unfolding after givenAt
   put-way n = rw stored (go (eqb n name) refl)
     where
-      go : (b : Bool) → eqb n name ≡ b → recordIn (over t (givenPlace name) (recordBytes x)) (givenPlace n) ≡ pick b (some x) (recordIn t (givenPlace n))
-      go true e = ap (λ (k : ℕ). recordIn (over t (givenPlace name) (recordBytes x)) (givenPlace k)) (eqb-true n name e) ∙ record-back t (givenPlace name) x row value set
-      go false e = let other : n ≡ name → ⊥ = eqb-false n name e in record-outside t (givenPlace name) (recordBytes x) (givenPlace n) (λ i a b c d. other (omega (arith, record-length x)))
+      go : (b : Bool) → eqb n name ≡ b → givenAt after n ≡ pick b (some x) (givenAt t n)
+      go true e = ap (givenAt after) (eqb-true n name e) ∙ given-within after name (omega (arith, row, same-long)) ∙ record-back t (givenPlace name) x row value set
+      go false e =
+          let other : n ≡ name → ⊥ = eqb-false n name e in
+          ap (λ (k : ℕ). pick (ltb k (givenPlace n + recordSize)) none (recordIn after (givenPlace n))) same-long
+          ∙ ap (pick (ltb (length t) (givenPlace n + recordSize)) none) (record-outside t (givenPlace name) (recordBytes x) (givenPlace n) (λ i a b c d. other (omega (arith, record-length x))))
 
 -- ---- The ways of `add_given`
 

@@ -3,9 +3,10 @@ use Prim.Native.Nat.{ℕ, _+_, _*_, _≤_, _<_}
 use mathlib.Core.Path.{_≡_}
 use mathlib.Core.List.{List, [], _∷_, _++_}
 use mathlib.Core.Option.{Option, none, some}
+use lib.Dec.{ltb}
 use lib.ListN.{length}
 use Rattle.values.specs.declared.Labelled.{Labelled}
-use Rattle.wire.specs.Bytes.{two}
+use Rattle.wire.specs.Bytes.{pick, two}
 use Rattle.rules.specs.Evaluate.{firstWith}
 use Rattle.rules.specs.Run.{Given, isGiven}
 use Rattle.rules.specs.Ranges.{Each}
@@ -19,8 +20,9 @@ givenPlace n = recordSize * n
 abbrev pub HasRow : (size name : ℕ) → Type 0
 HasRow k n = givenPlace n + recordSize ≤ k
 
+-- a name without a row has no value
 unfoldable pub givenAt : List ℕ → (name : ℕ) → Option Labelled
-givenAt t n = recordIn t (givenPlace n)
+givenAt t n = pick (ltb (length t) (givenPlace n + recordSize)) none (recordIn t (givenPlace n))
 
 unfoldable pub contentOf : Option Given → Option Labelled
 contentOf none = none

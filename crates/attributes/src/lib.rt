@@ -125,16 +125,20 @@ pub fn find_repeated(m: &[u8], first: usize, end: usize) -> catalog::Place
 pub const TABLE: usize = 1024 * records::SIZE;
 
 // How many names a small table has rows for: to clear the large one takes longer than most declarations take.
-pub const SMALL_NAMES: u16 = 128;
+pub const SMALL_NAMES: u16 = 112;
 
 // How many bytes a small table has.
-pub const SMALL_TABLE: usize = 128 * records::SIZE;
+pub const SMALL_TABLE: usize = 112 * records::SIZE;
 
 // The value given to a name.
 pub fn given(table: &[u8], name: u16) -> Held
     ensures { λ r. ⌜ r ≡ heldOf (givenAt (now (table .entry)) name) ⌝ }
 {
-    records::record_at(table, records::SIZE * name as usize)
+    let place = records::SIZE * name as usize;
+    if table.len() < place + records::SIZE {
+        return Held::Empty;
+    }
+    records::record_at(table, place)
 }
 
 // Gives a value to a name.

@@ -169,7 +169,7 @@ fn find_free(work: &[u8]) -> Found
 // ---- Reads
 
 fn held_at(work: &[u8], i: usize) -> Held
-    requires { ⌜ i < 512 ⌝ }
+    requires { ⌜ (i < 512) × (65536 ≤ length (now work)) ⌝ }
     ensures { λ r. ⌜ r ≡ heldOf (valueIn (slotsOf (now (work .entry)) i)) ⌝ }
 {
     records::record_at(work, BODIES + BODY_SIZE * i)
@@ -186,7 +186,7 @@ fn mark_at(work: &[u8], i: usize) -> Labels
     requires { ⌜ (i < 512) × (65536 ≤ length (now work)) ⌝ }
     ensures { λ r. ⌜ r ≡ setAt (now (work .entry)) (bodyAt i + bodyMark) ⌝ }
 {
-    Labels::read_at(work, BODIES + BODY_SIZE * i + BODY_MARK)
+    Labels::read_within(work, BODIES + BODY_SIZE * i + BODY_MARK)
 }
 
 // What the cell of a scope and a name holds.
@@ -240,7 +240,7 @@ fn claim(work: &mut [u8], j: usize, scope: u16, name: u16)
     wire::put_byte(work, j, 1);
     wire::put_two(work, KEYS + KEY_SIZE * j, scope);
     records::empty_record(work, BODIES + BODY_SIZE * j);
-    Labels::EMPTY.write_at(work, BODIES + BODY_SIZE * j + BODY_MARK);
+    Labels::EMPTY.write_within(work, BODIES + BODY_SIZE * j + BODY_MARK);
     put_in(work, j, name);
 }
 
@@ -255,7 +255,7 @@ fn put_mark(work: &mut [u8], i: usize, mark: Labels)
     requires { ⌜ (i < 512) × (65536 ≤ length (now work)) ⌝ }
     ensures { λ _. ⌜ StoresAt i (marked mark) (now (work .entry)) (now (work .exit)) ⌝ }
 {
-    mark.write_at(work, BODIES + BODY_SIZE * i + BODY_MARK);
+    mark.write_within(work, BODIES + BODY_SIZE * i + BODY_MARK);
 }
 
 // The slot of a key, claimed if there is none; Nothing where all are in use.

@@ -9,7 +9,6 @@ use native.Mathlib.Omega.{arith}
 use lib.Dec.{eqb}
 use lib.ListN.{length}
 use borrow.Author.Tests.{ne-eqb, eq-eqb}
-use Rattle.labels.specs.Sets.{noLabels}
 use Rattle.values.specs.declared.Refusal.{Refusal}
 use Rattle.values.specs.Refusals.{refusalAt}
 use Rattle.values.specs.declared.Reason.the-variants.{DefinedAgain}
@@ -37,7 +36,7 @@ use Rattle.syntax.specs.Nodes.{itemPlaces, nodeFor, runsAt, running}
 use Rattle.syntax.proofs.NodesRead.{items-for}
 use Rattle.syntax.proofs.NamesKnown.{known-after, items-known}
 use Rattle.wire.proofs.Fields.{no-fields, field-first}
-use Rattle.cells.specs.Memory.{baseFor, stateOf}
+use Rattle.cells.specs.Memory.{stateOf}
 use Rattle.catalog.specs.Finding.{Written}
 use Rattle.evaluator.specs.Known.{KnownIn}
 use Rattle.evaluator.proofs.Names.{ready-first}

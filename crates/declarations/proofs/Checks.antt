@@ -7,7 +7,7 @@ use native.Mathlib.Omega.{arith}
 use borrow.Author.Tests.{ne-eqb, eq-eqb}
 use Rattle.values.specs.declared.Refusal.{Refusal}
 use Rattle.wire.specs.Bytes.{byte, fieldsIn}
-use Rattle.rules.specs.Outcome.{refused, done}
+use Rattle.rules.specs.Outcome.{done}
 use Rattle.rules.specs.Tree.{Parameter, TypeDefinition, ClassDefinition, typeDefinition, classDefinition, definition}
 use Rattle.rules.specs.Run.{Given}
 use Rattle.rules.specs.declared.Kind.the-variants.{Parameter as ParameterKind}

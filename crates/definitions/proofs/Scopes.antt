@@ -1,21 +1,18 @@
 -- The laws of the scopes hold of the run of every sound manifest: its definitions' names are among its strings, of which there are at most 1,024.
-use Prim.Native.Nat.{ℕ, _+_, _<_, _≤_}
-use mathlib.Core.Path.{_≡_, refl, sym, ap, subst, _∙_}
-use mathlib.Core.Bool.{true}
+use Prim.Native.Nat.{ℕ, _<_, _≤_}
+use mathlib.Core.Path.{_≡_, refl, sym, subst}
 use mathlib.Core.List.{List}
 use native.Mathlib.Omega.{arith}
 use lib.ListN.{length}
-use Rattle.wire.specs.Bytes.{byte, two, endOf, fieldsIn}
+use Rattle.wire.specs.Bytes.{byte, fieldsIn}
 use Rattle.wire.proofs.Fields.{no-fields, field-first}
-use Rattle.rules.specs.Format.{allowed, forms, formIn, formOf}
+use Rattle.rules.specs.Format.{forms, formIn, formOf}
 use Rattle.rules.specs.Check.{stringPlaces, check}
-use Rattle.rules.specs.Tree.{Item}
 use Rattle.rules.specs.Read.{manifestOf}
 use Rattle.rules.specs.Run.{definedName}
 use Rattle.rules.specs.Compile.{knownFirst, start, runManifest}
 use Rattle.rules.specs.Ranges.{Each, noneLeft, also}
-use Rattle.rules.specs.declared.Kind.the-variants.{Item as ItemKind, Statement as StatementKind}
-use Rattle.rules.specs.declared.Piece.the-variants.{Name}
+use Rattle.rules.specs.declared.Kind.the-variants.{Item as ItemKind}
 use Rattle.rules.specs.declared.Verdict.the-variants.{Sound}
 use Rattle.rules.proofs.Outcome.{All}
 use Rattle.rules.proofs.Laws.{items-for-each}

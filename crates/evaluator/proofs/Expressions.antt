@@ -1,24 +1,21 @@
 -- Expressions with parts: what the definition says of each, from what the code finds of its parts. Assumes nothing.
-use Prim.Native.Nat.{ℕ, suc, _+_, _-_, _≤_, _<_}
-use mathlib.Core.Path.{_≡_, refl, sym, ap, _∙_, subst}
-use mathlib.Core.Bool.{Bool, true, false}
-use mathlib.Core.List.{List, [], _∷_}
+use Prim.Native.Nat.{ℕ, _+_, _-_, _≤_}
+use mathlib.Core.Path.{_≡_, sym, ap, _∙_, subst}
+use mathlib.Core.List.{List}
 use native.Mathlib.Omega.{arith}
 use lib.ListN.{length}
-use Rattle.labels.specs.declared.Labels.{Labels}
 use Rattle.values.specs.declared.Value.{Value}
 use Rattle.values.specs.declared.Labelled.{Labelled}
 use Rattle.values.specs.declared.Refusal.{Refusal}
 use Rattle.values.specs.declared.Reason.the-variants.{WrongKind as NotThatKind}
-use Rattle.wire.specs.Bytes.{byte, two, endOf, fieldsIn}
-use Rattle.rules.specs.Outcome.{Outcome, refused, done, _>>=_, plain, joining}
-use Rattle.rules.specs.Tree.{Expression, placeOf}
+use Rattle.wire.specs.Bytes.{byte, two, endOf}
+use Rattle.rules.specs.Outcome.{Outcome, refused, plain, joining}
 use Rattle.rules.specs.Read.{operatorFrom}
 use Rattle.rules.specs.State.{State, Context, Known, Entry}
-use Rattle.rules.specs.Evaluate.{operate, evaluate, select}
+use Rattle.rules.specs.Evaluate.{operate, evaluate}
 use Rattle.rules.specs.declared.Kind.the-variants.{Expression as ExpressionKind}
-use Rattle.places.specs.At.{expressionAt, armsAt, StandsAs}
-use Rattle.places.proofs.Expressions.{expression-place, OperationAt, NegationAt, AttributeReadAt, SelectorAt}
+use Rattle.places.specs.At.{expressionAt, StandsAs}
+use Rattle.places.proofs.Expressions.{expression-place, OperationAt, NegationAt, AttributeReadAt}
 use Rattle.cells.specs.Memory.{stateOf}
 use Rattle.memory.specs.declared.Scope.{Scope}
 use Rattle.memory.specs.Contexts.{contextIn}

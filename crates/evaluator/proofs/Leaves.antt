@@ -11,7 +11,7 @@ use Rattle.rules.specs.Format.{allowed}
 use Rattle.rules.specs.State.{Known, upward, scopesTried}
 use Rattle.rules.specs.Evaluate.{readIn, ofConstant, evaluate}
 use Rattle.rules.specs.declared.Kind.the-variants.{Expression as ExpressionKind, Constant as ConstantKind}
-use Rattle.places.specs.At.{constantAt, expressionAt, Stands, StandsAs}
+use Rattle.places.specs.At.{constantAt, expressionAt, StandsAs}
 use Rattle.places.proofs.Tags.{IsConstantTag, integerTag, stringTag, booleanTag, constant-kind, IsExpressionTag, constantTag, variableTag, topVariableTag, classVariableTag, operationTag, negationTag, attributeReadTag, selectorTag, expression-tag}
 use Rattle.places.proofs.Open.{level}
 use Rattle.places.proofs.Expressions.{constant-opens, variable-opens, top-variable-opens, class-variable-opens, OperationAt, operation-opens, NegationAt, negation-opens, AttributeReadAt, attribute-read-opens, SelectorAt, selector-opens}
@@ -23,7 +23,6 @@ use Rattle.memory.specs.Contexts.{contextIn}
 use Rattle.evaluator.specs.declared.Evaluated.the-variants.{Value as Yields}
 use Rattle.evaluator.specs.Answers.{evaluated}
 use Rattle.evaluator.specs.Known.{KnownIn, Tells, classRead}
-use Rattle.evaluator.proofs.Expressions.{Run}
 use Rattle.evaluator.proofs.Reading.{read-one}
 
 -- the tags of constants are below the others

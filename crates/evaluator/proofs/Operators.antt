@@ -9,7 +9,6 @@ use lib.Dec.{eqb}
 use lib.IntN.{ℤ, _+ℤ_, _-ℤ_}
 use lib.Signed.{ltZ}
 use denote.Enum.Declared.{tagOf}
-use Rattle.labels.specs.Sets.{noLabels, _∪_}
 use Rattle.values.specs.declared.Value.{Value}
 use Rattle.values.specs.declared.Value.the-variants.{Integer, String, Boolean}
 use Rattle.values.specs.declared.Labelled.{Labelled}
@@ -19,8 +18,7 @@ use Rattle.values.specs.declared.Reason.the-variants.{WrongKind as NotThatKind,
 use Rattle.values.specs.Integers.{fits64, isZero, floorDivide}
 use Rattle.values.specs.Computed.{computed}
 use Rattle.values.proofs.Value.{the-type}
-use Rattle.wire.specs.Bytes.{pick}
-use Rattle.rules.specs.Outcome.{Outcome, refused, done, _>>=_, Result, fails, gives, at, plain, joining}
+use Rattle.rules.specs.Outcome.{Outcome, refused, _>>=_, fails, gives, at, plain}
 use Rattle.evaluator.proofs.Outcomes.{_▷_}
 use Rattle.rules.specs.Arithmetic.{integerIn, stringIn, booleanIn, inRange, sum, difference, quotient, isGreater, sameValue}
 use Rattle.rules.specs.Tree.{Operator, plus, minus, divide, greater, equal, and, or}

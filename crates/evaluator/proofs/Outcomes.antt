@@ -2,9 +2,7 @@
 use Prim.Native.Nat.{ℕ, zero, suc, _+_, _*_, _/_, _%_, _≤_, _<_, max}
 use mathlib.Core.Path.{_≡_, refl, sym, ap, _∙_}
 use native.Mathlib.Omega.{arith}
-use native.Mathlib.Nat.{max-comm}
 use lib.Bits.{bitOr, or-step, or-zero-l}
-use denote.Enum.Declared.{tagOf}
 use Rattle.labels.specs.declared.Labels.{Labels}
 use Rattle.labels.specs.Sets.{noLabels, _∪_}
 use Rattle.values.specs.declared.Reason.{Reason}

@@ -1,5 +1,5 @@
 -- Reads of variables and attributes. Assumes nothing.
-use Prim.Native.Nat.{ℕ, zero, suc, _+_, _-_, _≤_, _<_}
+use Prim.Native.Nat.{ℕ, zero, suc, _+_, _-_, _<_}
 use mathlib.Core.Path.{_≡_, refl, sym, ap, _∙_}
 use mathlib.Core.Bool.{Bool, true, false, not}
 use mathlib.Core.List.{List, [], _∷_}
@@ -15,9 +15,9 @@ use Rattle.values.specs.declared.Value.{Value}
 use Rattle.values.specs.declared.Value.the-variants.{String}
 use Rattle.values.proofs.Value.{the-type}
 use Rattle.wire.specs.Bytes.{two}
-use Rattle.rules.specs.Outcome.{Outcome, refused, done, _>>=_, refuseIf, orRefuse, at, joining}
+use Rattle.rules.specs.Outcome.{Outcome, refused, _>>=_, refuseIf, orRefuse, at, joining}
 use Rattle.rules.specs.Arithmetic.{stringIn}
-use Rattle.rules.specs.State.{Scope, topScope, classScope, Base, DeclaredClass, parentOf, upward, Cell, Cells, Known, Entry}
+use Rattle.rules.specs.State.{Scope, Base, DeclaredClass, parentOf, upward, Cells, Known, Entry}
 use Rattle.rules.specs.Evaluate.{isType, isClass, orElse, readIn, readAttribute}
 use Rattle.rules.specs.Compile.{onto}
 use Rattle.cells.specs.declared.Seen.{Seen}
@@ -25,7 +25,7 @@ use Rattle.records.specs.declared.Held.{Held}
 use Rattle.records.specs.declared.Held.the-variants.{Empty, Holds}
 use Rattle.cells.specs.Scopes.{scopeOf}
 use Rattle.records.specs.Record.{heldOf}
-use Rattle.cells.specs.Memory.{seenOf, cellsOf, classesOf, baseFor}
+use Rattle.cells.specs.Memory.{seenOf, cellsOf, classesOf}
 use Rattle.cells.proofs.Scopes.{class-scope}
 use Rattle.memory.specs.declared.Above.{Above}
 use Rattle.memory.specs.declared.Above.the-variants.{At, Nothing}

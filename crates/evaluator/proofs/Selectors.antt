@@ -2,9 +2,9 @@
 use Prim.Native.Nat.{ℕ, suc, _+_, _-_, _≤_, _<_}
 use mathlib.Core.Path.{_≡_, refl, sym, ap, _∙_, subst}
 use mathlib.Core.Bool.{Bool, true, false}
-use mathlib.Core.List.{List, [], _∷_}
+use mathlib.Core.List.{List}
 use native.Mathlib.Omega.{arith}
-use borrow.Author.Tests.{ne-eqb, eq-eqb}
+use borrow.Author.Tests.{ne-eqb}
 use lib.Dec.{eqb}
 use lib.ListN.{length}
 use Rattle.labels.specs.declared.Labels.{Labels}
@@ -14,9 +14,9 @@ use Rattle.values.specs.declared.Labelled.{Labelled}
 use Rattle.values.specs.declared.Refusal.{Refusal}
 use Rattle.values.specs.declared.Reason.the-variants.{NoMatch}
 use Rattle.wire.specs.Bytes.{pick, byte, endOf, fieldsIn}
-use Rattle.rules.specs.Outcome.{Outcome, refused, done, _>>=_, joining}
+use Rattle.rules.specs.Outcome.{Outcome, refused, _>>=_, joining}
 use Rattle.rules.specs.Arithmetic.{sameValue}
-use Rattle.rules.specs.Tree.{Arms, noArm, arm, defaultArm}
+use Rattle.rules.specs.Tree.{Arms, arm, defaultArm}
 use Rattle.rules.specs.State.{State, Context, Known}
 use Rattle.rules.specs.Evaluate.{ofConstant, evaluate, select}
 use Rattle.rules.specs.declared.Kind.{Kind}

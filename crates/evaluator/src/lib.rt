@@ -5,7 +5,7 @@ ghost use mathlib.Core.List.{List};
 ghost use Prim.Native.Nat.{ℕ, suc, _+_, _≤_, _<_};
 ghost use lib.ListN.{length};
 ghost use Rattle.wire.specs.Bytes.{byte, two, endOf, fieldsIn};
-ghost use Rattle.rules.specs.Outcome.{refused, plain, joining};
+ghost use Rattle.rules.specs.Outcome.{plain, joining};
 ghost use Rattle.rules.specs.Read.{operatorFrom};
 ghost use Rattle.rules.specs.State.{Entry, Known, upward};
 ghost use Rattle.rules.specs.Evaluate.{isType, isClass, readIn, operate, ofConstant};

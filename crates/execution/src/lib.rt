@@ -256,7 +256,7 @@ fn run_case(
 // ---- Declarations
 
 // The 27 or 28 at p, whose attributes begin at `first`, with a table that has a row for each of their names. It is called from two places, and so it is
-// not merged into its caller in the compiled code: that one's frame, which stands on the stack once for every nested condition, has no table of 42 KB.
+// not merged into its caller in the compiled code: that one's frame, which stands on the stack once for every nested condition, has no table of 49 KB.
 fn run_given(
     m: &[u8],
     depth: u8,

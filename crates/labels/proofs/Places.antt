@@ -1,12 +1,12 @@
--- Sets in bytes, from a place on: what a set depends on, what is read back, and the ways of `read_at` and `write_at`. Assumes nothing.
+-- Sets in bytes, from a place on: what a set depends on, what is read back, and the ways of the readers and of `write_short`. Assumes nothing.
 use mathlib.Core.Path.{_≡_, refl, sym, ap, _∙_}
 use mathlib.Core.Bool.{Bool, true, false}
 use mathlib.Core.List.{List, [], append-nil}
 use Prim.Native.Nat.{ℕ, zero, suc, _+_, _-_, _≤_, _<_}
 use native.Mathlib.Omega.{arith}
-use borrow.Author.Tests.{ltb-true, ltb-false, leb-true, leb-false, le-leb, lt-leb}
+use borrow.Author.Tests.{ltb-true, ltb-false}
 use borrow.Rule.Slice.PartMut.{midOf}
-use lib.Dec.{leb, ltb}
+use lib.Dec.{ltb}
 use lib.ListN.{length, getD, drop, replicate, length-drop, List·getD-eq-default}
 use lib.Seq.{getD-drop, take-all}
 use Rattle.wire.specs.Bytes.{byte}
@@ -69,18 +69,7 @@ number-from m p o (suc k) =
     let next : suc (p + o) ≡ p + suc o = omega arith in
     rw (getD-drop p m o 0, sym (number-from m p (suc o) k), next) refl
 
--- fits
-pub too-few : {size : ℕ} (p : ℕ) → size < 32 → false ≡ leb (p + 32) size
-too-few {size} p h = sym (lt-leb (p + 32) size (omega arith))
-
-pub enough : {size : ℕ} (p : ℕ) → 32 ≤ size → leb p (size - 32) ≡ leb (p + 32) size
-enough {size} p h = go (leb p (size - 32)) refl
-  where
-    go : (b : Bool) → leb p (size - 32) ≡ b → b ≡ leb (p + 32) size
-    go true e = sym (le-leb (p + 32) size (omega (arith, leb-true p (size - 32) e)))
-    go false e = sym (lt-leb (p + 32) size (omega (arith, leb-false p (size - 32) e)))
-
--- read_words
+-- read_within
 pub words-read : (m : List ℕ) (p : ℕ) {a b c d : ℕ} → a ≡ numberAt m p 8 → b ≡ numberAt m (p + 8) 8 → c ≡ numberAt m (p + 16) 8 → d ≡ numberAt m (p + 24) 8
     → record { w0 = a; w1 = b; w2 = c; w3 = d } ≡ setAt m p
 unfolding setAt labelsFrom
@@ -89,7 +78,7 @@ words-read m p ea eb ec ed =
     let first : numberAt m p 8 ≡ numberAt (drop p m) 0 8 = ap (λ (q : ℕ). numberAt m q 8) start ∙ number-from m p 0 8 in
     rw (ea, eb, ec, ed, first, number-from m p 8 8, number-from m p 16 8, number-from m p 24 8) refl
 
--- read_at: nothing stands there
+-- read_short: nothing stands there
 pub nothing-read : (m : List ℕ) (p : ℕ) → length m ≤ p → noLabels ≡ setAt m p
 nothing-read m p past = sym (set-none m p (λ j h. List·getD-eq-default m 0 (omega arith)))
 
@@ -103,7 +92,7 @@ start-byte n bs j h = go (ltb j (length bs)) refl
         let past : length bs ≤ j = ltb-false j (length bs) e in
         byte-outside (zeros n) 0 bs j (λ a b. omega arith) ∙ zeros-byte n j ∙ sym (List·getD-eq-default bs 0 past)
 
--- read_at: fewer than 32 bytes stand there
+-- read_short: fewer than 32 bytes stand there
 pub short-read : (m : List ℕ) (p : ℕ) {whole : List ℕ} {s : Labels} → whole ≡ over (replicate 32 0) 0 (midOf p (length m - p) m) → s ≡ setAt whole 0 → s ≡ setAt m p
 unfolding setAt zeros
 short-read m p {whole} {s} stored read =
@@ -111,7 +100,7 @@ short-read m p {whole} {s} stored read =
     let copy : whole ≡ over (replicate 32 0) 0 (drop p m) = stored ∙ ap (over (replicate 32 0) 0) part in
     read ∙ same-set (drop 0 whole) (drop p m) (λ j h. ap (λ (l : List ℕ). byte l j) copy ∙ start-byte 32 (drop p m) j h)
 
--- write_at: with less room
+-- write_short
 pub short-stored : (m : List ℕ) (p : ℕ) (s : Labels) {whole m′ : List ℕ} → whole ≡ over (replicate 32 0) 0 (labelBytes s) → m′ ≡ over m p whole → m′ ≡ over m p (labelBytes s)
 short-stored m p s {whole} made stored =
     let bytes : whole ≡ labelBytes s = made ∙ over-whole (replicate 32 0) (labelBytes s) (label-length s) in

@@ -1,7 +1,6 @@
 // A set of labels 0 to 255, held in four words by value.
 ghost use mathlib.Core.Path.{_≡_};
 ghost use Prim.Native.Nat.{_+_, _≤_};
-ghost use lib.Dec.{leb};
 ghost use lib.ListN.{length};
 ghost use Rattle.wire.specs.Runs.{over};
 ghost use Rattle.labels.specs.Sets.{oneLabel, _∪_, wordOf, has};
@@ -127,31 +126,54 @@ impl Labels {
     pub fn read_at(bytes: &[u8], at: usize) -> Labels
         ensures { λ r. ⌜ r ≡ setAt (now (bytes .entry)) at ⌝ }
     {
-        if fits(bytes.len(), at) {
-            return read_words(bytes, at);
+        if bytes.len() < 32 {
+            return read_short(bytes, at);
         }
-        if bytes.len() <= at {
-            return Labels::EMPTY;
+        if bytes.len() - 32 < at {
+            return read_short(bytes, at);
         }
-        let mut whole = [0u8; 32];
-        wire::copy_into(&mut whole, 0, &bytes[at..]);
-        read_words(&whole, 0)
+        Labels::read_within(bytes, at)
+    }
+
+    // The set in the 32 bytes from `at` on, which are there: no test at run time.
+    pub fn read_within(bytes: &[u8], at: usize) -> Labels
+        requires { ⌜ at + 32 ≤ length (now bytes) ⌝ }
+        ensures { λ r. ⌜ r ≡ setAt (now (bytes .entry)) at ⌝ }
+    {
+        Labels {
+            w0: read_word(bytes, at),
+            w1: read_word(bytes, at + 8),
+            w2: read_word(bytes, at + 16),
+            w3: read_word(bytes, at + 24),
+        }
     }
 
     // Stores the 32 bytes from `at` on. Past the end nothing is stored.
     pub fn write_at(self, bytes: &mut [u8], at: usize)
         ensures { λ _. ⌜ now (bytes .exit) ≡ over (now (bytes .entry)) at (labelBytes self) ⌝ }
     {
-        if fits(bytes.len(), at) {
-            self.write_words(bytes, at);
+        if bytes.len() < 32 {
+            self.write_short(bytes, at);
             return;
         }
+        if bytes.len() - 32 < at {
+            self.write_short(bytes, at);
+            return;
+        }
+        self.write_within(bytes, at);
+    }
+
+    // As much of the bytes as there is room for. It is called from two places so that the back end does not merge it into its caller, where it is seldom needed.
+    fn write_short(self, bytes: &mut [u8], at: usize)
+        ensures { λ _. ⌜ now (bytes .exit) ≡ over (now (bytes .entry)) at (labelBytes self) ⌝ }
+    {
         let mut whole = [0u8; 32];
-        self.write_words(&mut whole, 0);
+        self.write_within(&mut whole, 0);
         wire::copy_into(bytes, at, &whole);
     }
 
-    fn write_words(self, bytes: &mut [u8], at: usize)
+    // Stores the 32 bytes from `at` on, for which there is room: no test at run time.
+    pub fn write_within(self, bytes: &mut [u8], at: usize)
         requires { ⌜ at + 32 ≤ length (now bytes) ⌝ }
         ensures { λ _. ⌜ now (bytes .exit) ≡ over (now (bytes .entry)) at (labelBytes self) ⌝ }
     {
@@ -162,26 +184,16 @@ impl Labels {
     }
 }
 
-// Whether 32 bytes from `at` on are among the first `size`.
-fn fits(size: usize, at: usize) -> bool
-    ensures { λ r. ⌜ r ≡ leb (at + 32) size ⌝ }
-{
-    if size < 32 {
-        return false;
-    }
-    at <= size - 32
-}
-
-fn read_words(bytes: &[u8], at: usize) -> Labels
-    requires { ⌜ at + 32 ≤ length (now bytes) ⌝ }
+// What is there of the bytes, and zeros; called from two places for the same reason as `write_short`.
+fn read_short(bytes: &[u8], at: usize) -> Labels
     ensures { λ r. ⌜ r ≡ setAt (now (bytes .entry)) at ⌝ }
 {
-    Labels {
-        w0: read_word(bytes, at),
-        w1: read_word(bytes, at + 8),
-        w2: read_word(bytes, at + 16),
-        w3: read_word(bytes, at + 24),
+    if bytes.len() <= at {
+        return Labels::EMPTY;
     }
+    let mut whole = [0u8; 32];
+    wire::copy_into(&mut whole, 0, &bytes[at..]);
+    Labels::read_within(&whole, 0)
 }
 
 fn wide(b: u8) -> u64

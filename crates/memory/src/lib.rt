@@ -79,7 +79,7 @@ pub fn trail(work: &[u8]) -> Labels
     requires { ⌜ 65536 ≤ length (now work) ⌝ }
     ensures { λ r. ⌜ r ≡ trailOf (now (work .entry)) ⌝ }
 {
-    Labels::read_at(work, TRAIL)
+    Labels::read_within(work, TRAIL)
 }
 
 // Path and trail: what a condition and whatever is stored have in their sets besides their own.
@@ -95,7 +95,7 @@ pub fn join_trail(work: &mut [u8], set: Labels)
     ensures { λ _. ⌜ Becomes (now (work .entry)) (now (work .exit)) (trailed set) (λ ns. ns) ⌝ }
 {
     let old = trail(work);
-    set.union(old).write_at(work, TRAIL);
+    set.union(old).write_within(work, TRAIL);
 }
 
 // ---- Names: where a definition stands, and which are built-in types

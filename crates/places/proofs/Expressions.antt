@@ -1,6 +1,6 @@
 -- The expression at a place where one stands soundly, by its tag, and its parts at their places: one opening law for each tag. The expression at p
 -- has d levels left, and its parts have b: d ≡ suc b (`level` of Open gives it with b = d - 1).
-use Prim.Native.Nat.{ℕ, zero, suc, _+_, _-_, _<_, _≤_}
+use Prim.Native.Nat.{ℕ, zero, suc, _+_, _-_}
 use mathlib.Core.Path.{_≡_, refl, sym, ap, ap₂, _∙_}
 use mathlib.Core.Bool.{Bool, true, false}
 use mathlib.Core.List.{List}

@@ -1,7 +1,7 @@
 -- Part after part of the text is printed, up to its end. Assumes nothing.
-use Prim.Native.Nat.{ℕ, _+_, _-_, _*_, _≤_, _<_}
+use Prim.Native.Nat.{ℕ, _+_, _-_, _≤_}
 use mathlib.Core.Path.{_≡_, refl, sym, ap, _∙_}
-use mathlib.Core.List.{List, [], _++_, append-assoc}
+use mathlib.Core.List.{List, _++_, append-assoc}
 use native.Mathlib.Omega.{arith}
 use borrow.Author.Tests.{le-ltb}
 use denote.Enum.Declared.{tagOf}
@@ -29,7 +29,7 @@ use Rattle.schedule.specs.declared.Position.{Position}
 use Rattle.schedule.specs.declared.Written.{Written}
 use Rattle.schedule.specs.declared.Written.the-variants.{Length}
 use Rattle.schedule.specs.declared.Line.{Line}
-use Rattle.schedule.specs.declared.Line.the-variants.{Text, End}
+use Rattle.schedule.specs.declared.Line.the-variants.{Text}
 use Rattle.schedule.specs.Strings.{stringsBy}
 use Rattle.schedule.specs.Appending.{fitted}
 use Rattle.schedule.specs.Subjects.{start}

@@ -6,7 +6,7 @@ use mathlib.Core.List.{List, _++_}
 use lib.ListN.{length, take, drop}
 use Rattle.rules.specs.Read.{manifestOf}
 use Rattle.rules.specs.Outcome.{done}
-use Rattle.rules.specs.Compile.{Compiled, compiled}
+use Rattle.rules.specs.Compile.{compiled}
 use Rattle.rules.specs.EditRule.{IsBytes}
 use Rattle.rules.specs.Schedule.{textOf}
 use Rattle.schedule.specs.declared.Position.{Position}

@@ -18,7 +18,7 @@ use Rattle.labels.proofs.Places.{set-in}
 use Rattle.values.specs.declared.Labelled.{Labelled}
 use Rattle.records.specs.declared.Held.{Held}
 use Rattle.records.specs.declared.Held.the-variants.{Empty, Holds}
-use Rattle.records.specs.Record.{kindAt, kindOf, payloadOf, wordAt, recordBytes, recordIn, heldOf}
+use Rattle.records.specs.Record.{kindAt, kindOf, payloadOf, wordAt, middleBytes, recordBytes, recordIn, heldOf}
 use Rattle.records.proofs.Values.{Ranged, payload-lt, value-back, kind-some}
 
 -- ---- A record by its bytes
@@ -43,19 +43,19 @@ record-in m p n o h = record-same (bytesAt m p n) m o (p + o) (run-in m p n o 48
 -- ---- What is put
 
 pub record-length : (x : Labelled) → length (recordBytes x) ≡ 48
-unfolding recordBytes highBytes
+unfolding recordBytes middleBytes highBytes
 record-length x = omega (arith, label-length (x .labels))
 
 word-back : (x : Labelled) → Ranged (x .value) → wordAt (recordBytes x) 0 ≡ payloadOf (x .value)
-unfolding wordAt recordBytes bytesAt highBytes
+unfolding wordAt recordBytes middleBytes bytesAt highBytes
 word-back x h = number-back 8 (payloadOf (x .value)) (payload-lt (x .value) h)
 
 set-back : (x : Labelled) → Words64 (x .labels) → setAt (recordBytes x) 16 ≡ x .labels
-unfolding setAt recordBytes highBytes
+unfolding setAt recordBytes middleBytes highBytes
 set-back x h = ap labelsFrom (sym (append-nil (labelBytes (x .labels)))) ∙ label-back (x .labels) [] h
 
 kind-back : (x : Labelled) → byte (recordBytes x) 12 ≡ kindOf (x .value)
-unfolding recordBytes highBytes
+unfolding recordBytes middleBytes highBytes
 kind-back x = refl
 
 whole-back : (x : Labelled) → Ranged (x .value) → Words64 (x .labels) → recordIn (recordBytes x) 0 ≡ some x

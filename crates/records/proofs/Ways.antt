@@ -1,13 +1,14 @@
 -- One law for each way through the functions.
-use mathlib.Core.Path.{_≡_, refl, sym, ap, _∙_}
+use mathlib.Core.Path.{_≡_, refl, sym}
 use mathlib.Core.Bool.{Bool, true, false}
-use mathlib.Core.List.{List, [], _∷_, _++_}
+use mathlib.Core.List.{List, _++_}
 use mathlib.Core.Option.{none, some}
-use Prim.Native.Nat.{ℕ, _+_, _*_, _%_}
+use Prim.Native.Nat.{ℕ, suc, _+_, _%_}
 use native.Mathlib.Omega.{arith}
 use borrow.Author.Tests.{ne-eqb}
 use lib.Dec.{eqb}
 use lib.IntN.{ℤ}
+use lib.ListN.{length, set}
 use Rattle.wire.specs.Bytes.{pick, byte}
 use Rattle.wire.specs.Numbers.{number, signed64, highBytes}
 use Rattle.wire.specs.Runs.{bytesAt, over}
@@ -18,7 +19,7 @@ use Rattle.values.specs.declared.Value.{Value}
 use Rattle.values.specs.declared.Value.the-variants.{Integer, String, Boolean}
 use Rattle.values.specs.declared.Labelled.{Labelled}
 use Rattle.records.specs.declared.Held.the-variants.{Empty, Holds}
-use Rattle.records.specs.Record.{kindAt, contentSetAt, labelled, kindOf, payloadOf, valueFrom, wordAt, recordBytes, recordIn, isEmpty, heldOf}
+use Rattle.records.specs.Record.{kindAt, contentSetAt, labelled, kindOf, payloadOf, valueFrom, wordAt, middleBytes, recordBytes, recordIn, isEmpty, heldOf}
 
 -- value_at
 module _ (m : List ℕ) (t p : ℕ) where
@@ -52,18 +53,29 @@ module _ (m : List ℕ) (p : ℕ) {k : ℕ} (read : k ≡ byte m (kindAt p)) whe
       go true x = refl
       go false x = refl
 
--- put_record
-middle : (v : Value) → highBytes 8 (kindOf v * 16777216) ≡ 0 ∷ 0 ∷ 0 ∷ 0 ∷ kindOf v ∷ 0 ∷ 0 ∷ 0 ∷ []
-unfolding kindOf highBytes
-middle (Integer z) = refl
-middle (String n) = refl
-middle (Boolean b) = refl
+-- put_middle
+pub middle-stored : (m : List ℕ) (p k : ℕ) → set (set (set (set (set (set (set (set m p 0) (p + 1) 0) (p + 2) 0) (p + 3) 0) (p + 4) k) (p + 5) 0) (p + 6) 0) (p + 7) 0 ≡ over m p (middleBytes k)
+unfolding over middleBytes
+middle-stored m p k =
+    let one : suc p ≡ p + 1 = omega arith in
+    let two : suc (p + 1) ≡ p + 2 = omega arith in
+    let three : suc (p + 2) ≡ p + 3 = omega arith in
+    let four : suc (p + 3) ≡ p + 4 = omega arith in
+    let five : suc (p + 4) ≡ p + 5 = omega arith in
+    let six : suc (p + 5) ≡ p + 6 = omega arith in
+    let seven : suc (p + 6) ≡ p + 7 = omega arith in
+    rw (one, two, three, four, five, six, seven) refl
 
-pub record-stored : (m : List ℕ) (p : ℕ) (x : Labelled) {k : ℕ} {m1 m2 m3 : List ℕ} → m1 ≡ over m p (highBytes 8 (payloadOf (x .value))) → k ≡ kindOf (x .value) → m2 ≡ over m1 (p + 8) (highBytes 8 (k * 16777216)) → m3 ≡ over m2 (p + 16) (labelBytes (x .labels))
+-- put_record
+middle-length : (k : ℕ) → length (middleBytes k) ≡ 8
+unfolding middleBytes
+middle-length k = refl
+
+pub record-stored : (m : List ℕ) (p : ℕ) (x : Labelled) {k : ℕ} {m1 m2 m3 : List ℕ} → m1 ≡ over m p (highBytes 8 (payloadOf (x .value))) → k ≡ kindOf (x .value) → m2 ≡ over m1 (p + 8) (middleBytes k) → m3 ≡ over m2 (p + 16) (labelBytes (x .labels))
     → m3 ≡ over m p (recordBytes x)
 unfolding recordBytes
 record-stored m p x {k} {m1} {m2} {m3} e1 is e2 e3 =
     let v : Value = x .value in
-    let mid : highBytes 8 (k * 16777216) ≡ 0 ∷ 0 ∷ 0 ∷ 0 ∷ kindOf v ∷ 0 ∷ 0 ∷ 0 ∷ [] = ap (λ (j : ℕ). highBytes 8 (j * 16777216)) is ∙ middle v in
-    let two : m3 ≡ over m1 (p + 8) (highBytes 8 (k * 16777216) ++ labelBytes (x .labels)) = then-store m1 (p + 8) (highBytes 8 (k * 16777216)) (p + 16) (labelBytes (x .labels)) e2 e3 (omega (arith, high-length 8 (k * 16777216))) in
-    then-store m p (highBytes 8 (payloadOf v)) (p + 8) (0 ∷ 0 ∷ 0 ∷ 0 ∷ kindOf v ∷ 0 ∷ 0 ∷ 0 ∷ labelBytes (x .labels)) e1 (two ∙ ap (λ (bs : List ℕ). over m1 (p + 8) (bs ++ labelBytes (x .labels))) mid) (omega (arith, high-length 8 (payloadOf v)))
+    let middle : m2 ≡ over m1 (p + 8) (middleBytes (kindOf v)) = rw (sym is) e2 in
+    let two : m3 ≡ over m1 (p + 8) (middleBytes (kindOf v) ++ labelBytes (x .labels)) = then-store m1 (p + 8) (middleBytes (kindOf v)) (p + 16) (labelBytes (x .labels)) middle e3 (omega (arith, middle-length (kindOf v))) in
+    then-store m p (highBytes 8 (payloadOf v)) (p + 8) (middleBytes (kindOf v) ++ labelBytes (x .labels)) e1 two (omega (arith, high-length 8 (payloadOf v)))

@@ -1,7 +1,7 @@
 -- A labelled value in 48 bytes: payload 8, source 2, key 2, kind 1, spare 3, set 32. Source, key and spare have no meaning yet.
 use Prim.Native.Nat.{ℕ, _+_, _%_}
 use mathlib.Core.Bool.{Bool, true, false}
-use mathlib.Core.List.{List, _∷_, _++_}
+use mathlib.Core.List.{List, [], _∷_, _++_}
 use mathlib.Core.Option.{Option, none, some}
 use lib.Dec.{eqb}
 use Rattle.wire.specs.Bytes.{pick, byte}
@@ -49,9 +49,13 @@ wordAt m p = number (bytesAt m p 8) 0
 
 -- ---- Records
 
+-- source and key, the kind, and the spare bytes
+unfoldable pub middleBytes : (kind : ℕ) → List ℕ
+middleBytes k = 0 ∷ 0 ∷ 0 ∷ 0 ∷ k ∷ 0 ∷ 0 ∷ 0 ∷ []
+
 -- all bytes of a record
 unfoldable pub recordBytes : Labelled → List ℕ
-recordBytes x = highBytes 8 (payloadOf (x .value)) ++ (0 ∷ 0 ∷ 0 ∷ 0 ∷ kindOf (x .value) ∷ 0 ∷ 0 ∷ 0 ∷ labelBytes (x .labels))
+recordBytes x = highBytes 8 (payloadOf (x .value)) ++ (middleBytes (kindOf (x .value)) ++ labelBytes (x .labels))
 
 -- what the record at p holds
 unfoldable pub recordIn : List ℕ → ℕ → Option Labelled

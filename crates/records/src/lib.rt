@@ -2,9 +2,10 @@
 // A store writes all of them: source, key and spare as zeros, which nothing reads yet.
 ghost use mathlib.Core.Path.{_≡_};
 ghost use Prim.Native.Nat.{_+_, _≤_};
+ghost use lib.ListN.{length};
 ghost use Rattle.wire.specs.Numbers.{highBytes};
 ghost use Rattle.wire.specs.Runs.{over};
-ghost use Rattle.records.specs.Record.{kindAt, kindOf, payloadOf, valueFrom, wordAt, recordBytes, recordIn, isEmpty, heldOf};
+ghost use Rattle.records.specs.Record.{recordSize, kindAt, kindOf, payloadOf, valueFrom, wordAt, middleBytes, recordBytes, recordIn, isEmpty, heldOf};
 use labels::Labels;
 use values::Labelled;
 use values::Value;
@@ -65,7 +66,7 @@ fn value_at(bytes: &[u8], kind: u8, at: usize) -> Value
 
 // What the record at a place holds.
 pub fn record_at(bytes: &[u8], at: usize) -> Held
-    requires { ⌜ at ≤ 4294967296 ⌝ }
+    requires { ⌜ at + recordSize ≤ length (now bytes) ⌝ }
     ensures { λ r. ⌜ r ≡ heldOf (recordIn (now (bytes .entry)) at) ⌝ }
 {
     let kind = wire::byte_at(bytes, at + KIND);
@@ -73,7 +74,7 @@ pub fn record_at(bytes: &[u8], at: usize) -> Held
         return Held::Empty;
     }
     let value = value_at(bytes, kind, at);
-    let labels = Labels::read_at(bytes, at + SET);
+    let labels = Labels::read_within(bytes, at + SET);
     Held::Holds(Labelled { value, labels })
 }
 
@@ -85,16 +86,30 @@ pub fn is_empty(bytes: &[u8], at: usize) -> bool
     wire::byte_at(bytes, at + KIND) == 0
 }
 
-// Source, key and spare are zeros: with the kind they are one number of eight bytes.
+// Source, key, kind and spare.
+fn put_middle(bytes: &mut [u8], at: usize, kind: u8)
+    requires { ⌜ at + 8 ≤ length (now bytes) ⌝ }
+    ensures { λ _. ⌜ now (bytes .exit) ≡ over (now (bytes .entry)) at (middleBytes kind) ⌝ }
+{
+    bytes[at] = 0;
+    bytes[at + 1] = 0;
+    bytes[at + 2] = 0;
+    bytes[at + 3] = 0;
+    bytes[at + 4] = kind;
+    bytes[at + 5] = 0;
+    bytes[at + 6] = 0;
+    bytes[at + 7] = 0;
+}
+
 pub fn put_record(bytes: &mut [u8], at: usize, x: Labelled)
-    requires { ⌜ at ≤ 4294967296 ⌝ }
+    requires { ⌜ at + recordSize ≤ length (now bytes) ⌝ }
     ensures { λ _. ⌜ now (bytes .exit) ≡ over (now (bytes .entry)) at (recordBytes x) ⌝ }
 {
     let value = x.value;
     let labels = x.labels;
     put_payload(bytes, at, value);
-    wire::put_number(bytes, at + SOURCE, kind_of(value) as u64 * 16777216, 8);
-    labels.write_at(bytes, at + SET);
+    put_middle(bytes, at + SOURCE, kind_of(value));
+    labels.write_within(bytes, at + SET);
 }
 
 // The record at a place then holds nothing.

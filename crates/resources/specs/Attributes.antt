@@ -4,7 +4,6 @@ use mathlib.Core.Path.{_≡_}
 use mathlib.Core.List.{List, [], _∷_}
 use lib.ListN.{length, take, drop}
 use Rattle.labels.specs.declared.Labels.{Labels}
-use Rattle.labels.specs.Sets.{_∪_}
 use Rattle.values.specs.declared.Refusal.{Refusal}
 use Rattle.values.specs.declared.Labelled.{Labelled}
 use Rattle.wire.specs.Bytes.{two, fieldsIn}

@@ -9,12 +9,10 @@ use lib.IntN.{ℤ, pos, negsuc}
 use lib.ListN.{length, take, drop, length-append}
 use lib.Seq.{take-append-seam, drop-append-seam, drop-drop, drop-at}
 use Rattle.labels.specs.declared.Labels.{Labels}
-use Rattle.labels.specs.Sets.{Words64}
 use Rattle.labels.specs.Bytes.{labelBytes, labelsFrom}
 use Rattle.labels.proofs.Laws.{label-length, label-back}
 use Rattle.values.specs.declared.Value.{Value}
 use Rattle.values.specs.declared.Value.the-variants.{Integer, String, Boolean}
-use Rattle.values.specs.declared.Labelled.{Labelled}
 use Rattle.rules.specs.Bytes.{two}
 use Rattle.rules.specs.Read.{number, signed64}
 use Rattle.rules.specs.Arithmetic.{fits64}

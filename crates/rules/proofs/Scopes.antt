@@ -3,7 +3,7 @@
 use Prim.Native.Nat.{ℕ, zero, suc, _+_, _≤_, _<_}
 use native.Mathlib.Omega.{arith}
 use mathlib.Core.Path.{_≡_, refl, sym, ap, _∙_}
-use mathlib.Core.Bool.{Bool, true, false, _&&_, _||_, not, true≢false, false≢true}
+use mathlib.Core.Bool.{Bool, true, false, _&&_, not, true≢false, false≢true}
 use mathlib.Core.List.{List, [], _∷_}
 use mathlib.Core.Option.{Option, none, some}
 use lib.Dec.{eqb}
@@ -11,14 +11,13 @@ use borrow.Author.Tests.{ne-eqb}
 use Rattle.labels.specs.declared.Labels.{Labels}
 use Rattle.values.specs.declared.Value.{Value}
 use Rattle.values.specs.declared.Labelled.{Labelled}
-use Rattle.values.specs.declared.Reason.{Reason}
-use Rattle.rules.specs.Outcome.{Outcome, refused, done, _>>=_}
+use Rattle.rules.specs.Outcome.{done, _>>=_}
 use Rattle.rules.specs.Tree.{Statement, assignment, conditional, choice, builtInResource, definedResource, classWithAttributes, include, Block, end, next, Branches, noBranch, branch, defaultBranch, Parent, ClassDefinition, Definition, typeDefinition, classDefinition, Devices, Item, statement, node, definition}
 use Rattle.rules.specs.Tree
 use Rattle.rules.specs.Arithmetic.{sameValue}
-use Rattle.rules.specs.State.{Scope, topScope, nodeScope, classScope, bodyScope, sameScope, Base, topBase, nodeBase, baseScope, DeclaredClass, parentOfClass, parentOf, upward, Cell, Cells, noCell, valueInto, markInto, freed, count, Entry, State, Context, Known, scopesTried, isDeclared, takeStep, assign, tested, markDeclared, free, withEntry}
+use Rattle.rules.specs.State.{Scope, topScope, nodeScope, classScope, bodyScope, sameScope, Base, topBase, nodeBase, baseScope, DeclaredClass, parentOfClass, parentOf, upward, Cell, noCell, valueInto, markInto, freed, count, State, Context, Known, scopesTried, isDeclared, takeStep, assign, tested, markDeclared, free, withEntry}
 use Rattle.rules.specs.Evaluate.{findClass}
-use Rattle.rules.specs.Run.{assignsIn, assignsAny, declaresIn, declaresAny, inBranch, store, Given, storeAll, storeTitle, addEntry, addResource, afterTest, Declaration, ofType, ofClass, included, Declare, statementPlace, run, runBlock, runBranch, placedUnder, inClass, inBody, parentFirst, enterClass, declaration, runAtTop, topContext, nodeContext, definedName, withDefinition, runItems}
+use Rattle.rules.specs.Run.{inBranch, store, Given, storeAll, storeTitle, addEntry, addResource, afterTest, Declaration, ofType, ofClass, included, Declare, run, runBlock, runBranch, placedUnder, inClass, inBody, parentFirst, enterClass, declaration, runAtTop, topContext, nodeContext, definedName, withDefinition, runItems}
 use Rattle.rules.specs.Compile.{start}
 use Rattle.rules.proofs.Lists.{Perhaps, notThere, there, Each, noneLeft, also, eqb-true, eqb-same, both-left, both-right, both-true}
 use Rattle.rules.proofs.Outcome.{All, allRefused, allDone, allBind, allAny, allMap, allBoth, allIf, allPassed, allFound, allStep, withSteps}

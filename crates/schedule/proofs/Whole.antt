@@ -5,14 +5,13 @@ use mathlib.Core.Bool.{_||_}
 use mathlib.Core.List.{List, [], _∷_, _++_}
 use Prim.Native.Nat.{ℕ, suc, _+_, _*_, _-_, _≤_, _<_}
 use native.Mathlib.Omega.{arith}
-use borrow.Author.Tests.{le-ltb, ltb-false}
+use borrow.Author.Tests.{ltb-false}
 use lib.Dec.{eqb, ltb, lit≤}
 use lib.ListN.{length, getD, take}
 use lib.Seq.{take-append-seam}
 use Rattle.values.specs.declared.Reason.{Reason}
 use Rattle.values.specs.declared.Reason.the-variants.{MemoryTooShort, ManifestLength, Malformed, TooDeep, StringOrder, StepLimit, LevelLimit, DefinedAgain, Unknown, DeclaredAgain, UnknownParameter, MissingParameter, NoValue, AssignedAgain, WrongKind, Overflow, DivisionByZero, NoMatch, NotInCatalog, ResourceAgain, AttributeAgain, CellLimit, OutputFull}
 use Rattle.values.specs.Numbers.{numberOf}
-use Rattle.wire.specs.Runs.{zeros}
 use Rattle.rules.specs.declared.Verdict.{Verdict}
 use Rattle.rules.specs.declared.Verdict.the-variants.{Sound, Fault}
 use Rattle.rules.specs.Bytes.{two}
@@ -26,18 +25,14 @@ use Rattle.rules.specs.EditRule.{IsBytes}
 use Rattle.rules.specs.Schedule.{entryLines, stepsLine, refusalLine, textOf}
 use Rattle.rules.proofs.Lists.{Each, noneLeft, each-apply, either-right}
 use Rattle.rules.proofs.Outcome.{All, allRefused, allDone, allBind, allAny, allGet, allPassed}
-use Rattle.rules.proofs.Laws.{final-sound, onto-each, catalog-within, steps-within-limit}
+use Rattle.rules.proofs.Laws.{final-sound, onto-each, catalog-within}
 use Rattle.rules.proofs.ReadBack.{FitsEntry, read-back}
 use Rattle.syntax.specs.Strings.{textsAt, stringTexts, indexed, Indexed}
 use Rattle.syntax.proofs.StringsRead.{Short, short-strings, strings-read, table-holds}
-use Rattle.catalog.specs.Making.{Stored, stored}
-use Rattle.schedule.specs.declared.Written.{Written}
-use Rattle.schedule.specs.declared.Written.the-variants.{Length}
 use Rattle.schedule.specs.Strings.{placesFrom, stringsBy}
-use Rattle.schedule.specs.Appending.{fitted}
 use Rattle.schedule.specs.Subjects.{start}
 use Rattle.schedule.specs.Lines.{Prints}
-use Rattle.schedule.proofs.Sizes.{steps-line-short, refusal-line-short}
+use Rattle.schedule.proofs.Sizes.{refusal-line-short}
 use Rattle.schedule.proofs.Printing.{catalog-prints}
 
 -- ---- The strings by an index

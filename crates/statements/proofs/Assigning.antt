@@ -16,7 +16,7 @@ use Rattle.rules.specs.Tree as tree
 use Rattle.rules.specs.State.{Entry, State, Known}
 use Rattle.rules.specs.State as state
 use Rattle.rules.specs.Evaluate.{evaluate}
-use Rattle.rules.specs.Run.{Declare, run, store, stored, withPathAndTrail}
+use Rattle.rules.specs.Run.{Declare, run, store, stored}
 use Rattle.rules.specs.declared.Kind.the-variants.{Statement, Expression}
 use Rattle.places.specs.At.{expressionAt, statementAt, StandsAs}
 use Rattle.places.proofs.Statements.{AssignmentAt, assignment-opens}

@@ -11,7 +11,7 @@ mul-put-record : tie.Need-mul-put-record
 mul-put-record c = search needs
 
 put-record-requires : tie.Need-put-record-requires
-put-record-requires c κs = search needs
+put-record-requires c κs = omega arith
 
 same-length : tie.Need-same-length
 same-length c = search needs

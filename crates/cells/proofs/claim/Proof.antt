@@ -30,24 +30,24 @@ add-empty-record c = search needs
 empty-record-requires : tie.Need-empty-record-requires
 empty-record-requires c κs = search needs
 
-mul-write-at : tie.Need-mul-write-at
-mul-write-at c = search needs
+mul-write-within : tie.Need-mul-write-within
+mul-write-within c = search needs
 
-add-write-at : tie.Need-add-write-at
-add-write-at c = search needs
+add-write-within : tie.Need-add-write-within
+add-write-within c = search needs
 
-add-write-at-2 : tie.Need-add-write-at-2
-add-write-at-2 c = search needs
+add-write-within-2 : tie.Need-add-write-within-2
+add-write-within-2 c = search needs
 
-write-at-requires : tie.Need-write-at-requires
-write-at-requires c κs = search needs
+write-within-requires : tie.Need-write-within-requires
+write-within-requires c κs = omega arith
 
 put-in-requires : tie.Need-put-in-requires
 unfolding noLabels
 put-in-requires c κs =
     let start = (c .before .before .before .before .before .before .before .before .before .before .before .before .before .before .before .before .before .before .before .before .before .before) in
     let out = c .before .before .before .before .before .before .before .before .before .before .before .before .before .before .before .before .before .before .before .take-out in
-    (start .pre .0, (omega arith, (start .pre .1 .1, claim-out _ _ _ _ _ (start .pre .0) (omega (arith, start .pre .1 .0, out .kept .0)) (omega arith) (out .ensures) (c .before .before .before .before .before .before .before .before .before .before .before .before .before .before .before .put-byte .ensures) (c .before .before .before .before .before .before .before .before .before .before .before .put-two .ensures) (c .before .before .before .before .before .before .before .empty-record .ensures) (c .before .before .before .write-at .ensures))))
+    (start .pre .0, (omega arith, (start .pre .1 .1, claim-out _ _ _ _ _ (start .pre .0) (omega (arith, start .pre .1 .0, out .kept .0)) (omega arith) (out .ensures) (c .before .before .before .before .before .before .before .before .before .before .before .before .before .before .before .put-byte .ensures) (c .before .before .before .before .before .before .before .before .before .before .before .put-two .ensures) (c .before .before .before .before .before .before .before .empty-record .ensures) (c .before .before .before .write-within .ensures))))
 
 same-length : tie.Need-same-length
 same-length c = search needs
@@ -57,7 +57,7 @@ unfolding noLabels
 returns c =
     let start = (c .before .before .before .before .before .before .before .before .before .before .before .before .before .before .before .before .before .before .before .before .before .before .before .before .before) in
     let out = c .before .before .before .before .before .before .before .before .before .before .before .before .before .before .before .before .before .before .before .before .before .before .take-out in
-    claim-way _ _ _ _ _ (start .pre .0) (omega (arith, start .pre .1 .0, out .kept .0)) (omega arith) (out .ensures) (c .before .before .before .before .before .before .before .before .before .before .before .before .before .before .before .before .before .before .put-byte .ensures) (c .before .before .before .before .before .before .before .before .before .before .before .before .before .before .put-two .ensures) (c .before .before .before .before .before .before .before .before .before .before .empty-record .ensures) (c .before .before .before .before .before .before .write-at .ensures) _ _ (c .before .before .put-in .ensures)
+    claim-way _ _ _ _ _ (start .pre .0) (omega (arith, start .pre .1 .0, out .kept .0)) (omega arith) (out .ensures) (c .before .before .before .before .before .before .before .before .before .before .before .before .before .before .before .before .before .before .put-byte .ensures) (c .before .before .before .before .before .before .before .before .before .before .before .before .before .before .put-two .ensures) (c .before .before .before .before .before .before .before .before .before .before .empty-record .ensures) (c .before .before .before .before .before .before .write-within .ensures) _ _ (c .before .before .put-in .ensures)
 
 pub claim-spec : {M : Type 1} → statement M
 claim-spec =
@@ -71,10 +71,10 @@ claim-spec =
     mul-empty-record
     add-empty-record
     empty-record-requires
-    mul-write-at
-    add-write-at
-    add-write-at-2
-    write-at-requires
+    mul-write-within
+    add-write-within
+    add-write-within-2
+    write-within-requires
     put-in-requires
     same-length
     returns)

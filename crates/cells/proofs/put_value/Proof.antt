@@ -14,7 +14,7 @@ add-put-record : tie.Need-add-put-record
 add-put-record c = search needs
 
 put-record-requires : tie.Need-put-record-requires
-put-record-requires c κs = search needs
+put-record-requires c κs = omega arith
 
 same-length : tie.Need-same-length
 same-length c = search needs

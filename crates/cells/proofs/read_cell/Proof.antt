@@ -19,7 +19,8 @@ returns c = read-none _ _ _ (c .before .before .find .ensures) (c .enum-told .gi
 
 held-at-requires : tie.Need-held-at-requires
 held-at-requires c κs =
-    in-slots _ _ _ _ (c .before .before .before .find .ensures) (c .before .i .given .1)
+    let start = c .before .before .before .before .before in
+    (in-slots _ _ _ _ (c .before .before .before .find .ensures) (c .before .i .given .1), start .pre)
 
 mark-at-requires : tie.Need-mark-at-requires
 mark-at-requires c κs =

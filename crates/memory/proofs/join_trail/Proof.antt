@@ -11,8 +11,8 @@ trail-requires c κs = omega arith
 union-requires : tie.Need-union-requires
 union-requires c κs = tt
 
-write-at-requires : tie.Need-write-at-requires
-write-at-requires c κs = omega arith
+write-within-requires : tie.Need-write-within-requires
+write-within-requires c κs = omega arith
 
 same-length : tie.Need-same-length
 same-length c = search needs
@@ -20,8 +20,8 @@ same-length c = search needs
 returns : tie.Need-returns
 returns c =
     let union = c .before .before .before .before .union in
-    trail-way _ _ _ (c .before .before .before .before .before .before .before .before .pre) (record { small0 = omega (arith, union .ok); small1 = omega (arith, union .ok); small2 = omega (arith, union .ok); small3 = omega (arith, union .ok) }) (c .before .before .before .before .before .trail .ensures) (union .ensures) (c .before .before .write-at .ensures)
+    trail-way _ _ _ (c .before .before .before .before .before .before .before .before .pre) (record { small0 = omega (arith, union .ok); small1 = omega (arith, union .ok); small2 = omega (arith, union .ok); small3 = omega (arith, union .ok) }) (c .before .before .before .before .before .trail .ensures) (union .ensures) (c .before .before .write-within .ensures)
 
 pub join-trail-spec : {M : Type 1} → statement M
 join-trail-spec =
-    tie.close (tie.spec trail-requires union-requires write-at-requires same-length returns)
+    tie.close (tie.spec trail-requires union-requires write-within-requires same-length returns)

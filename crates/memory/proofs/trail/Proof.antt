@@ -4,12 +4,12 @@ use Rattle.cells.specs.Layout.{trailOf}
 use Rattle.memory.proofs.trail.Statement.{statement}
 use Rattle.memory.proofs.trail.Tie as tie
 
-read-at-requires : tie.Need-read-at-requires
-read-at-requires c κs = omega arith
+read-within-requires : tie.Need-read-within-requires
+read-within-requires c κs = omega arith
 
 returns : tie.Need-returns
 unfolding trailOf
-returns c = c .read-at .ensures
+returns c = c .read-within .ensures
 
 pub trail-spec : {M : Type 1} → statement M
-trail-spec = tie.close (tie.spec read-at-requires returns)
+trail-spec = tie.close (tie.spec read-within-requires returns)

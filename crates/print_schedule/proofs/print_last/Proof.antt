@@ -1,10 +1,8 @@
 -- `print_last`: the line fits, and is all that is left.
-use Prim.Native.Nat.{ℕ, _+_}
-use mathlib.Core.Path.{_≡_, refl, ap, _∙_}
+use Prim.Native.Nat.{ℕ}
+use mathlib.Core.Path.{_≡_, _∙_}
 use borrow.Author.Needs.{needs}
 use native.Mathlib.Omega.{arith}
-use lib.ListN.{length, take}
-use Rattle.schedule.specs.declared.Written.the-variants.{Length}
 use Rattle.print_schedule.proofs.Printing.{last-bytes, last-next, all-sent}
 use Rattle.print_schedule.proofs.print_last.Statement.{statement}
 use Rattle.print_schedule.proofs.print_last.Tie as tie

@@ -16,14 +16,14 @@ returns c = read-nothing _ _ (c .before .byte-at .ensures) (c .if1 .taken)
 value-at-requires : tie.Need-value-at-requires
 value-at-requires c κs = search needs
 
-add-read-at : tie.Need-add-read-at
-add-read-at c = search needs
+add-read-within : tie.Need-add-read-within
+add-read-within c = search needs
 
-read-at-requires : tie.Need-read-at-requires
-read-at-requires c κs = search needs
+read-within-requires : tie.Need-read-within-requires
+read-within-requires c κs = search needs
 
 returns-2 : tie.Need-returns-2
-returns-2 c = read-value _ _ (c .before .before .before .byte-at .ensures) (c .before .before .if1 .left) (c .before .value-at .ensures) (c .read-at .ensures)
+returns-2 c = read-value _ _ (c .before .before .before .byte-at .ensures) (c .before .before .if1 .left) (c .before .value-at .ensures) (c .read-within .ensures)
 
 pub record-at-spec : {M : Type 1} → statement M
 record-at-spec =
@@ -33,6 +33,6 @@ record-at-spec =
     byte-at-requires
     returns
     value-at-requires
-    add-read-at
-    read-at-requires
+    add-read-within
+    read-within-requires
     returns-2)

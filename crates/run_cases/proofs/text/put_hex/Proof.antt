@@ -1,7 +1,7 @@
 -- `put_hex`: what is left to store at the loop's head makes the whole.
-use Prim.Native.Nat.{_*_, _-_, _≤_}
+use Prim.Native.Nat.{_-_}
 use native.Mathlib.Omega.{arith}
-use lib.ListN.{length, length-set}
+use lib.ListN.{length-set}
 use Rattle.run_cases.proofs.Texts.{counts, Writing, writing-first, writing-length, writing-more, writing-done}
 use Rattle.run_cases.proofs.text.put_hex.Statement.{statement}
 use Rattle.run_cases.proofs.text.put_hex.Tie as tie

@@ -1,8 +1,8 @@
--- `Labels::write_words` stores the four words.
+-- `Labels::write_within` stores the four words.
 use borrow.Author.Needs.{needs}
 use Rattle.labels.proofs.Laws.{label-stored}
-use Rattle.labels.proofs.Labels.write_words.Statement.{statement}
-use Rattle.labels.proofs.Labels.write_words.Tie as tie
+use Rattle.labels.proofs.Labels.write_within.Statement.{statement}
+use Rattle.labels.proofs.Labels.write_within.Tie as tie
 
 put-word-requires : tie.Need-put-word-requires
 put-word-requires c κs = search needs
@@ -31,8 +31,8 @@ same-length c = search needs
 returns : tie.Need-returns
 returns c = label-stored (c .before .before .before .before .before .before .before .before .before .before .before .before .before .before .before .before .before .args .self) _ _ (c .before .before .before .before .before .before .before .before .before .before .before .before .before .before .put-word .ensures) (c .before .before .before .before .before .before .before .before .before .before .put-word2 .ensures) (c .before .before .before .before .before .before .put-word3 .ensures) (c .before .before .put-word4 .ensures)
 
-pub write-words-spec : {M : Type 1} → statement M
-write-words-spec =
+pub write-within-spec : {M : Type 1} → statement M
+write-within-spec =
     tie.close
     (tie.spec
     put-word-requires

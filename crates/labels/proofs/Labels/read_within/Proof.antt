@@ -1,8 +1,8 @@
--- `read_words`: the four words.
+-- `read_within`: the four words.
 use borrow.Author.Needs.{needs}
 use Rattle.labels.proofs.Places.{words-read}
-use Rattle.labels.proofs.read_words.Statement.{statement}
-use Rattle.labels.proofs.read_words.Tie as tie
+use Rattle.labels.proofs.Labels.read_within.Statement.{statement}
+use Rattle.labels.proofs.Labels.read_within.Tie as tie
 
 read-word-requires : tie.Need-read-word-requires
 read-word-requires c κs = search needs
@@ -28,8 +28,8 @@ read-word-requires-4 c κs = search needs
 returns : tie.Need-returns
 returns c = words-read _ _ (c .before .before .before .read-word .ensures) (c .before .before .read-word2 .ensures) (c .before .read-word3 .ensures) (c .read-word4 .ensures)
 
-pub read-words-spec : {M : Type 1} → statement M
-read-words-spec =
+pub read-within-spec : {M : Type 1} → statement M
+read-within-spec =
     tie.close
     (tie.spec
     read-word-requires
