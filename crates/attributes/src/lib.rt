@@ -125,10 +125,10 @@ pub fn find_repeated(m: &[u8], first: usize, end: usize) -> catalog::Place
 pub const TABLE: usize = 1024 * records::SIZE;
 
 // How many names a small table has rows for: to clear the large one takes longer than most declarations take.
-pub const SMALL_NAMES: u16 = 112;
+pub const SMALL_NAMES: u16 = 64;
 
 // How many bytes a small table has.
-pub const SMALL_TABLE: usize = 112 * records::SIZE;
+pub const SMALL_TABLE: usize = 64 * records::SIZE;
 
 // The value given to a name.
 pub fn given(table: &[u8], name: u16) -> Held

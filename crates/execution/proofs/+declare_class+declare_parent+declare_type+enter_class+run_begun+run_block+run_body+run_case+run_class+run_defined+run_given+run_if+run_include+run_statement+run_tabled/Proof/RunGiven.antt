@@ -33,7 +33,7 @@ pub slice-aggregate-run-tabled-2 : (t : ℕ) → run-given-lts.Need-slice-aggreg
 slice-aggregate-run-tabled-2 t c = search needs
 
 pub run-tabled-requires-2 : (t : ℕ) → run-given-lts.Need-run-tabled-requires-2 (run-given-calls t) (run-given-at t) run-given.Post
-run-tabled-requires-2 t c κs = (omega (arith, c .before .before .before .before .before .before .before .before .before .before .pre .0), (c .before .before .before .before .before .before .before .before .before .before .pre .1 .0, table-below 5376 112 (omega arith) (c .before .before .before .before .before .before .before .before .before .before .pre .1 .1) (c .before .before .before .before .before .before .end-of .ensures) (c .before .before .before .before .before .has-name-from .ensures) (c .before .before .before .before .if1 .left)))
+run-tabled-requires-2 t c κs = (omega (arith, c .before .before .before .before .before .before .before .before .before .before .pre .0), (c .before .before .before .before .before .before .before .before .before .before .pre .1 .0, table-below 3072 64 (omega arith) (c .before .before .before .before .before .before .before .before .before .before .pre .1 .1) (c .before .before .before .before .before .before .end-of .ensures) (c .before .before .before .before .before .has-name-from .ensures) (c .before .before .before .before .if1 .left)))
 
 pub same-length-3 : (t : ℕ) → run-given-lts.Need-same-length-3 (run-given-calls t) (run-given-at t) run-given.Post
 same-length-3 t c = c .before .before .before .before .before .run-tabled2 .kept .1 .1 .1 .0
