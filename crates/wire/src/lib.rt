@@ -2,7 +2,7 @@
 ghost use mathlib.Core.Path.{_≡_};
 ghost use mathlib.Core.List.{_∷_};
 ghost use Prim.Native.Nat.{_+_, _-_, _≤_, _<_};
-ghost use lib.ListN.{drop};
+ghost use lib.ListN.{length, drop};
 ghost use Rattle.wire.specs.Bytes.{byte, two, endOf};
 ghost use Rattle.wire.specs.Numbers.{number, signed64, highBytes, word64};
 ghost use Rattle.wire.specs.Runs.{bytesAt, over, zeros};
@@ -34,11 +34,40 @@ fn after(m: &[u8], i: usize) -> usize
     if i < m.len() { i + 1 } else { i }
 }
 
-pub fn two_at(m: &[u8], i: usize) -> u16
+fn two_slow(m: &[u8], i: usize) -> u16
     ensures { λ r. ⌜ r ≡ two (now (m .entry)) i ⌝ }
 {
     let high = byte_at(m, i);
     let low = byte_at(m, after(m, i));
+    wide_two(high) * 256 + wide_two(low)
+}
+
+pub fn two_at(m: &[u8], i: usize) -> u16
+    ensures { λ r. ⌜ r ≡ two (now (m .entry)) i ⌝ }
+{
+    if i < m.len() {
+        if 2 <= m.len() - i {
+            return two_in(m, i);
+        }
+    }
+    two_slow(m, i)
+}
+
+// A byte that is there.
+pub fn byte_in(m: &[u8], i: usize) -> u8
+    requires { ⌜ i < length (now m) ⌝ }
+    ensures { λ r. ⌜ r ≡ byte (now (m .entry)) i ⌝ }
+{
+    m[i]
+}
+
+// Two bytes that are there.
+pub fn two_in(m: &[u8], i: usize) -> u16
+    requires { ⌜ i + 2 ≤ length (now m) ⌝ }
+    ensures { λ r. ⌜ r ≡ two (now (m .entry)) i ⌝ }
+{
+    let high = byte_in(m, i);
+    let low = byte_in(m, i + 1);
     wide_two(high) * 256 + wide_two(low)
 }
 

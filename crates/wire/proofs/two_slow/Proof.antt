@@ -1,10 +1,10 @@
--- `two_at`: the low byte is read at the place after the high one.
+-- `two_slow`: the low byte is read at the place after the high one.
 use Prim.Native.Nat.{_+_}
 use native.Mathlib.Omega.{arith}
 use Rattle.wire.specs.Bytes.{two}
 use Rattle.wire.proofs.Laws.{same-byte}
-use Rattle.wire.proofs.two_at.Statement.{statement}
-use Rattle.wire.proofs.two_at.Tie as tie
+use Rattle.wire.proofs.two_slow.Statement.{statement}
+use Rattle.wire.proofs.two_slow.Tie as tie
 
 byte-at-requires : tie.Need-byte-at-requires
 byte-at-requires c κs = tt
@@ -33,8 +33,8 @@ returns c =
     let m = c .before .before .before .before .before .before .args .m .now in
     omega (arith, same-byte m m (c .before .before .before .after .result) (c .before .before .before .before .before .before .args .i + 1) (c .before .before .before .after .ensures))
 
-pub two-at-spec : {M : Type 1} → statement M
-two-at-spec =
+pub two-slow-spec : {M : Type 1} → statement M
+two-slow-spec =
     tie.close
     (tie.spec
     byte-at-requires
