@@ -44,8 +44,8 @@ fn put_payload(bytes: &mut [u8], at: usize, value: Value)
 {
     match value {
         Value::Integer(z) => wire::put_signed(bytes, at, z),
-        Value::String(n) => wire::put_number(bytes, at, n as u64, 8),
-        Value::Boolean(b) => wire::put_number(bytes, at, b as u64, 8),
+        Value::String(n) => wire::put_eight(bytes, at, n as u64),
+        Value::Boolean(b) => wire::put_eight(bytes, at, b as u64),
     }
 }
 

@@ -250,15 +250,29 @@ pub one-byte : (b : ℕ) → b < 256 → highBytes 1 b ≡ b ∷ []
 unfolding highBytes
 one-byte b h = ap (λ (x : ℕ). x ∷ []) (ap (λ (x : ℕ). x % 256) (div-one b) ∙ mod-eq-of-lt h)
 
--- a tag and a length of two bytes, as one number of three
-pub header-bytes : (t n : ℕ) → t < 256 → n < 65536 → highBytes 3 (t * 65536 + n) ≡ t ∷ highBytes 2 n
-unfolding highBytes
-header-bytes t n h l =
-    let w : ℕ = t * 65536 + n in
-    let tag : w / 256 ^ 2 % 256 ≡ t = omega arith in
-    let high : w / 256 ^ 1 % 256 ≡ n / 256 ^ 1 % 256 = omega arith in
-    let low : w / 256 ^ 0 % 256 ≡ n / 256 ^ 0 % 256 = omega arith in
-    rw (tag, high, low)
+-- two bytes and eight, stored one by one
+pub two-stored : (m : List ℕ) (p n : ℕ) → n < 65536 → set (set m p (n / 256)) (p + 1) (n % 256) ≡ over m p (highBytes 2 n)
+unfolding over highBytes
+two-stored m p n h =
+    let high : n / 256 ^ 1 % 256 ≡ n / 256 = omega arith in
+    let low : n / 256 ^ 0 % 256 ≡ n % 256 = omega arith in
+    rw (high, low, add-one)
+
+pub eight-stored : (m : List ℕ) (p n : ℕ) → n < 18446744073709551616
+    → set (set (set (set (set (set (set (set m p (n / 72057594037927936)) (p + 1) (n / 281474976710656 % 256)) (p + 2) (n / 1099511627776 % 256)) (p + 3) (n / 4294967296 % 256)) (p + 4) (n / 16777216 % 256)) (p + 5) (n / 65536 % 256)) (p + 6) (n / 256 % 256)) (p + 7) (n % 256)
+    ≡ over m p (highBytes 8 n)
+unfolding over highBytes
+eight-stored m p n h =
+    let highest : n / 256 ^ 7 % 256 ≡ n / 72057594037927936 = omega arith in
+    let lowest : n / 256 ^ 0 % 256 ≡ n % 256 = omega arith in
+    let place1 : suc p ≡ p + 1 = omega arith in
+    let place2 : suc (p + 1) ≡ p + 2 = omega arith in
+    let place3 : suc (p + 2) ≡ p + 3 = omega arith in
+    let place4 : suc (p + 3) ≡ p + 4 = omega arith in
+    let place5 : suc (p + 4) ≡ p + 5 = omega arith in
+    let place6 : suc (p + 5) ≡ p + 6 = omega arith in
+    let place7 : suc (p + 6) ≡ p + 7 = omega arith in
+    rw (highest, lowest, place1, place2, place3, place4, place5, place6, place7)
 
 byte-powers : (k : ℕ) → 256 ^ k ≡ 2 ^ (8 * k)
 byte-powers zero = refl

@@ -1,3 +1,4 @@
 pub mod Laws
 pub mod Fields
 mod Signed
+pub mod Horner

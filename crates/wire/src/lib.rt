@@ -71,8 +71,35 @@ pub fn two_in(m: &[u8], i: usize) -> u16
     wide_two(high) * 256 + wide_two(low)
 }
 
+// Eight bytes that are there.
+pub fn number_in(m: &[u8], i: usize) -> u64
+    requires { ⌜ i + 8 ≤ length (now m) ⌝ }
+    ensures { λ r. ⌜ r ≡ number (bytesAt (now (m .entry)) i 8) 0 ⌝ }
+{
+    let mut n: u64 = 0;
+    let mut p = i;
+    let mut left: usize = 8;
+    while 0 < left {
+        n = n * 256 + wide(byte_in(m, p));
+        p += 1;
+        left -= 1;
+    }
+    n
+}
+
 // Eight bytes.
 pub fn number_at(m: &[u8], i: usize) -> u64
+    ensures { λ r. ⌜ r ≡ number (bytesAt (now (m .entry)) i 8) 0 ⌝ }
+{
+    if i < m.len() {
+        if 8 <= m.len() - i {
+            return number_in(m, i);
+        }
+    }
+    number_slow(m, i)
+}
+
+fn number_slow(m: &[u8], i: usize) -> u64
     ensures { λ r. ⌜ r ≡ number (bytesAt (now (m .entry)) i 8) 0 ⌝ }
 {
     let mut n: u64 = 0;
@@ -117,6 +144,14 @@ pub fn end_of(m: &[u8], p: usize) -> usize
     p + 3 + length_at(m, p) as usize
 }
 
+// The same, where the header is there.
+pub fn end_in(m: &[u8], p: usize) -> usize
+    requires { ⌜ (p + 3 ≤ length (now m)) × (p < 4294967296) ⌝ }
+    ensures { λ r. ⌜ r ≡ endOf (now (m .entry)) p ⌝ }
+{
+    p + 3 + two_in(m, p + 1) as usize
+}
+
 // ---- Stores
 
 pub fn put_byte(out: &mut [u8], at: usize, b: u8)
@@ -144,14 +179,50 @@ pub fn put_number(out: &mut [u8], at: usize, n: u64, width: usize)
 pub fn put_two(out: &mut [u8], at: usize, n: u16)
     ensures { λ _. ⌜ now (out .exit) ≡ over (now (out .entry)) at (highBytes 2 n) ⌝ }
 {
-    put_number(out, at, n as u64, 2);
+    if at < out.len() {
+        out[at] = (n / 256) as u8;
+        let q = at + 1;
+        if q < out.len() {
+            out[q] = (n % 256) as u8;
+        }
+    }
 }
 
 // The header of a field: its tag and its length.
 pub fn put_header(out: &mut [u8], at: usize, tag: u8, size: u16)
     ensures { λ _. ⌜ now (out .exit) ≡ over (now (out .entry)) at (tag ∷ highBytes 2 size) ⌝ }
 {
-    put_number(out, at, wide(tag) * 65536 + size as u64, 3);
+    if at < out.len() {
+        out[at] = tag;
+        put_two(out, at + 1, size);
+    }
+}
+
+// Eight bytes that are there.
+fn put_eight_in(out: &mut [u8], at: usize, n: u64)
+    requires { ⌜ at + 8 ≤ length (now out) ⌝ }
+    ensures { λ _. ⌜ now (out .exit) ≡ over (now (out .entry)) at (highBytes 8 n) ⌝ }
+{
+    out[at] = (n / 72057594037927936) as u8;
+    out[at + 1] = (n / 281474976710656 % 256) as u8;
+    out[at + 2] = (n / 1099511627776 % 256) as u8;
+    out[at + 3] = (n / 4294967296 % 256) as u8;
+    out[at + 4] = (n / 16777216 % 256) as u8;
+    out[at + 5] = (n / 65536 % 256) as u8;
+    out[at + 6] = (n / 256 % 256) as u8;
+    out[at + 7] = (n % 256) as u8;
+}
+
+pub fn put_eight(out: &mut [u8], at: usize, n: u64)
+    ensures { λ _. ⌜ now (out .exit) ≡ over (now (out .entry)) at (highBytes 8 n) ⌝ }
+{
+    if at < out.len() {
+        if 8 <= out.len() - at {
+            put_eight_in(out, at, n);
+            return;
+        }
+    }
+    put_number(out, at, n, 8);
 }
 
 fn word_of(z: i64) -> u64
@@ -166,7 +237,7 @@ fn word_of(z: i64) -> u64
 pub fn put_signed(out: &mut [u8], at: usize, z: i64)
     ensures { λ _. ⌜ now (out .exit) ≡ over (now (out .entry)) at (highBytes 8 (word64 z)) ⌝ }
 {
-    put_number(out, at, word_of(z), 8);
+    put_eight(out, at, word_of(z));
 }
 
 pub fn copy_into(out: &mut [u8], at: usize, from: &[u8])

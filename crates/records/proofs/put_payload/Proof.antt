@@ -16,20 +16,20 @@ put-signed-requires c κs = tt
 enum-known-value-2 : tie.Need-enum-known-value-2
 enum-known-value-2 c = c .match .keys2
 
-cast-put-number : tie.Need-cast-put-number
-cast-put-number c = omega arith
+cast-put-eight : tie.Need-cast-put-eight
+cast-put-eight c = omega arith
 
-put-number-requires : tie.Need-put-number-requires
-put-number-requires c κs = omega arith
+put-eight-requires : tie.Need-put-eight-requires
+put-eight-requires c κs = tt
 
 enum-known-value-3 : tie.Need-enum-known-value-3
 enum-known-value-3 c = c .match .keys3
 
-cast-put-number-2 : tie.Need-cast-put-number-2
-cast-put-number-2 c = omega arith
+cast-put-eight-2 : tie.Need-cast-put-eight-2
+cast-put-eight-2 c = omega arith
 
-put-number-requires-2 : tie.Need-put-number-requires-2
-put-number-requires-2 c κs = omega arith
+put-eight-requires-2 : tie.Need-put-eight-requires-2
+put-eight-requires-2 c κs = tt
 
 same-length : tie.Need-same-length
 same-length c = search needs
@@ -44,14 +44,14 @@ same-length-2 c = search needs
 
 returns-2 : tie.Need-returns-2
 unfolding payloadOf
-returns-2 c = other-payload _ _ _ (c .before .before .before .before .before .value2 .given .1) (c .before .before .put-number .ensures)
+returns-2 c = other-payload _ _ _ (c .before .before .before .before .before .value2 .given .1) (c .before .before .put-eight .ensures)
 
 same-length-3 : tie.Need-same-length-3
 same-length-3 c = search needs
 
 returns-3 : tie.Need-returns-3
 unfolding payloadOf
-returns-3 c = other-payload _ _ _ (c .before .before .before .before .before .value3 .given .1) (c .before .before .put-number2 .ensures)
+returns-3 c = other-payload _ _ _ (c .before .before .before .before .before .value3 .given .1) (c .before .before .put-eight2 .ensures)
 
 pub put-payload-spec : {M : Type 1} → statement M
 put-payload-spec =
@@ -60,11 +60,11 @@ put-payload-spec =
     enum-known-value
     put-signed-requires
     enum-known-value-2
-    cast-put-number
-    put-number-requires
+    cast-put-eight
+    put-eight-requires
     enum-known-value-3
-    cast-put-number-2
-    put-number-requires-2
+    cast-put-eight-2
+    put-eight-requires-2
     same-length
     returns
     same-length-2

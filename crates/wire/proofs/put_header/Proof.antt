@@ -1,41 +1,31 @@
--- `put_header`: a number of three bytes, the tag above the length.
-use mathlib.Core.List.{List, _∷_}
-use mathlib.Core.Path.{_≡_, ap, _∙_}
-use Prim.Native.Nat.{ℕ, _+_, _*_, _<_}
-use native.Mathlib.Omega.{arith}
+-- `put_header`: the tag, then the length.
+use mathlib.Core.List.{_∷_}
+use mathlib.Core.Path.{sym, ap, _∙_}
+use Prim.Native.Nat.{_+_}
 use borrow.Author.Needs.{needs}
+use lib.ListN.{length, length-set}
 use Rattle.wire.specs.Numbers.{highBytes}
-use Rattle.wire.specs.Runs.{over}
-use Rattle.wire.proofs.Laws.{header-bytes}
+use Rattle.wire.proofs.Laws.{over-length, over-more, over-past}
 use Rattle.wire.proofs.put_header.Statement.{statement}
 use Rattle.wire.proofs.put_header.Tie as tie
 
-wide-requires : tie.Need-wide-requires
-wide-requires c κs = tt
+slice-write-out : tie.Need-slice-write-out
+slice-write-out c = search needs
 
-mul-put-number : tie.Need-mul-put-number
-mul-put-number c = omega arith
+add-put-two : tie.Need-add-put-two
+add-put-two c = search needs
 
-add-put-number : tie.Need-add-put-number
-add-put-number c = omega arith
-
-put-number-requires : tie.Need-put-number-requires
-put-number-requires c κs = omega arith
+put-two-requires : tie.Need-put-two-requires
+put-two-requires c κs = search needs
 
 same-length : tie.Need-same-length
-same-length c = search needs
-
--- what `put_number` stores is the header
-stored : (m m′ : List ℕ) (at tag wide n : ℕ) → tag < 256 → n < 65536 → wide ≡ tag → m′ ≡ over m at (highBytes 3 (wide * 65536 + n)) → m′ ≡ over m at (tag ∷ highBytes 2 n)
-stored m m′ at tag wide n h l same e = e ∙ ap (over m at) (ap (λ (t : ℕ). highBytes 3 (t * 65536 + n)) same ∙ header-bytes tag n h l)
+same-length c = search (needs, c .before .before .put-two .ensures, over-length, length-set)
 
 returns : tie.Need-returns
-returns c =
-    let s = c .before .before .before .before .before .before .args in
-    let wide = c .before .before .before .wide in
-    stored (s .out .now) _ (s .at) (s .tag) (wide .result) (s .size) (omega arith) (omega arith) (wide .ensures) (c .before .before .put-number .ensures)
+returns c = let a = c .before .before .before .before .before .before .args in c .before .before .put-two .ensures ∙ over-more (a .out .now) (a .at) (a .tag) (highBytes 2 (a .size))
+
+returns-2 : tie.Need-returns-2
+returns-2 c = let a = c .before .before .args in sym (over-past (a .out .now) (a .at) (a .tag ∷ highBytes 2 (a .size)) (search needs))
 
 pub put-header-spec : {M : Type 1} → statement M
-put-header-spec =
-    tie.close
-    (tie.spec wide-requires mul-put-number add-put-number put-number-requires same-length returns)
+put-header-spec = tie.close (tie.spec slice-write-out add-put-two put-two-requires same-length returns returns-2)

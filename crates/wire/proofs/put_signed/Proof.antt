@@ -12,8 +12,8 @@ use Rattle.wire.proofs.put_signed.Tie as tie
 word-of-requires : tie.Need-word-of-requires
 word-of-requires c κs = tt
 
-put-number-requires : tie.Need-put-number-requires
-put-number-requires c κs = omega arith
+put-eight-requires : tie.Need-put-eight-requires
+put-eight-requires c κs = tt
 
 same-length : tie.Need-same-length
 same-length c = search needs
@@ -23,7 +23,7 @@ returns c =
     let start = c .before .before .before .before .before .before in
     let s = start .args in
     let word : c .before .before .before .word-of .result ≡ word64 (s .z) = c .before .before .before .word-of .ensures ∙ ap word64 (toZ-ofZ (start .fits .z)) in
-    c .before .before .put-number .ensures ∙ ap (λ (n : ℕ). over (s .out .now) (s .at) (highBytes 8 n)) word
+    c .before .before .put-eight .ensures ∙ ap (λ (n : ℕ). over (s .out .now) (s .at) (highBytes 8 n)) word
 
 pub put-signed-spec : {M : Type 1} → statement M
-put-signed-spec = tie.close (tie.spec word-of-requires put-number-requires same-length returns)
+put-signed-spec = tie.close (tie.spec word-of-requires put-eight-requires same-length returns)
