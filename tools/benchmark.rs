@@ -1,8 +1,10 @@
 //! How long the static library takes, as ratios against the program made apart; `tools/benchmark` builds and runs it.
-//! Both sides have one signature and clear the same output and memory. Each row is timed in rounds, a turn of each side
-//! in a round; the median of each side over the rounds is shown.
+//! All sides have one signature and clear the same output and memory. Each row is timed in rounds, a turn of each side
+//! in a round, by the processor time of the thread; the median of each side over the rounds is shown. Built with
+//! `--cfg former` there is a third side, an earlier library, whose function is named `rigbanut_compile_formerly`.
 
 #![allow(dead_code)] // The modules of the program made apart have more than is used here.
+#![allow(unexpected_cfgs)]
 
 include!("reference.rs");
 #[path = "../bindings/rigbanut.rs"]
@@ -13,7 +15,7 @@ use assemble::*;
 use case::Case;
 use std::hint::black_box;
 use std::process::ExitCode;
-use std::time::{Duration, Instant};
+use std::time::Duration;
 
 /// A row of the table: a name and what is compiled, one case after the other.
 struct Row {
@@ -27,13 +29,20 @@ fn main() -> ExitCode {
         [] => None,
         [part] if !part.starts_with('-') => Some(part),
         _ => {
-            eprintln!("use: tools/benchmark [PART-OF-A-NAME]");
+            eprintln!("use: tools/benchmark [--former LIBRARY] [PART-OF-A-NAME]");
             return ExitCode::from(2);
         }
     };
     println!(
-        "{:<52} {:>6} {:>11} {:>13} {:>13} {:>7} {:>6}",
-        "", "bytes", "answer", "reference µs", "library µs", "ratio", "rounds"
+        "{:<54} {:>6} {:>11} {:>13} {:>13} {:>7} {:>6}{}",
+        "",
+        "bytes",
+        "answer",
+        "reference µs",
+        "library µs",
+        "ratio",
+        "rounds",
+        FORMER.map_or("", |_| "     former µs to former"),
     );
     let mut room = Room {
         out: vec![0; 70_000],
@@ -55,6 +64,8 @@ fn rows() -> Vec<Row> {
     let mut rows = mixed();
     rows.extend(short());
     rows.extend(worst());
+    rows.extend(slowest());
+    rows.extend(growth());
     rows
 }
 
@@ -211,6 +222,89 @@ fn many_classes() -> Manifest {
     Manifest::new(items)
 }
 
+/// The kinds of manifest that took longest of all that are known, with their body run 64 times.
+fn slowest() -> Vec<Row> {
+    vec![
+        one(
+            "2,411 reads of the 1,621st entry's attribute, 64 times",
+            ordinary(reads_of_last_entry()),
+        ),
+        one(
+            "2,400 reads of the 1,000th attribute, 64 times",
+            ordinary(reads_of_last_attribute()),
+        ),
+    ]
+}
+
+/// Rows of one kind that double, and conditions that nest: 64 runs of a body with 6,157 assignments under them.
+fn growth() -> Vec<Row> {
+    let entries = [210, 420, 840, 1680].map(|count| {
+        let name = format!("growth: {count} entries");
+        one(&name, ordinary(entries(count)))
+    });
+    let cells = [64, 128, 256, 512].map(|count| {
+        let name = format!("growth: {count} cells");
+        one(&name, ordinary(special::cells(count)))
+    });
+    let nested = [1, 2, 4, 8, 13].map(|depth| {
+        let name = format!("growth: {depth} nested ifs over 6,157 assignments");
+        one(&name, ordinary(nested_ifs(depth)))
+    });
+    entries.into_iter().chain(cells).chain(nested).collect()
+}
+
+/// Runs a type's body 64 times: in four runs of each of four runs of a body with four declarations.
+fn fan(mut items: Vec<Field>, body: Vec<Field>) -> Manifest {
+    let four = |name: &str| (0..4).map(|_| defined(name, text(1, "x"), vec![])).collect::<Vec<Field>>();
+    items.extend([
+        type_definition("body", vec![], body),
+        type_definition("four", vec![], four("body")),
+        type_definition("sixteen", vec![], four("four")),
+    ]);
+    items.extend(four("sixteen"));
+    Manifest::new(items)
+}
+
+/// An entry of each title under two types.
+fn entries(count: usize) -> Manifest {
+    let entry = |at: usize| {
+        let kind = if at % 2 == 0 { "kiosk" } else { "wall" };
+        built_in(kind, text(at as u8, numbered(at / 2)), vec![])
+    };
+    Manifest::new((0..count).map(entry).collect())
+}
+
+/// As many reads as told, joined by "=", the fewest operators above each.
+fn balanced(count: usize, read: &Field) -> Field {
+    match count {
+        1 => read.clone(),
+        _ => binary(4, balanced(count / 2, read), balanced(count - count / 2, read)),
+    }
+}
+
+fn reads_of_last_entry() -> Manifest {
+    let mut items = entries(1620).items;
+    items.push(built_in("gate", text(2, "x"), vec![given("x", boolean(3, true))]));
+    let read = attribute_of("gate", "x", text(4, "x"));
+    fan(items, vec![assign("x", balanced(2411, &read))])
+}
+
+fn reads_of_last_attribute() -> Manifest {
+    let items = many_attributes().items;
+    let read = attribute_of("kiosk", numbered(999), text(4, "front"));
+    fan(items, vec![assign("x", balanced(2400, &read))])
+}
+
+/// Assignments to 450 names in a branch that is not taken, under as many ifs as told, each with a label of its own.
+fn nested_ifs(depth: usize) -> Manifest {
+    let assignments = (0..6157).map(|at| assign(format!("v{:03}", at % 450), boolean(1, true)));
+    let innermost = if_else(boolean(2, false), assignments.collect(), vec![]);
+    let body = (1..depth).fold(innermost, |inside, at| {
+        if_else(boolean(2 + at as u8, true), vec![inside], vec![])
+    });
+    fan(vec![], vec![body])
+}
+
 // Timing.
 
 /// What both sides are lent.
@@ -223,36 +317,45 @@ struct Room {
 const ROW: Duration = Duration::from_millis(1500);
 const MOST_ROUNDS: u128 = 201;
 
+/// What a side is called with: manifest, device, limit, output and memory.
+type Compile = fn(&[u8], &[u8], u16, &mut [u8], &mut [u8]) -> u64;
+
+/// The library that the one measured is compared with besides, if there is one.
+#[cfg(not(former))]
+const FORMER: Option<Compile> = None;
+#[cfg(former)]
+const FORMER: Option<Compile> = Some(former);
+
 impl Room {
     fn measure(&mut self, row: &Row) -> String {
-        let (mut theirs, mut ours) = (vec![self.time(row, reference)], vec![self.time(row, library)]);
-        let round = theirs[0] + ours[0];
+        let sides: Vec<Compile> = [reference, library].into_iter().chain(FORMER).collect();
+        let mut times: Vec<Vec<Duration>> = sides.iter().map(|side| vec![self.time(row, *side)]).collect();
+        let round: Duration = times.iter().map(|first| first[0]).sum();
         let rounds = (ROW.as_nanos() / round.as_nanos().max(1)).clamp(1, MOST_ROUNDS) | 1;
         for _ in 1..rounds {
-            theirs.push(self.time(row, reference));
-            ours.push(self.time(row, library));
+            for (side, times) in sides.iter().zip(&mut times) {
+                times.push(self.time(row, *side));
+            }
         }
-        let (theirs, ours) = (median(theirs), median(ours));
+        let medians: Vec<Duration> = times.into_iter().map(median).collect();
         let each = |time: Duration| time.as_nanos() as f64 / 1000.0 / row.cases.len().max(1) as f64;
+        let ratio = |side: usize| medians[1].as_secs_f64() / medians[side].as_secs_f64();
         let bytes: usize = row.cases.iter().map(|case| case.manifest.len()).sum();
+        let more = FORMER.map_or(String::new(), |_| format!(" {:>13.1} {:>9.2}", each(medians[2]), ratio(2)));
         format!(
-            "{:<52} {:>6} {:>11} {:>13.1} {:>13.1} {:>7.2} {:>6}",
+            "{:<54} {:>6} {:>11} {:>13.1} {:>13.1} {:>7.2} {:>6}{more}",
             row.name,
             bytes / row.cases.len().max(1),
             answers(&row.cases),
-            each(theirs),
-            each(ours),
-            ours.as_secs_f64() / theirs.as_secs_f64(),
+            each(medians[0]),
+            each(medians[1]),
+            ratio(0),
             rounds,
         )
     }
 
-    fn time(
-        &mut self,
-        row: &Row,
-        compile: impl Fn(&[u8], &[u8], u16, &mut [u8], &mut [u8]) -> u64,
-    ) -> Duration {
-        let started = Instant::now();
+    fn time(&mut self, row: &Row, compile: Compile) -> Duration {
+        let started = processor_time();
         for case in &row.cases {
             let out = &mut self.out[..case.output];
             black_box(compile(
@@ -263,8 +366,31 @@ impl Room {
                 &mut self.work,
             ));
         }
-        started.elapsed()
+        processor_time() - started
     }
+}
+
+#[repr(C)]
+struct Timespec {
+    seconds: i64,
+    nanoseconds: i64,
+}
+
+extern "C" {
+    fn clock_gettime(clock: i32, time: *mut Timespec) -> i32;
+}
+
+/// The processor time of this thread so far: other work on the machine does not count.
+fn processor_time() -> Duration {
+    const CLOCK_THREAD_CPUTIME_ID: i32 = 3;
+    let mut time = Timespec {
+        seconds: 0,
+        nanoseconds: 0,
+    };
+    // SAFETY: the pointer is to a timespec of 64-bit Linux, which is written to.
+    let failed = unsafe { clock_gettime(CLOCK_THREAD_CPUTIME_ID, &mut time) } != 0;
+    assert!(!failed, "this machine tells no processor time of a thread");
+    Duration::new(time.seconds as u64, time.nanoseconds as u32)
 }
 
 fn reference(manifest: &[u8], device: &[u8], limit: u16, out: &mut [u8], work: &mut [u8]) -> u64 {
@@ -278,6 +404,37 @@ fn library(manifest: &[u8], device: &[u8], limit: u16, out: &mut [u8], work: &mu
     match rigbanut::compile_into(manifest, device, limit, out, work) {
         rigbanut::Answer::Catalog { length, steps } => u64::from(steps) << 16 | u64::from(length),
         rigbanut::Answer::Refused(refusal) => u64::from(refusal.number) << 32 | u64::from(refusal.place),
+    }
+}
+
+#[cfg(former)]
+fn former(manifest: &[u8], device: &[u8], limit: u16, out: &mut [u8], work: &mut [u8]) -> u64 {
+    extern "C" {
+        fn rigbanut_compile_formerly(
+            manifest: *const u8,
+            manifest_length: usize,
+            device: *const u8,
+            device_length: usize,
+            limit: u16,
+            out: *mut u8,
+            out_length: usize,
+            work: *mut u8,
+            work_length: usize,
+        ) -> u64;
+    }
+    // SAFETY: as in bindings/rigbanut.rs.
+    unsafe {
+        rigbanut_compile_formerly(
+            manifest.as_ptr(),
+            manifest.len(),
+            device.as_ptr(),
+            device.len(),
+            limit,
+            out.as_mut_ptr(),
+            out.len(),
+            work.as_mut_ptr(),
+            work.len(),
+        )
     }
 }
 
