@@ -255,7 +255,11 @@ fn growth() -> Vec<Row> {
 
 /// Runs a type's body 64 times: in four runs of each of four runs of a body with four declarations.
 fn fan(mut items: Vec<Field>, body: Vec<Field>) -> Manifest {
-    let four = |name: &str| (0..4).map(|_| defined(name, text(1, "x"), vec![])).collect::<Vec<Field>>();
+    let four = |name: &str| {
+        (0..4)
+            .map(|_| defined(name, text(1, "x"), vec![]))
+            .collect::<Vec<Field>>()
+    };
     items.extend([
         type_definition("body", vec![], body),
         type_definition("four", vec![], four("body")),
@@ -341,7 +345,9 @@ impl Room {
         let each = |time: Duration| time.as_nanos() as f64 / 1000.0 / row.cases.len().max(1) as f64;
         let ratio = |side: usize| medians[1].as_secs_f64() / medians[side].as_secs_f64();
         let bytes: usize = row.cases.iter().map(|case| case.manifest.len()).sum();
-        let more = FORMER.map_or(String::new(), |_| format!(" {:>13.1} {:>9.2}", each(medians[2]), ratio(2)));
+        let more = FORMER.map_or(String::new(), |_| {
+            format!(" {:>13.1} {:>9.2}", each(medians[2]), ratio(2))
+        });
         format!(
             "{:<54} {:>6} {:>11} {:>13.1} {:>13.1} {:>7.2} {:>6}{more}",
             row.name,
