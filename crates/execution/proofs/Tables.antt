@@ -1,11 +1,12 @@
 -- The table of a 27 or 28: the large one has every row, the small one those of the names that are given. Assumes nothing.
 use Prim.Native.Nat.{ℕ, _+_, _≤_}
-use mathlib.Core.Path.{_≡_, refl, sym, _∙_}
+use mathlib.Core.Path.{_≡_, refl, sym, ap, _∙_}
 use mathlib.Core.Bool.{Bool, false}
 use mathlib.Core.List.{List}
 use native.Mathlib.Omega.{arith}
 use lib.ListN.{replicate}
 use Rattle.wire.specs.Bytes.{byte, endOf, fieldsIn}
+use Rattle.wire.proofs.Fields.{no-fields}
 use Rattle.rules.specs.Evaluate.{any}
 use Rattle.attributes.specs.Names.{nameFrom}
 use Rattle.attributes.specs.Table.{givenPlace, Fresh}
@@ -20,6 +21,11 @@ module _ {m : List ℕ} {p first : ℕ} (k : ℕ) where
 
   pub table-below : (limit : ℕ) {end : ℕ} {b : Bool} → givenPlace limit ≤ k → GivenFrom m p first → end ≡ endOf m p → b ≡ any (nameFrom m limit) (fieldsIn m first end) → b ≡ false → FreshFor m (replicate k 0) p
   table-below limit long from is told low = record { first = first; begins = from; fresh = fresh-between refl (sym is) (fresh-below m k limit long (sym told ∙ low)) }
+
+  -- no field asks for a row
+  pub table-none : {end : ℕ} → GivenFrom m p first → end ≡ endOf m p → end ≤ first → FreshFor m (replicate k 0) p
+  unfolding any
+  table-none from is over = record { first = first; begins = from; fresh = fresh-below m k 0 (omega arith) (ap (any (nameFrom m 0)) (no-fields m first (endOf m p) (omega arith))) }
 
 -- ---- Which of the two it is
 

@@ -255,8 +255,9 @@ fn run_case(
 
 // ---- Declarations
 
-// The 27 or 28 at p, whose attributes begin at `first`, with a table that has a row for each of their names. It is called from two places, and so it is
-// not merged into its caller in the compiled code: that one's frame, which stands on the stack once for every nested condition, has no table of 49 KB.
+// The 27 or 28 at p, whose attributes begin at `first`, with a table that has a row for each of their names; where there are none, no table is cleared.
+// It is called from two places, and so it is not merged into its caller in the compiled code: that one's frame, which stands on the stack once for every
+// nested condition, has no table of 49 KB.
 fn run_given(
     m: &[u8],
     depth: u8,
@@ -273,6 +274,10 @@ fn run_given(
     ensures { λ r. ⌜ Executes (now (m .entry)) (now (work .entry)) (now (work .exit)) (now (out .entry)) (now (out .exit)) fill (now (left .entry)) (now (left .exit)) (contextOf here) r (λ k. run k (declaration k levels) (statementAt (now (m .entry)) depth p)) ⌝ }
 {
     let end = wire::end_of(m, p);
+    if end <= first {
+        let mut none = [0u8; 1];
+        return run_tabled(m, depth, p, work, out, fill, left, levels, here, &mut none);
+    }
     if attributes::has_name_from(m, first, end, SMALL_NAMES) {
         let mut table = [0u8; TABLE];
         return run_tabled(m, depth, p, work, out, fill, left, levels, here, &mut table);

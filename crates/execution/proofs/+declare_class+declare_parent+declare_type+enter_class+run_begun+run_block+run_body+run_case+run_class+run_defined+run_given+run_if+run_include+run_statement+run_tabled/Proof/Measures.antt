@@ -235,7 +235,7 @@ abbrev pub run-defined-calls : ℕ → run-defined-lts.Claims
 run-defined-calls t = (evaluate-titled-reads.Asked, evaluate-titled-reads.Learnt, declare-type-below t, declare-type.Post)
 
 abbrev pub run-given-calls : ℕ → run-given-lts.Claims
-run-given-calls t = (end-of-reads.Asked, end-of-reads.Learnt, has-name-from-reads.Asked, has-name-from-reads.Learnt, run-tabled-below t, run-tabled.Post)
+run-given-calls t = (end-of-reads.Asked, end-of-reads.Learnt, run-tabled-below t, run-tabled.Post, has-name-from-reads.Asked, has-name-from-reads.Learnt)
 
 abbrev pub run-if-calls : ℕ → run-if-lts.Claims
 run-if-calls t = (test-if-reads.Asked, test-if-reads.Learnt, chosen-block-reads.Asked, chosen-block-reads.Learnt, branch-context-reads.Asked, branch-context-reads.Learnt, run-block-below t, run-block.Post)

@@ -3,7 +3,7 @@ use Prim.Native.Nat.{ℕ}
 use native.Mathlib.Omega.{arith}
 use borrow.Author.Needs.{needs}
 use Rattle.places.proofs.Open.{header-within}
-use Rattle.execution.proofs.Tables.{table-all, table-below}
+use Rattle.execution.proofs.Tables.{table-none, table-all, table-below}
 use Rattle.execution.proofs.run_given.Reads as run-given
 use Rattle.execution.proofs.+declare_class+declare_parent+declare_type+enter_class+run_begun+run_block+run_body+run_case+run_class+run_defined+run_given+run_if+run_include+run_statement+run_tabled.Lts-run_given as run-given-lts
 use Rattle.execution.proofs.+declare_class+declare_parent+declare_type+enter_class+run_begun+run_block+run_body+run_case+run_class+run_defined+run_given+run_if+run_include+run_statement+run_tabled.Proof.Measures.{run-given-calls, run-given-at}
@@ -11,14 +11,11 @@ use Rattle.execution.proofs.+declare_class+declare_parent+declare_type+
 pub end-of-requires : (t : ℕ) → run-given-lts.Need-end-of-requires (run-given-calls t) (run-given-at t) run-given.Post
 end-of-requires t c κs = omega (arith, header-within (c .before .before .before .pre .1 .0 .1 .0 .stands), c .before .before .before .pre .1 .0 .0 .set .manifest)
 
-pub has-name-from-requires : (t : ℕ) → run-given-lts.Need-has-name-from-requires (run-given-calls t) (run-given-at t) run-given.Post
-has-name-from-requires t c κs = omega (arith, c .end-of .ensures, c .before .before .before .before .pre .1 .0 .1 .0 .stands .ends, c .before .before .before .before .pre .1 .0 .0 .set .manifest)
-
 pub slice-aggregate-run-tabled : (t : ℕ) → run-given-lts.Need-slice-aggregate-run-tabled (run-given-calls t) (run-given-at t) run-given.Post
 slice-aggregate-run-tabled t c = search needs
 
 pub run-tabled-requires : (t : ℕ) → run-given-lts.Need-run-tabled-requires (run-given-calls t) (run-given-at t) run-given.Post
-run-tabled-requires t c κs = (omega (arith, c .before .before .before .before .before .before .before .before .before .before .pre .0), (c .before .before .before .before .before .before .before .before .before .before .pre .1 .0, table-all 49152 (omega arith) (c .before .before .before .before .before .before .before .before .before .before .pre .1 .1)))
+run-tabled-requires t c κs = (omega (arith, c .before .before .before .before .before .before .before .before .before .pre .0), (c .before .before .before .before .before .before .before .before .before .pre .1 .0, table-none 1 (c .before .before .before .before .before .before .before .before .before .pre .1 .1) (c .before .before .before .before .before .end-of .ensures) (c .before .before .before .before .if1 .taken)))
 
 pub same-length : (t : ℕ) → run-given-lts.Need-same-length (run-given-calls t) (run-given-at t) run-given.Post
 same-length t c = c .before .before .before .before .before .run-tabled .kept .1 .1 .1 .0
@@ -29,11 +26,14 @@ same-length-2 t c = c .before .before .before .before .before .run-tabled .kept 
 pub returns : (t : ℕ) → run-given-lts.Need-returns (run-given-calls t) (run-given-at t) run-given.Post
 returns t c = c .before .before .before .before .before .run-tabled .ensures
 
+pub has-name-from-requires : (t : ℕ) → run-given-lts.Need-has-name-from-requires (run-given-calls t) (run-given-at t) run-given.Post
+has-name-from-requires t c κs = omega (arith, c .before .end-of .ensures, c .before .before .before .before .before .pre .1 .0 .1 .0 .stands .ends, c .before .before .before .before .before .pre .1 .0 .0 .set .manifest)
+
 pub slice-aggregate-run-tabled-2 : (t : ℕ) → run-given-lts.Need-slice-aggregate-run-tabled-2 (run-given-calls t) (run-given-at t) run-given.Post
 slice-aggregate-run-tabled-2 t c = search needs
 
 pub run-tabled-requires-2 : (t : ℕ) → run-given-lts.Need-run-tabled-requires-2 (run-given-calls t) (run-given-at t) run-given.Post
-run-tabled-requires-2 t c κs = (omega (arith, c .before .before .before .before .before .before .before .before .before .before .pre .0), (c .before .before .before .before .before .before .before .before .before .before .pre .1 .0, table-below 3072 64 (omega arith) (c .before .before .before .before .before .before .before .before .before .before .pre .1 .1) (c .before .before .before .before .before .before .end-of .ensures) (c .before .before .before .before .before .has-name-from .ensures) (c .before .before .before .before .if1 .left)))
+run-tabled-requires-2 t c κs = (omega (arith, c .before .before .before .before .before .before .before .before .before .before .before .pre .0), (c .before .before .before .before .before .before .before .before .before .before .before .pre .1 .0, table-all 49152 (omega arith) (c .before .before .before .before .before .before .before .before .before .before .before .pre .1 .1)))
 
 pub same-length-3 : (t : ℕ) → run-given-lts.Need-same-length-3 (run-given-calls t) (run-given-at t) run-given.Post
 same-length-3 t c = c .before .before .before .before .before .run-tabled2 .kept .1 .1 .1 .0
@@ -43,3 +43,18 @@ same-length-4 t c = c .before .before .before .before .before .run-tabled2 .kept
 
 pub returns-2 : (t : ℕ) → run-given-lts.Need-returns-2 (run-given-calls t) (run-given-at t) run-given.Post
 returns-2 t c = c .before .before .before .before .before .run-tabled2 .ensures
+
+pub slice-aggregate-run-tabled-3 : (t : ℕ) → run-given-lts.Need-slice-aggregate-run-tabled-3 (run-given-calls t) (run-given-at t) run-given.Post
+slice-aggregate-run-tabled-3 t c = search needs
+
+pub run-tabled-requires-3 : (t : ℕ) → run-given-lts.Need-run-tabled-requires-3 (run-given-calls t) (run-given-at t) run-given.Post
+run-tabled-requires-3 t c κs = (omega (arith, c .before .before .before .before .before .before .before .before .before .before .before .pre .0), (c .before .before .before .before .before .before .before .before .before .before .before .pre .1 .0, table-below 3072 64 (omega arith) (c .before .before .before .before .before .before .before .before .before .before .before .pre .1 .1) (c .before .before .before .before .before .before .before .end-of .ensures) (c .before .before .before .before .before .has-name-from .ensures) (c .before .before .before .before .if2 .left)))
+
+pub same-length-5 : (t : ℕ) → run-given-lts.Need-same-length-5 (run-given-calls t) (run-given-at t) run-given.Post
+same-length-5 t c = c .before .before .before .before .before .run-tabled3 .kept .1 .1 .1 .0
+
+pub same-length-6 : (t : ℕ) → run-given-lts.Need-same-length-6 (run-given-calls t) (run-given-at t) run-given.Post
+same-length-6 t c = c .before .before .before .before .before .run-tabled3 .kept .1 .1 .1 .1 .0
+
+pub returns-3 : (t : ℕ) → run-given-lts.Need-returns-3 (run-given-calls t) (run-given-at t) run-given.Post
+returns-3 t c = c .before .before .before .before .before .run-tabled3 .ensures
