@@ -3,30 +3,20 @@
 use mathlib.Core.Path.{_≡_, refl, sym, ap, _∙_}
 use mathlib.Core.Bool.{Bool, true, false, false≢true}
 use mathlib.Core.List.{List}
-use mathlib.Core.Option.{none}
 use Prim.Native.Nat.{ℕ, suc, _+_, _≤_, _<_}
 use native.Mathlib.Omega.{arith}
-use lib.Dec.{ltb, lit<}
+use lib.Dec.{ltb}
 use lib.ListN.{length}
 use borrow.Author.Tests.{ne-eqb, ltb-true, ltb-false}
-use Rattle.labels.specs.Sets.{noLabels}
-use Rattle.labels.specs.Bytes.{labelBytes}
-use Rattle.labels.proofs.Laws.{words-none}
 use Rattle.wire.specs.Numbers.{highBytes}
 use Rattle.wire.specs.Runs.{over}
-use Rattle.records.specs.Record.{kindAt}
 use Rattle.cells.specs.Chains.{counted, Way, step}
-use Rattle.cells.specs.Layout.{keyAt, bodyAt, nameIn, placeAt, linkIn, nextIn, chained, LastAbove, Slot, slot, blankSlot, slotAt, slotsOf, bodyMark, keyName}
-use Rattle.cells.specs.Slots.{StoresAt, isReached, takenOut, putIn, claimed}
+use Rattle.cells.specs.Layout.{keyAt, nameIn, placeAt, linkIn, nextIn, chained, LastAbove, Slot, slot, blankSlot, slotAt, slotsOf, keyName}
+use Rattle.cells.specs.Slots.{StoresAt, isReached, takenOut, putIn, renewed, claimed}
 use Rattle.cells.proofs.Tables.{put-same, put-self, table-put}
 use Rattle.cells.proofs.Chains.{is-or-not, order, out-back, out-kept, out-gone, in-kept, in-back, in-own, counted-some, counted-other, counted-sound, counted-same}
 use Rattle.cells.proofs.Links.{next-falls, next-is, chain-on, no-chain, chain-gap, chain-small, chain-named, same-chained, same-chain, next-kept, no-head, Relinked, relinked, names-kept}
-use Rattle.cells.proofs.Slots.{slot-in, slotFrom, fieldsAt, slot-fields, low-fields, same-slot, nameOf, Step, _then_, withState, withScope, withName, withContent, withMark, state-step, scope-step, name-step, empty-step, mark-step, step-beside, step-links, step-fields, step-names, step-name, changed, stores-then}
-
--- whether a slot is reached
-reached-is : (w : List ℕ) (j : ℕ) → j < 512 → isReached (slotsOf w j) ≡ chained w (nameIn w j) j
-unfolding isReached slotAt
-reached-is w j below = rw (slot-in w j below) refl
+use Rattle.cells.proofs.Slots.{slot-in, reached-is, slotFrom, fieldsAt, slot-fields, low-fields, same-slot, nameOf, Step, withScope, withName, scope-step, name-step, step-beside, step-links, step-fields, step-names, step-name, changed, stores-then}
 
 -- ---- take_out
 
@@ -243,35 +233,30 @@ in-way w j n p w3 {v} {u} {w1} {w2} below room named absent at ev e1 e2 eu e3 =
 
 -- what is filled in between
 abbrev entered : ℕ → Slot → Slot
-entered s x = withMark noLabels (withContent none (withScope s (withState 1 x)))
+entered s x = renewed (withScope s (takenOut x))
 
-entered-name : (s : ℕ) (x : Slot) → nameOf (entered s x) ≡ nameOf x
-unfolding nameOf withState withScope withContent withMark
-entered-name s (slot r t s′ n c m) = refl
+scope-name : (s : ℕ) (x : Slot) → nameOf (withScope s x) ≡ nameOf x
+unfolding nameOf withScope
+scope-name s (slot r t s′ n c m) = refl
 
-entered-out : (s : ℕ) (x : Slot) → isReached (entered s (takenOut x)) ≡ false
-unfolding isReached takenOut withState withScope withContent withMark
+entered-out : (s : ℕ) (x : Slot) → isReached (entered s x) ≡ false
+unfolding isReached takenOut withScope renewed
 entered-out s (slot r t s′ n c m) = refl
 
-claimed-by : (s n : ℕ) (x : Slot) → putIn n (entered s (takenOut x)) ≡ claimed s n x
-unfolding putIn takenOut withState withScope withContent withMark claimed
+claimed-by : (s n : ℕ) (x : Slot) → putIn n (entered s x) ≡ claimed s n x
+unfolding putIn takenOut withScope renewed claimed
 claimed-by s n (slot r t s′ n′ c m) = refl
 
-module _ (w : List ℕ) (j s : ℕ) (w0 : List ℕ) {w1 w2 w3 : List ℕ} (w4 : List ℕ) (below : j < 512) (room : 65536 ≤ length w0) (fits : s < 65536) (out : StoresAt j takenOut w w0) (e1 : w1 ≡ over w0 j (highBytes 1 1)) (e2 : w2 ≡ over w1 (keyAt j) (highBytes 2 s)) (e3 : w3 ≡ over w2 (kindAt (bodyAt j)) (highBytes 1 0)) (e4 : w4 ≡ over w3 (bodyAt j + bodyMark) (labelBytes noLabels)) where
-  entered-way : StoresAt j (entered s) w0 w4
+module _ (w : List ℕ) (j s : ℕ) (w0 : List ℕ) {w1 : List ℕ} (w2 : List ℕ) (below : j < 512) (room : 65536 ≤ length w0) (fits : s < 65536) (out : StoresAt j takenOut w w0) (e1 : w1 ≡ over w0 (keyAt j) (highBytes 2 s)) (renew : StoresAt j renewed w1 w2) where
+  entered-way : StoresAt j (entered s) w w2
   entered-way =
-      let a : Step j w0 w1 (withState 1) = state-step w0 j below room 1 (lit< tt) e1 in
-      let b : Step j w0 w2 (λ x. withScope s (withState 1 x)) = a then scope-step w1 j below (omega (arith, a .size)) s fits e2 in
-      let c : Step j w0 w3 (λ x. withContent none (withScope s (withState 1 x))) = b then empty-step w2 j below (omega (arith, b .size)) e3 in
-      let d : Step j w0 w4 (entered s) = c then mark-step w3 j below (omega (arith, c .size)) noLabels words-none e4 in
-      changed j w0 w4 (entered s) (entered s) below d (entered-name s) (λ x. refl)
-
-  both-way : StoresAt j (λ x. entered s (takenOut x)) w w4
-  both-way = stores-then j w w0 w4 takenOut (entered s) (λ x. entered s (takenOut x)) out entered-way (λ x. refl)
+      let scoped : StoresAt j (withScope s) w0 w1 = changed j w0 w1 (withScope s) (withScope s) below (scope-step w0 j below room s fits e1) (scope-name s) (λ x. refl) in
+      let both : StoresAt j (λ x. withScope s (takenOut x)) w w1 = stores-then j w w0 w1 takenOut (withScope s) (λ x. withScope s (takenOut x)) out scoped (λ x. refl) in
+      stores-then j w w1 w2 (λ x. withScope s (takenOut x)) renewed (entered s) both renew (λ x. refl)
 
   -- it is in no chain yet
-  pub claim-out : isReached (slotsOf w4 j) ≡ false
-  claim-out = ap (λ (f : ℕ → Slot). isReached (f j)) (both-way .0) ∙ ap isReached (put-same j (entered s (takenOut (slotsOf w j))) (slotsOf w)) ∙ entered-out s (slotsOf w j)
+  pub claim-out : isReached (slotsOf w2 j) ≡ false
+  claim-out = ap (λ (f : ℕ → Slot). isReached (f j)) (entered-way .0) ∙ ap isReached (put-same j (entered s (slotsOf w j)) (slotsOf w)) ∙ entered-out s (slotsOf w j)
 
-  pub claim-way : (n : ℕ) (w5 : List ℕ) → StoresAt j (putIn n) w4 w5 → StoresAt j (claimed s n) w w5
-  claim-way n w5 put = stores-then j w w4 w5 (λ x. entered s (takenOut x)) (putIn n) (claimed s n) both-way put (claimed-by s n)
+  pub claim-way : (n : ℕ) (w3 : List ℕ) → StoresAt j (putIn n) w2 w3 → StoresAt j (claimed s n) w w3
+  claim-way n w3 put = stores-then j w w2 w3 (entered s) (putIn n) (claimed s n) entered-way put (claimed-by s n)

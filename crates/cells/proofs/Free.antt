@@ -13,15 +13,15 @@ use Rattle.wire.specs.Runs.{over}
 use Rattle.rules.specs.State.{sameScope, Cell, noCell, freed, count, free}
 use Rattle.cells.specs.declared.Found.{Found}
 use Rattle.cells.specs.declared.Found.the-variants.{At, Nothing}
-use Rattle.cells.specs.Layout.{table, Slot, slot, blankSlot, slotAt, slotsOf, besideSlots, putAt}
+use Rattle.cells.specs.Layout.{table, Slot, slot, blankSlot, slotsOf, besideSlots, putAt}
 use Rattle.cells.specs.Scopes.{scopeOf}
-use Rattle.cells.specs.Slots.{StoresAt, hit, usedState, inUse, isReached, neverUsed, ofScope, emptied, freedSlot, slotFor, lastBelow, FineSlots}
+use Rattle.cells.specs.Slots.{StoresAt, hit, isFor, inUse, isReached, neverUsed, ofScope, emptied, freedSlot, slotIn, slotFor, lastBelow, FineSlots}
 use Rattle.cells.specs.Memory.{cellAt, cellsIn, usedIn, cellsOf, usedOf, stateOf, Fine, Becomes}
 use Rattle.cells.proofs.Tables.{put-self}
-use Rattle.cells.proofs.Slots.{slot-in, nameOf, empty-way}
+use Rattle.cells.proofs.Slots.{never-read, nameOf, empty-way}
 use Rattle.cells.proofs.Search.{was-last, not-last, last-nothing, tally, count-zero, count-more, count-same, count-none, count-new, count-split}
 use Rattle.cells.proofs.Scopes.{cell-at, by-number}
-use Rattle.cells.proofs.Cells.{split-key, both, to-false, hit-used, free-miss, not-hit}
+use Rattle.cells.proofs.Cells.{split-key, both, to-false, hit-used, never-free, free-miss, not-hit}
 use Rattle.cells.proofs.Keep.{fine-fewer}
 use Rattle.cells.proofs.Regions.{trail-after, records-after, rest-after, names-by, classes-by}
 
@@ -63,20 +63,26 @@ freedSlots s f = λ j. freedSlot s (f j)
 
 -- ---- The tests at a freed slot
 
+for-scoped : (s n : ℕ) (x : Slot) → isFor 1 s n x ≡ true → ofScope s x ≡ true
+unfolding isFor ofScope
+for-scoped s n (slot r t a b y m) e = let c = split-key (eqb a s) (eqb b n) (eqb t 1) e in rw (c .0, c .1 .1) refl
+
 hit-scoped : (s n : ℕ) (x : Slot) → hit s n x ≡ true → ofScope s x ≡ true
-unfolding hit ofScope
-hit-scoped s n (slot r t a b y m) e = let c = split-key (eqb a s) (eqb b n) (pick r (usedState t) false) e in rw (c .0, both r (usedState t) (c .1 .1) .1) refl
+hit-scoped s n x e = for-scoped s n x (both (isReached x) (isFor 1 s n x) e .1)
+
+same-scope : (s s′ : ℕ) (x : Slot) → ofScope s x ≡ true → ofScope s′ x ≡ true → s′ ≡ s
+unfolding ofScope
+same-scope s s′ (slot r t a b y m) o o′ = sym (eqb-true a s′ (both (eqb t 1) (eqb a s′) o′ .1)) ∙ eqb-true a s (both (eqb t 1) (eqb a s) o .1)
 
 scope-one : (s s′ n : ℕ) (x : Slot) → ofScope s x ≡ true → hit s′ n x ≡ true → s′ ≡ s
-unfolding hit ofScope
-scope-one s s′ n (slot r t a b y m) o e = sym (eqb-true a s′ (split-key (eqb a s′) (eqb b n) (pick r (usedState t) false) e .0)) ∙ eqb-true a s (both (eqb a s) (usedState t) o .0)
+scope-one s s′ n x o e = same-scope s s′ x o (hit-scoped s′ n x e)
 
 scoped-used : (s : ℕ) (x : Slot) → ofScope s x ≡ true → inUse x ≡ true
 unfolding ofScope inUse
-scoped-used s (slot r t a b y m) e = both (eqb a s) (usedState t) e .1
+scoped-used s (slot r t a b y m) e = both (eqb t 1) (eqb a s) e .0
 
 emptied-free : (x : Slot) → inUse (emptied x) ≡ false
-unfolding emptied inUse usedState
+unfolding emptied inUse
 emptied-free (slot r t s n c m) = refl
 
 emptied-once : (x : Slot) → neverUsed (emptied x) ≡ false
@@ -137,12 +143,12 @@ freed-never s x =
 
 module _ (s : ℕ) (f : ℕ → Slot) where
   stay : (s′ n : ℕ) → (s′ ≡ s → ⊥) → (r : Found) → slotFor f s′ n ≡ r → cellAt (freedSlots s f) r ≡ cellAt f r
-  unfolding cellAt freedSlots slotFor
+  unfolding cellAt freedSlots slotIn
   stay s′ n ne (At j) q = rw (freed-stays s s′ n (f j) ne (was-last 512 (λ k. hit s′ n (f k)) j q .passes)) refl
   stay s′ n ne Nothing q = refl
 
   freed-cells : (s′ n : ℕ) → cellsIn (freedSlots s f) s′ n ≡ freed (eqb s′ s) (cellsIn f s′ n)
-  unfolding cellsIn cellAt freedSlots slotFor freed
+  unfolding cellsIn cellAt freedSlots slotIn freed
   freed-cells s′ n = go (eqb s′ s) refl
     where
       go : (t : Bool) → eqb s′ s ≡ t → cellAt (freedSlots s f) (slotFor (freedSlots s f) s′ n) ≡ freed t (cellAt f (slotFor f s′ n))
@@ -182,8 +188,8 @@ unfolding anyBelow
 any-more k h e = rw e refl
 
 scope-hit : (s : ℕ) (x : Slot) → isReached x ≡ true → ofScope s x ≡ true → hit s (nameOf x) x ≡ true
-unfolding ofScope hit nameOf isReached
-scope-hit s (slot r t a b y m) there e = rw (there, eq-eqb b b refl) e
+unfolding ofScope isFor nameOf isReached
+scope-hit s (slot r t a b y m) there e = let k = both (eqb t 1) (eqb a s) e in rw (there, eq-eqb b b refl, k .1) (k .0)
 
 module _ (s : ℕ) (f : ℕ → Slot) (fine : FineSlots f) where
   -- whether one of the k lowest slots is of s and n
@@ -221,7 +227,7 @@ module _ (s : ℕ) (f : ℕ → Slot) (fine : FineSlots f) where
       go before false o = before ∙ sym (count-same 1024 (λ n. seen k n) (λ n. seen (suc k) n) (λ n b. seen-same k n (no-hit s n (f k) o)))
 
   exists-seen : (n : ℕ) → cellsIn f s n .exists ≡ seen 512 n
-  unfolding cellsIn seen cellAt noCell slotFor
+  unfolding cellsIn seen cellAt noCell slotIn
   exists-seen n = go (slotFor f s n) refl
     where
       go : (r : Found) → slotFor f s n ≡ r → cellAt f r .exists ≡ anyBelow 512 (λ j. hit s n (f j))
@@ -255,25 +261,21 @@ module _ (s : ℕ) (f : ℕ → Slot) (fine : FineSlots f) where
   freed-fine : FineSlots (freedSlots s f)
   unfolding freedSlots
   freed-fine = fine-fewer f (λ j. freedSlot s (f j)) (λ i s′ n h. freed-was s s′ n (f i) h) (λ i. freed-linked s (f i) (fine .linked i))
-      (λ i j e l. (let free : inUse (f j) ≡ false = fine .packed i j (freed-never s (f i) e) l in ap inUse (unused-stays s (f j) free) ∙ free)) fine
+      (λ i j e l. (let never : neverUsed (f j) ≡ true = fine .packed i j (freed-never s (f i) e) l in ap neverUsed (unused-stays s (f j) (never-free (f j) never)) ∙ never)) fine
 
 -- ---- The way of `free_scope`
 
 -- it ends past the slots, or at one that was never used
 pub none-past : (w : List ℕ) (j : ℕ) → 512 ≤ j → inUse (slotsOf w j) ≡ false
-unfolding slotsOf table blankSlot inUse usedState
+unfolding slotsOf table blankSlot inUse
 none-past w j l = rw (le-ltb j 512 l) refl
 
-never-used : (w : List ℕ) (i : ℕ) → i < 512 → byte w i ≡ 0 → neverUsed (slotsOf w i) ≡ true
-unfolding neverUsed slotAt
-never-used w i l e = rw (slot-in w i l, e) refl
-
-pub none-after : (w w′ : List ℕ) (i s : ℕ) {t : ℕ} → Fine w → i < 512 → slotsOf w′ ≡ freedTo i s (slotsOf w) → t ≡ byte w′ i → t ≡ 0 → (j : ℕ) → i ≤ j → inUse (slotsOf w′ j) ≡ false
+pub none-after : (w w′ : List ℕ) (i s : ℕ) → Fine w → i < 512 → slotsOf w′ ≡ freedTo i s (slotsOf w) → byte w′ i ≡ 0 → (j : ℕ) → i ≤ j → inUse (slotsOf w′ j) ≡ false
 unfolding freedTo
-none-after w w′ i s fine below e et z j l =
+none-after w w′ i s fine below e z j l =
     let stays : (k : ℕ) → i ≤ k → slotsOf w′ k ≡ slotsOf w k = λ k h. ap (λ (g : ℕ → Slot). g k) e ∙ rw (le-ltb k i h) refl in
-    let never : neverUsed (slotsOf w i) ≡ true = ap neverUsed (sym (stays i (omega arith))) ∙ never-used w′ i below (sym et ∙ z) in
-    ap inUse (stays j l) ∙ fine .packed i j never l
+    let never : neverUsed (slotsOf w i) ≡ true = ap neverUsed (sym (stays i (omega arith))) ∙ never-read w′ i below ∙ rw z refl in
+    ap inUse (stays j l) ∙ never-free (slotsOf w j) (fine .packed i j never l)
 
 pub free-way : (w w′ : List ℕ) (i s : ℕ) → Fine w → ((j : ℕ) → i ≤ j → inUse (slotsOf w′ j) ≡ false) → slotsOf w′ ≡ freedTo i s (slotsOf w) → besideSlots w′ ≡ besideSlots w → Becomes w w′ (free (scopeOf s)) (λ ns. ns)
 unfolding stateOf free freed cellsOf usedOf

@@ -11,9 +11,9 @@ use Rattle.wire.specs.Bytes.{pick, byte, two}
 use Rattle.wire.specs.Numbers.{highBytes}
 use Rattle.wire.specs.Runs.{over}
 use Rattle.wire.proofs.Laws.{over-length, byte-outside, high-length, stored-two}
-use Rattle.cells.specs.Chains.{Way, begin, step}
+use Rattle.cells.specs.Chains.{counted, Way, begin, step}
 use Rattle.cells.specs.Layout.{keyAt, recordAt, linkAt, nameIn, placeAt, linkIn, nextIn, chained, besideSlots, trailAt, keyName}
-use Rattle.cells.proofs.Chains.{same-test, on-way, way-small, way-on, gap, same-way, same-back, counted-is, counted-falls, counted-same}
+use Rattle.cells.proofs.Chains.{same-test, on-way, way-small, way-on, gap, same-way, same-back, counted-none, counted-is, counted-falls, counted-same}
 use Rattle.cells.proofs.Regions.{same-two, beside-same}
 
 -- ---- The chain of a name
@@ -92,6 +92,10 @@ link-head w n p l h = rw (le-ltb p 512 l, lt-ltb n 1024 h) refl
 pub no-head : (w : List ℕ) (n p : ℕ) → 512 ≤ p → 1024 ≤ n → linkIn w n p ≡ 0
 unfolding linkIn
 no-head w n p l h = rw (le-ltb p 512 l, le-ltb n 1024 h) refl
+
+pub no-next : (w : List ℕ) (n p : ℕ) → 512 ≤ p → 1024 ≤ n → nextIn w n p ≡ 0
+unfolding nextIn
+no-next w n p l h = ap (counted (nameIn w) n p) (no-head w n p l h) ∙ counted-none (nameIn w) n p
 
 place-slot : (n p : ℕ) → p < 512 → placeAt n p ≡ linkAt p
 unfolding placeAt

@@ -1,9 +1,8 @@
--- Laws of a search over any test.
+-- Laws of a search from above, over any test.
 use mathlib.Core.Path.{_≡_, refl, sym, _∙_}
 use mathlib.Core.Bool.{Bool, true, false}
-use Prim.Native.Nat.{ℕ, zero, suc, _+_, _-_, _≤_, _<_}
+use Prim.Native.Nat.{ℕ, zero, suc, _≤_, _<_}
 use native.Mathlib.Omega.{arith}
-use native.Mathlib.Numerals.{add-one, sub-one}
 use lib.Dec.{eqb}
 use borrow.Author.Tests.{eqb-true, eqb-false}
 use Rattle.wire.specs.Bytes.{pick}
@@ -11,64 +10,7 @@ unfoldable pub use Rattle.rules.proofs.Counting.{tally}
 pub use Rattle.rules.proofs.Counting.{count-more, count-zero, count-same, count-none, count-all, count-le, count-new, count-room, count-split}
 use Rattle.cells.specs.declared.Found.{Found}
 use Rattle.cells.specs.declared.Found.the-variants.{At, Nothing}
-use Rattle.cells.specs.Slots.{firstFrom, lastBelow}
-
--- ---- A search, as the loop goes
-
-first-open : (k i : ℕ) (h : ℕ → Bool) → 0 < k → firstFrom k i h ≡ pick (h i) (At i) (firstFrom (k - 1) (i + 1) h)
-unfolding firstFrom
-first-open zero i h p = absurd (omega arith)
-first-open (suc k) i h p = rw (sub-one, add-one)
-
-pub first-now : (i : ℕ) (h : ℕ → Bool) {whole : Found} → i < 512 → h i ≡ true → firstFrom (512 - i) i h ≡ whole → At i ≡ whole
-first-now i h p e inv = sym (first-open (512 - i) i h (omega arith) ∙ rw e refl) ∙ inv
-
-pub first-later : (i : ℕ) (h : ℕ → Bool) {whole : Found} → i < 512 → h i ≡ false → firstFrom (512 - i) i h ≡ whole → firstFrom (512 - (i + 1)) (i + 1) h ≡ whole
-first-later i h p e inv = let z : 512 - (i + 1) ≡ 512 - i - 1 = omega arith in rw z (sym (first-open (512 - i) i h (omega arith) ∙ rw e refl) ∙ inv)
-
-pub first-none : (i : ℕ) (h : ℕ → Bool) {whole : Found} → 512 ≤ i → firstFrom (512 - i) i h ≡ whole → Nothing ≡ whole
-unfolding firstFrom
-first-none i h p inv = let z : 512 - i ≡ 0 = omega arith in rw z at inv
-
--- ---- What a search tells
-
-pub record Hit (k i : ℕ) (h : ℕ → Bool) (j : ℕ) : Type 0 where
-  pub passes : h j ≡ true
-  pub from : i ≤ j
-  pub below : j < i + k
-  pub before : (l : ℕ) → i ≤ l → l < j → h l ≡ false
-
-one-more : (i j : ℕ) (h : ℕ → Bool) → h i ≡ false → ((l : ℕ) → suc i ≤ l → l < j → h l ≡ false) → (l : ℕ) → i ≤ l → l < j → h l ≡ false
-one-more i j h e later l a b = go (eqb i l) refl
-  where
-    go : (t : Bool) → eqb i l ≡ t → h l ≡ false
-    go true f = rw (sym (eqb-true i l f)) e
-    go false f = let ne : i ≡ l → ⊥ = eqb-false i l f in later l (omega arith) b
-
-pub was-found : (k i : ℕ) (h : ℕ → Bool) (j : ℕ) → firstFrom k i h ≡ At j → Hit k i h j
-unfolding firstFrom
-was-found zero i h j p = let z : _≡_ {A = ℕ} 0 1 = cc in absurd (omega arith)
-was-found (suc k) i h j p = go (firstFrom k (suc i) h) (λ q. was-found k (suc i) h j q) (h i) refl p
-  where
-    go : (rest : Found) → (rest ≡ At j → Hit k (suc i) h j) → (t : Bool) → h i ≡ t → pick t (At i) rest ≡ At j → Hit (suc k) i h j
-    go rest more true e q = let z : i ≡ j = cc in record { passes = rw z at e; from = omega arith; below = omega arith; before = λ l a b. absurd (omega arith) }
-    go rest more false e q = let r : Hit k (suc i) h j = more q in record { passes = r .passes; from = omega arith; below = omega arith; before = one-more i j h e (r .before) }
-
--- no number in reach passes
-abbrev pub None : ℕ → ℕ → (ℕ → Bool) → Type 0
-None k i h = (j : ℕ) → i ≤ j → j < i + k → h j ≡ false
-
-pub not-found : (k i : ℕ) (h : ℕ → Bool) → firstFrom k i h ≡ Nothing → None k i h
-unfolding firstFrom
-not-found zero i h p j a b = absurd (omega arith)
-not-found (suc k) i h p j a b = go (firstFrom k (suc i) h) (not-found k (suc i) h) (h i) refl p (eqb i j) refl
-  where
-    go : (rest : Found) → (rest ≡ Nothing → None k (suc i) h) → (t : Bool) → h i ≡ t → pick t (At i) rest ≡ Nothing → (u : Bool) → eqb i j ≡ u → h j ≡ false
-    go rest more true e q u f = let z : _≡_ {A = ℕ} 0 1 = cc in absurd (omega arith)
-    go rest more false e q true f = rw (eqb-true i j f) at e
-    go rest more false e q false f = let ne : i ≡ j → ⊥ = eqb-false i j f in more q j (omega arith) (omega arith)
-
--- ---- A search from above
+use Rattle.cells.specs.Slots.{lastBelow}
 
 pub last-zero : (h : ℕ → Bool) → lastBelow 0 h ≡ Nothing
 unfolding lastBelow

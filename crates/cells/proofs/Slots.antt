@@ -6,12 +6,12 @@ use mathlib.Core.List.{List}
 use mathlib.Core.Option.{Option, none, some}
 use Prim.Native.Nat.{ℕ, _+_, _≤_, _<_}
 use native.Mathlib.Omega.{arith}
-use lib.Dec.{lit<}
+use lib.Dec.{eqb, lit<}
 use lib.ListN.{length}
 use Rattle.labels.specs.declared.Labels.{Labels}
-use Rattle.labels.specs.Sets.{Words64}
+use Rattle.labels.specs.Sets.{Words64, noLabels}
 use Rattle.labels.specs.Bytes.{labelBytes, setAt}
-use Rattle.labels.proofs.Laws.{label-length}
+use Rattle.labels.proofs.Laws.{label-length, words-none}
 use Rattle.labels.proofs.Places.{set-in, set-outside, set-back}
 use Rattle.values.specs.declared.Labelled.{Labelled}
 use Rattle.wire.specs.Bytes.{byte, two}
@@ -21,8 +21,8 @@ use Rattle.wire.proofs.Laws.{two-in, over-in, run-length, same-run, over-length
 use Rattle.records.specs.Record.{recordSize, kindAt, recordBytes, recordIn}
 use Rattle.records.proofs.Values.{Ranged}
 use Rattle.records.proofs.Laws.{record-in, record-length, record-back, record-outside, record-emptied}
-use Rattle.cells.specs.Layout.{keyAt, bodyAt, recordAt, linkAt, nameIn, linkIn, chained, besideSlots, Slot, slot, blankSlot, slotAt, slotsOf, bodySize, bodyMark, trailAt, wordsAt, keyName, keySize}
-use Rattle.cells.specs.Slots.{StoresAt, filled, marked, emptied}
+use Rattle.cells.specs.Layout.{keyAt, bodyAt, recordAt, linkAt, nameIn, linkIn, chained, besideSlots, Slot, slot, blankSlot, slotAt, slotsOf, bodySize, bodyMark, trailAt, hintAt, keyName, keySize}
+use Rattle.cells.specs.Slots.{StoresAt, inUse, neverUsed, isReached, renewed, filled, marked, emptied}
 use Rattle.cells.proofs.Tables.{put-same, put-put, table-in, table-same, table-put}
 use Rattle.cells.proofs.Regions.{same-two, beside-same}
 use Rattle.cells.proofs.Chains.{is-or-not}
@@ -31,6 +31,19 @@ use Rattle.cells.proofs.Links.{links-same, chains-same}
 pub slot-in : (w : List ℕ) (i : ℕ) → i < 512 → slotsOf w i ≡ slotAt w i
 unfolding slotsOf
 slot-in w i h = table-in 512 (slotAt w) blankSlot i h
+
+-- what is read of it
+pub used-read : (w : List ℕ) (i : ℕ) → i < 512 → inUse (slotsOf w i) ≡ eqb (byte w i) 1
+unfolding inUse slotAt
+used-read w i l = rw (slot-in w i l) refl
+
+pub reached-is : (w : List ℕ) (i : ℕ) → i < 512 → isReached (slotsOf w i) ≡ chained w (nameIn w i) i
+unfolding isReached slotAt
+reached-is w i l = rw (slot-in w i l) refl
+
+pub never-read : (w : List ℕ) (i : ℕ) → i < 512 → neverUsed (slotsOf w i) ≡ eqb (byte w i) 0
+unfolding neverUsed slotAt
+never-read w i l = rw (slot-in w i l) refl
 
 -- ---- A slot by whether it is reached, its state, and its two runs
 
@@ -80,7 +93,7 @@ same-slot w w′ i name reached fields =
     slot-fields w′ i ∙ ap (fieldsAt w′ i) (ap (λ (n : ℕ). chained w′ n i) name ∙ reached) ∙ fields (chained w (nameIn w i) i) ∙ sym (slot-fields w i)
 
 -- where all bytes of the slots, the heads and the links are the same
-pub slots-same : (w w′ : List ℕ) → ((k : ℕ) → k < trailAt → byte w′ k ≡ byte w k) → ((q : ℕ) → q < 1024 → two w′ (recordAt q) ≡ two w (recordAt q)) → ((k : ℕ) → linkAt 0 ≤ k → k < wordsAt → byte w′ k ≡ byte w k) → slotsOf w′ ≡ slotsOf w
+pub slots-same : (w w′ : List ℕ) → ((k : ℕ) → k < trailAt → byte w′ k ≡ byte w k) → ((q : ℕ) → q < 1024 → two w′ (recordAt q) ≡ two w (recordAt q)) → ((k : ℕ) → linkAt 0 ≤ k → k < hintAt → byte w′ k ≡ byte w k) → slotsOf w′ ≡ slotsOf w
 unfolding slotsOf
 slots-same w w′ low heads links =
     table-same 512 (slotAt w) (slotAt w′) blankSlot
@@ -290,6 +303,22 @@ emptied-name : (x : Slot) → nameOf (withState 5 x) ≡ nameOf x
 unfolding nameOf withState
 emptied-name (slot r t s n c m) = refl
 
+renewed-by : (x : Slot) → withMark noLabels (withContent none (withState 1 x)) ≡ renewed x
+unfolding withState withContent withMark renewed
+renewed-by (slot r t s n c m) = refl
+
+renewed-name : (x : Slot) → nameOf (withMark noLabels (withContent none (withState 1 x))) ≡ nameOf x
+unfolding nameOf withState withContent withMark
+renewed-name (slot r t s n c m) = refl
+
+pub renew-way : (w : List ℕ) (j : ℕ) {w1 w2 : List ℕ} (w3 : List ℕ) → j < 512 → 65536 ≤ length w → w1 ≡ over w j (highBytes 1 1) → w2 ≡ over w1 (kindAt (bodyAt j)) (highBytes 1 0)
+    → w3 ≡ over w2 (bodyAt j + bodyMark) (labelBytes noLabels) → StoresAt j renewed w w3
+renew-way w j {w1} {w2} w3 below room e1 e2 e3 =
+    let a : Step j w w1 (withState 1) = state-step w j below room 1 (lit< tt) e1 in
+    let b : Step j w w2 (λ x. withContent none (withState 1 x)) = a then empty-step w1 j below (omega (arith, a .size)) e2 in
+    let c : Step j w w3 (λ x. withMark noLabels (withContent none (withState 1 x))) = b then mark-step w2 j below (omega (arith, b .size)) noLabels words-none e3 in
+    changed j w w3 (λ x. withMark noLabels (withContent none (withState 1 x))) renewed below c renewed-name renewed-by
+
 pub value-way : (w : List ℕ) (j : ℕ) (x : Labelled) {w1 : List ℕ} → j < 512 → 65536 ≤ length w → Ranged (x .value) → Words64 (x .labels) → w1 ≡ over w (bodyAt j) (recordBytes x)
     → StoresAt j (filled x) w w1
 value-way w j x {w1} below room value set e = changed j w w1 (withContent (some x)) (filled x) below (content-step w j below room x value set e) (filled-name x) (filled-by x)
@@ -301,3 +330,12 @@ mark-way w j k {w1} below room hk e = changed j w w1 (withMark k) (marked k) bel
 pub empty-way : (w : List ℕ) (j : ℕ) {w1 : List ℕ} → j < 512 → 65536 ≤ length w → w1 ≡ over w j (highBytes 1 5)
     → StoresAt j emptied w w1
 empty-way w j {w1} below room e = changed j w w1 (withState 5) emptied below (state-step w j below room 5 (lit< tt) e) emptied-name emptied-by
+
+-- the store of the hint
+pub hint-way : (w : List ℕ) (v : ℕ) {w1 : List ℕ} → w1 ≡ over w hintAt (highBytes 2 v) → (slotsOf w1 ≡ slotsOf w) × (besideSlots w1 ≡ besideSlots w)
+hint-way w v {w1} e =
+    let size : length (highBytes 2 v) ≡ 2 = high-length 2 v in
+    let away : (k : ℕ) → (hintAt ≤ k → k < hintAt + 2 → ⊥) → byte w1 k ≡ byte w k = λ k apart. rw e (byte-outside w hintAt (highBytes 2 v) k (λ a b. apart a (omega arith))) in (
+      slots-same w w1 (λ k l. away k (λ a b. omega arith)) (λ q l. same-two w w1 (recordAt q) (λ j h. away (recordAt q + j) (λ a b. omega arith))) (λ k a b. away k (λ x y. omega arith)),
+      beside-same w w1 (rw e (over-length w hintAt (highBytes 2 v))) (λ k a b. away k (λ x y. omega arith)) (λ k j a b c. away (recordAt k + j) (λ x y. omega arith)) (λ k a. away k (λ x y. omega arith)),
+    )

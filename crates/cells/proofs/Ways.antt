@@ -23,14 +23,14 @@ use Rattle.records.specs.declared.Held.the-variants.{Empty}
 use Rattle.cells.specs.declared.Seen.{Seen}
 use Rattle.cells.specs.Layout.{bodyAt, Slot, slot, slotAt, slotsOf, besideSlots, trailOf, putAt, bodyMark}
 use Rattle.cells.specs.Scopes.{scopeOf}
-use Rattle.cells.specs.Slots.{StoresAt, hit, inUse, valueIn, markIn, cellIn, filled, marked, slotFor, freeSlot, obtained, obtain}
+use Rattle.cells.specs.Slots.{StoresAt, hitAs, isFor, isReached, inUse, valueIn, markIn, cellIn, filled, marked, slotIn, slotFor, Obtains}
 use Rattle.cells.specs.Memory.{cellAt, cellsIn, usedIn, cellsOf, usedOf, classesOf, stateOf, outcome, Answers, markedOne, markOne, seenOf}
 use Rattle.records.specs.Record.{heldOf}
 use Rattle.cells.proofs.Slots.{slot-in}
-use Rattle.cells.proofs.Search.{was-found, was-last}
+use Rattle.cells.proofs.Search.{was-last}
 use Rattle.cells.proofs.Scopes.{cell-at, by-number}
-use Rattle.cells.proofs.Cells.{Keeps, Ready, used-small, Came, came, beside-kept, ready, full, none-changed, value-kept}
-use Rattle.cells.proofs.Keep.{fine-keeps, fine-came}
+use Rattle.cells.proofs.Cells.{Keeps, Ready, used-small, ready, all-taken, none-changed, value-kept}
+use Rattle.cells.proofs.Keep.{fine-keeps, fine-obtained}
 use Rattle.cells.proofs.Regions.{trail-after, records-after, rest-after, names-by, classes-by, cells-by, used-by}
 
 -- ---- The definition's operations, case by case
@@ -77,7 +77,7 @@ abbrev cellWith : Option Labelled → Labels → Cell
 cellWith v m = record { exists = true; value = v; mark = m }
 
 filled-keeps : (x : Labelled) (y : Slot) → Keeps (filled x y) y
-unfolding hit filled
+unfolding isReached isFor filled
 filled-keeps x (slot r t s n c m) s′ n′ = refl
 
 filled-cell : (x : Labelled) (y : Slot) → inUse y ≡ true → _≡_ {A = Cell} (cellIn (filled x y)) (cellWith (some x) (markIn y))
@@ -85,7 +85,7 @@ unfolding filled inUse valueIn markIn
 filled-cell x (slot r t s n c m) used = rw used refl
 
 marked-keeps : (k : Labels) (y : Slot) → Keeps (marked k y) y
-unfolding hit marked
+unfolding isReached isFor marked
 marked-keeps k (slot r t s n c m) s′ n′ = refl
 
 marked-cell : (k : Labels) (y : Slot) → _≡_ {A = Cell} (cellIn (marked k y)) (record { exists = inUse y; value = valueIn y; mark = k })
@@ -104,15 +104,9 @@ into c s n y g keeps e s′ m = go (eqb s′ s) refl (eqb m n) refl
 
 -- ---- The ways
 
-module _ (w w′ : List ℕ) (s n : ℕ) {q : Found} (e : obtained q (slotsOf w′) (besideSlots w′) ≡ obtain (slotsOf w) (besideSlots w) s n) (small : n < 1024) where
-  obtained-by : Came (slotsOf w) (besideSlots w) s n q (slotsOf w′) (besideSlots w′)
-  obtained-by = came (slotsOf w) (besideSlots w) s n e
-
-  same-beside : besideSlots w′ ≡ besideSlots w
-  same-beside = beside-kept (slotsOf w) (besideSlots w) s n obtained-by
-
+module _ (w w′ : List ℕ) (s n : ℕ) {q : Found} (e : Obtains (slotsOf w) s n q (slotsOf w′) × (besideSlots w′ ≡ besideSlots w)) (small : n < 1024) where
   pub ready-at : (i : ℕ) → q ≡ At i → Ready (slotsOf w) s n i (slotsOf w′)
-  ready-at i at = ready (slotsOf w) (besideSlots w) s n i obtained-by at
+  ready-at i at = ready (slotsOf w) s n i (e .0) at
 
   cell-is : cellsOf w (scopeOf s) n ≡ cellsIn (slotsOf w) s n
   unfolding cellsOf
@@ -124,26 +118,26 @@ module _ (w w′ : List ℕ) (s n : ℕ) {q : Found} (e : obtained q (slotsOf w�
   unfolding stateOf
   refused-by answer run slots refusal = record {
     state = λ p es k r. sym (refusal p es k r);
-    stays = λ _ es k r. rw (cells-by w w′ slots, used-by w w′ slots, classes-by w w′ (records-after w w′ same-beside), trail-after w w′ same-beside) refl;
-    names = names-by w w′ (records-after w w′ same-beside);
-    rest = rest-after w w′ same-beside;
-    fine = fine-came (slotsOf w) (besideSlots w) s n small obtained-by;
+    stays = λ _ es k r. rw (cells-by w w′ slots, used-by w w′ slots, classes-by w w′ (records-after w w′ (e .1)), trail-after w w′ (e .1)) refl;
+    names = names-by w w′ (records-after w w′ (e .1));
+    rest = rest-after w w′ (e .1);
+    fine = fine-obtained (slotsOf w) s n small (e .0);
   }
 
   no-slot : q ≡ Nothing → (cellsOf w (scopeOf s) n ≡ noCell) × (usedOf w ≡ 512)
   unfolding usedOf
-  no-slot at = let f = full (slotsOf w) (besideSlots w) s n obtained-by at in (cell-is ∙ f .0, f .1)
+  no-slot at = let f = all-taken (slotsOf w) s n (e .0) at in (cell-is ∙ f .0, f .1)
 
   pub assign-full : (x : Labelled) → q ≡ Nothing → Answers w w′ NoRoom (λ p. assign p (scopeOf s) n x)
   unfolding outcome stateOf
   assign-full x at =
-      refused-by NoRoom (λ p. assign p (scopeOf s) n x) (none-changed (slotsOf w) (besideSlots w) s n obtained-by at)
+      refused-by NoRoom (λ p. assign p (scopeOf s) n x) (none-changed (slotsOf w) s n (e .0) at)
       (λ p es k r. assign-no-room p (scopeOf s) n (stateOf w es k r) x (no-slot at .0) (no-slot at .1))
 
   pub mark-full : (k : Labels) → q ≡ Nothing → Answers w w′ NoRoom (λ p. markOne p (scopeOf s) n k)
   unfolding outcome stateOf
   mark-full l at =
-      refused-by NoRoom (λ p. markOne p (scopeOf s) n l) (none-changed (slotsOf w) (besideSlots w) s n obtained-by at)
+      refused-by NoRoom (λ p. markOne p (scopeOf s) n l) (none-changed (slotsOf w) s n (e .0) at)
       (λ p es k r. mark-no-room p (scopeOf s) n (stateOf w es k r) l (no-slot at .0) (no-slot at .1))
 
   pub assign-has : (x : Labelled) (i : ℕ) → q ≡ At i → {b : Bool} → b ≡ isSome (valueIn (slotsOf w′ i)) → b ≡ true → Answers w w′ HasValue (λ p. assign p (scopeOf s) n x)
@@ -151,7 +145,7 @@ module _ (w w′ : List ℕ) (s n : ℕ) {q : Found} (e : obtained q (slotsOf w�
   assign-has x i at read h =
       let o = ready-at i at in
       let there : isSome (cellsIn (slotsOf w) s n .value) ≡ true = rw (sym (o .value)) (sym read ∙ h) in
-      refused-by HasValue (λ p. assign p (scopeOf s) n x) (value-kept (slotsOf w) (besideSlots w) s n obtained-by there)
+      refused-by HasValue (λ p. assign p (scopeOf s) n x) (value-kept (slotsOf w) s n (e .0) there)
       (λ p es k r. assign-again p (scopeOf s) n (stateOf w es k r) x (ap (λ (c : Cell). isSome (c .value)) cell-is ∙ there))
 
   -- a store at the slot
@@ -172,7 +166,7 @@ module _ (w w′ : List ℕ) (s n : ℕ) {q : Found} (e : obtained q (slotsOf w�
     room-left = rw cell-is (ready-at i at .room)
 
     all-beside : besideSlots w″ ≡ besideSlots w
-    all-beside = c .1 ∙ same-beside
+    all-beside = c .1 ∙ e .1
 
     -- the state after a change of one cell
     abbrev after : (Bool → Cell → Cell) → List Entry → ℕ → ℕ → State
@@ -199,7 +193,7 @@ module _ (w w′ : List ℕ) (s n : ℕ) {q : Found} (e : obtained q (slotsOf w�
       stays = λ other. absurd (other refl);
       names = names-by w w″ (records-after w w″ all-beside);
       rest = rest-after w w″ all-beside;
-      fine = λ f. rw (c .0) (fine-keeps (slotsOf w′) i x s n keeps (ready-at i at .key) (fine-came (slotsOf w) (besideSlots w) s n small obtained-by f));
+      fine = λ f. rw (c .0) (fine-keeps (slotsOf w′) i x s n keeps (ready-at i at .key) (fine-obtained (slotsOf w) s n small (e .0) f));
     }
 
   pub assign-done : (x : Labelled) (i : ℕ) (w″ : List ℕ) → q ≡ At i → {b : Bool} → b ≡ isSome (valueIn (slotsOf w′ i)) → b ≡ false
@@ -226,13 +220,9 @@ module _ (w w′ : List ℕ) (s n : ℕ) {q : Found} (e : obtained q (slotsOf w�
 
 -- ---- Reads of a cell
 
-pub in-slots : (f : ℕ → Slot) (s n i : ℕ) {q : Found} → q ≡ slotFor f s n → q ≡ At i → i < 512
-unfolding slotFor
-in-slots f s n i e p = was-last 512 (λ k. hit s n (f k)) i (sym e ∙ p) .below
-
-pub free-in-slots : (f : ℕ → Slot) (i : ℕ) {q : Found} → q ≡ freeSlot f → q ≡ At i → i < 512
-unfolding freeSlot
-free-in-slots f i e p = was-found 512 0 (λ k. not (inUse (f k))) i (sym e ∙ p) .below
+pub in-slots : (t : ℕ) (f : ℕ → Slot) (s n i : ℕ) {q : Found} → q ≡ slotIn t f s n → q ≡ At i → i < 512
+unfolding slotIn
+in-slots t f s n i e p = was-last 512 (λ k. hitAs t s n (f k)) i (sym e ∙ p) .below
 
 abbrev seenWith : Held → Labels → Seen
 seenWith h m = record { held = h; mark = m }
@@ -242,7 +232,7 @@ pub read-some : (w : List ℕ) (s n i : ℕ) {q : Found} {h : Held} {m : Labels}
 unfolding seenOf cellsOf cellsIn cellAt
 read-some w s n i {q} {h} {m} e p eh em =
     let found : slotFor (slotsOf w) s n ≡ At i = sym e ∙ p in
-    let mark : m ≡ markIn (slotsOf w i) = em ∙ mark-read w i (in-slots (slotsOf w) s n i e p) in
+    let mark : m ≡ markIn (slotsOf w i) = em ∙ mark-read w i (in-slots 1 (slotsOf w) s n i e p) in
     rw (cell-at (cellsIn (slotsOf w)) s n, found, eh, mark) refl
 
 pub read-none : (w : List ℕ) (s n : ℕ) {q : Found} → q ≡ slotFor (slotsOf w) s n → q ≡ Nothing → _≡_ {A = Seen} (seenWith Empty noLabels) (seenOf (cellsOf w (scopeOf s) n))

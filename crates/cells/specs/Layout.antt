@@ -67,9 +67,13 @@ nameSize = 8
 abbrev pub linkAt : ℕ → ℕ
 linkAt i = 51744 + 2 * i
 
--- sixteen words of 2 bytes, which belong to others
+-- the hint, 2 bytes: where a slot never used may be found
+abbrev pub hintAt : ℕ
+hintAt = 52768
+
+-- fifteen words of 2 bytes, which belong to others
 abbrev pub wordsAt : ℕ
-wordsAt = 52768
+wordsAt = 52770
 
 -- from here on nothing is kept
 abbrev pub freeAt : ℕ

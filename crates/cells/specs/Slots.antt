@@ -1,7 +1,7 @@
 -- Slots: what one holds, what a store makes of it, and searches among the 512.
 use Prim.Native.Nat.{ℕ, zero, suc, _≤_, _<_}
 use mathlib.Core.Path.{_≡_}
-use mathlib.Core.Bool.{Bool, true, false, not}
+use mathlib.Core.Bool.{Bool, true, false}
 use mathlib.Core.List.{List}
 use mathlib.Core.Option.{Option, none, some}
 use lib.Dec.{eqb}
@@ -12,15 +12,12 @@ use Rattle.wire.specs.Bytes.{pick}
 use Rattle.rules.specs.State.{Cell}
 use Rattle.cells.specs.declared.Found.{Found}
 use Rattle.cells.specs.declared.Found.the-variants.{At, Nothing}
-use Rattle.cells.specs.Layout.{Slot, slot, slotsOf, Beside, besideSlots, putAt}
+use Rattle.cells.specs.Layout.{Slot, slot, slotsOf, besideSlots, putAt}
 
 -- ---- What a slot holds
 
-unfoldable pub usedState : (state : ℕ) → Bool
-usedState t = pick (eqb t 0) false (not (eqb t 5))
-
 unfoldable pub inUse : Slot → Bool
-inUse (slot r t s n c m) = usedState t
+inUse (slot r t s n c m) = eqb t 1
 
 unfoldable pub neverUsed : Slot → Bool
 neverUsed (slot r t s n c m) = eqb t 0
@@ -28,12 +25,19 @@ neverUsed (slot r t s n c m) = eqb t 0
 unfoldable pub isReached : Slot → Bool
 isReached (slot r t s n c m) = r
 
+-- for this scope number and name, and in this state; reached besides
+unfoldable pub isFor : (state scope name : ℕ) → Slot → Bool
+isFor t s n (slot r t′ s′ n′ c m) = pick (eqb s′ s) (pick (eqb n′ n) (eqb t′ t) false) false
+
+abbrev pub hitAs : (state scope name : ℕ) → Slot → Bool
+hitAs t s n x = pick (isReached x) (isFor t s n x) false
+
 -- reached, and in use for this scope number and name; in use for this scope number
-unfoldable pub hit : (scope name : ℕ) → Slot → Bool
-hit s n (slot r t s′ n′ c m) = pick (eqb s′ s) (pick (eqb n′ n) (pick r (usedState t) false) false) false
+abbrev pub hit : (scope name : ℕ) → Slot → Bool
+hit s n x = hitAs 1 s n x
 
 unfoldable pub ofScope : (scope : ℕ) → Slot → Bool
-ofScope s (slot r t s′ n c m) = pick (eqb s′ s) (usedState t) false
+ofScope s (slot r t s′ n c m) = pick (eqb t 1) (eqb s′ s) false
 
 unfoldable pub valueIn : Slot → Option Labelled
 valueIn (slot r t s n c m) = c
@@ -52,6 +56,10 @@ takenOut (slot r t s n c m) = slot false t s n c m
 
 unfoldable pub putIn : (name : ℕ) → Slot → Slot
 putIn n (slot r t s n′ c m) = slot true t s n c m
+
+-- in use, and holding nothing; so for a scope number and a name
+unfoldable pub renewed : Slot → Slot
+renewed (slot r t s n c m) = slot r 1 s n none noLabels
 
 unfoldable pub claimed : (scope name : ℕ) → Slot → Slot
 claimed s n (slot r t s′ n′ c m) = slot true 1 s n none noLabels
@@ -74,43 +82,47 @@ StoresAt i g w w′ = (slotsOf w′ ≡ putAt i (g (slotsOf w i)) (slotsOf w)) �
 
 -- ---- Searches
 
--- the first of k numbers from i on that passes a test
-unfoldable pub firstFrom : ℕ → ℕ → (ℕ → Bool) → Found
-firstFrom zero i h = Nothing
-firstFrom (suc k) i h = pick (h i) (At i) (firstFrom k (suc i) h)
-
 -- the last number below k that passes a test
 unfoldable pub lastBelow : ℕ → (ℕ → Bool) → Found
 lastBelow zero h = Nothing
 lastBelow (suc k) h = pick (h k) (At k) (lastBelow k h)
 
 -- the first match in a chain, whose numbers fall
-unfoldable pub slotFor : (ℕ → Slot) → (scope name : ℕ) → Found
-slotFor f s n = lastBelow 512 (λ i. hit s n (f i))
+unfoldable pub slotIn : (state : ℕ) → (ℕ → Slot) → (scope name : ℕ) → Found
+slotIn t f s n = lastBelow 512 (λ i. hitAs t s n (f i))
 
-unfoldable pub freeSlot : (ℕ → Slot) → Found
-freeSlot f = firstFrom 512 0 (λ i. not (inUse (f i)))
+abbrev pub slotFor : (ℕ → Slot) → (scope name : ℕ) → Found
+slotFor f s n = slotIn 1 f s n
 
--- a slot for a key, made if there is none
-pub data Obtained : Type 0 where
-  obtained : Found → (ℕ → Slot) → Beside → Obtained
+-- slots are claimed in turn: past one that was never used there are only such
+abbrev pub Packed : (ℕ → Slot) → Type 0
+Packed f = (i j : ℕ) → neverUsed (f i) ≡ true → i ≤ j → neverUsed (f j) ≡ true
 
-unfoldable pub claimFirst : (ℕ → Slot) → Beside → (scope name : ℕ) → Found → Obtained
-claimFirst f r s n (At i) = obtained (At i) (putAt i (claimed s n (f i)) f) r
-claimFirst f r s n Nothing = obtained Nothing f r
+-- a slot to claim: it is not in use, and it is its turn
+pub record Open (f : ℕ → Slot) (i : ℕ) : Type 0 where
+  pub below : i < 512
+  pub unused : inUse (f i) ≡ false
+  pub turn : Packed f → (k : ℕ) → k < i → neverUsed (f k) ≡ false
 
-unfoldable pub obtainFrom : (ℕ → Slot) → Beside → (scope name : ℕ) → Found → Obtained
-obtainFrom f r s n (At i) = obtained (At i) f r
-obtainFrom f r s n Nothing = claimFirst f r s n (freeSlot f)
+-- such a slot, or none where all are in use
+pub data FindsOpen (f : ℕ → Slot) : Found → Type 0 where
+  opened : {i : ℕ} → Open f i → FindsOpen f (At i)
+  full : ((i : ℕ) → i < 512 → inUse (f i) ≡ true) → FindsOpen f Nothing
 
-unfoldable pub obtain : (ℕ → Slot) → Beside → (scope name : ℕ) → Obtained
-obtain f r s n = obtainFrom f r s n (slotFor f s n)
+-- a slot is claimed for a key, unless all are in use
+pub data Claims (f : ℕ → Slot) (s n : ℕ) : Found → (ℕ → Slot) → Type 0 where
+  claims : {i : ℕ} {f′ : ℕ → Slot} → Open f i → f′ ≡ putAt i (claimed s n (f i)) f → Claims f s n (At i) f′
+  refuses : ((i : ℕ) → i < 512 → inUse (f i) ≡ true) → Claims f s n Nothing f
 
--- ---- The invariant, which freeing a scope requires: no key twice, every name below 1,024, every slot in use is reached, and none is in use past one
--- that never was
+-- the slot of a key: the one in use, or one that is claimed
+pub data Obtains (f : ℕ → Slot) (s n : ℕ) : Found → (ℕ → Slot) → Type 0 where
+  holds : {i : ℕ} → slotFor f s n ≡ At i → Obtains f s n (At i) f
+  lacks : {q : Found} {f′ : ℕ → Slot} → slotFor f s n ≡ Nothing → Claims f s n q f′ → Obtains f s n q f′
+
+-- ---- The invariant, which freeing a scope requires: no key twice, every name below 1,024, every slot in use is reached, and slots are claimed in turn
 
 pub record FineSlots (f : ℕ → Slot) : Type 0 where
   pub once : (i j s n : ℕ) → i < 512 → j < 512 → hit s n (f i) ≡ true → hit s n (f j) ≡ true → i ≡ j
   pub small : (i s n : ℕ) → hit s n (f i) ≡ true → n < 1024
   pub linked : (i : ℕ) → inUse (f i) ≡ true → isReached (f i) ≡ true
-  pub packed : (i j : ℕ) → neverUsed (f i) ≡ true → i ≤ j → inUse (f j) ≡ false
+  pub packed : Packed f

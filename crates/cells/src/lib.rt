@@ -1,6 +1,6 @@
 // The cells of the working memory: 512 slots in lent bytes. Contracts speak of the definition's state, which the bytes stand for (specs/Memory.antt).
 ghost use mathlib.Core.Path.{_≡_};
-ghost use mathlib.Core.Bool.{false};
+ghost use mathlib.Core.Bool.{true, false};
 ghost use Prim.Native.Nat.{_+_, _≤_, _<_};
 ghost use lib.ListN.{length};
 ghost use Rattle.labels.specs.Bytes.{setAt};
@@ -9,14 +9,15 @@ ghost use Rattle.wire.specs.Runs.{over};
 ghost use Rattle.records.specs.Record.{heldOf};
 ghost use Rattle.rules.specs.State.{free, isSome};
 ghost use Rattle.rules.specs.State as state;
-ghost use Rattle.cells.specs.Layout.{bodyAt, bodyMark, slotsOf, besideSlots, placeAt, linkIn, nextIn, LastAbove};
+ghost use Rattle.cells.specs.Chains.{counted};
+ghost use Rattle.cells.specs.Layout.{bodyAt, bodyMark, slotsOf, besideSlots, nameIn, placeAt, nextIn, LastAbove};
 ghost use Rattle.cells.specs.Scopes.{scopeOf};
-ghost use Rattle.cells.specs.Slots.{usedState, isReached, ofScope, valueIn, takenOut, putIn, claimed, filled, marked, freedSlot, StoresAt, slotFor, freeSlot, obtained};
-ghost use Rattle.cells.specs.Slots as slots;
+ghost use Rattle.cells.specs.Slots.{isReached, isFor, hitAs, ofScope, valueIn, takenOut, putIn, renewed, claimed, filled, marked, freedSlot, StoresAt, slotIn, Open, FindsOpen, Claims, Obtains};
 ghost use Rattle.cells.specs.Memory.{seenOf, cellsOf, Fine, Becomes, Answers, markOne};
 use crate::layout::BODIES;
 use crate::layout::BODY_MARK;
 use crate::layout::BODY_SIZE;
+use crate::layout::HINT;
 use crate::layout::KEY_NAME;
 use crate::layout::KEY_SIZE;
 use crate::layout::KEYS;
@@ -31,7 +32,9 @@ use values::Labelled;
 
 pub mod layout; // layout.rt: where everything stands
 
-// The state of a slot that was freed; that of one never used is 0, and of one in use 1.
+// The states of a slot; that of one never used is 0.
+const USED: u8 = 1;
+
 const FREED: u8 = 5;
 
 // What a search among the slots finds.
@@ -55,17 +58,53 @@ pub enum Stored {
 
 // ---- Chains: the slots of one name, by falling numbers. A reference is one more than a slot's number, or 0
 
-// The reference at slot p; at 512, the head of the name's chain.
-fn link_of(work: &[u8], name: u16, p: usize) -> u16
-    ensures { λ r. ⌜ r ≡ linkIn (now (work .entry)) name p ⌝ }
+// A reference at slot p, if it counts for a name: one that does not fall, or leads to another name, is none.
+fn counted_link(work: &[u8], name: u16, p: usize, next: u16) -> u16
+    requires { ⌜ (p ≤ 512) × (65536 ≤ length (now work)) ⌝ }
+    ensures { λ r. ⌜ r ≡ counted (nameIn (now (work .entry))) name p next ⌝ }
 {
-    if p < SLOTS {
-        return wire::two_at(work, LINKS + LINK_SIZE * p);
+    if next == 0 {
+        return 0;
     }
+    let i = next as usize - 1;
+    if p <= i {
+        return 0;
+    }
+    if wire::two_in(work, KEYS + KEY_SIZE * i + KEY_NAME) != name {
+        return 0;
+    }
+    next
+}
+
+fn first_of(work: &[u8], name: u16) -> u16
+    requires { ⌜ 65536 ≤ length (now work) ⌝ }
+    ensures { λ r. ⌜ r ≡ nextIn (now (work .entry)) name 512 ⌝ }
+{
     if 1024 <= name {
         return 0;
     }
-    wire::two_at(work, NAMES + NAME_SIZE * name as usize)
+    let head = wire::two_in(work, NAMES + NAME_SIZE * name as usize);
+    counted_link(work, name, SLOTS, head)
+}
+
+// What follows slot p in the chain of a name.
+fn after(work: &[u8], name: u16, p: usize) -> u16
+    requires { ⌜ (p < 512) × (65536 ≤ length (now work)) ⌝ }
+    ensures { λ r. ⌜ r ≡ nextIn (now (work .entry)) name p ⌝ }
+{
+    let link = wire::two_in(work, LINKS + LINK_SIZE * p);
+    counted_link(work, name, p, link)
+}
+
+// The same; at 512, the first of the chain.
+fn next_of(work: &[u8], name: u16, p: usize) -> u16
+    requires { ⌜ (p ≤ 512) × (65536 ≤ length (now work)) ⌝ }
+    ensures { λ r. ⌜ r ≡ nextIn (now (work .entry)) name p ⌝ }
+{
+    if p < SLOTS {
+        return after(work, name, p);
+    }
+    first_of(work, name)
 }
 
 fn put_link(work: &mut [u8], name: u16, p: usize, next: u16)
@@ -78,92 +117,92 @@ fn put_link(work: &mut [u8], name: u16, p: usize, next: u16)
     wire::put_two(work, NAMES + NAME_SIZE * name as usize, next);
 }
 
-// What follows slot p in the chain of a name: a reference that does not fall, or leads to another name, is none.
-fn next_of(work: &[u8], name: u16, p: usize) -> u16
-    requires { ⌜ p ≤ 512 ⌝ }
-    ensures { λ r. ⌜ r ≡ nextIn (now (work .entry)) name p ⌝ }
-{
-    let next = link_of(work, name, p);
-    if next == 0 {
-        return 0;
-    }
-    let i = next as usize - 1;
-    if p <= i {
-        return 0;
-    }
-    if wire::two_at(work, KEYS + KEY_SIZE * i + KEY_NAME) != name {
-        return 0;
-    }
-    next
-}
-
 // The place in a name's chain where slot j stands, or would: after the slot answered.
 fn last_above(work: &[u8], name: u16, j: usize) -> usize
-    requires { ⌜ j < 512 ⌝ }
+    requires { ⌜ (j < 512) × (65536 ≤ length (now work)) ⌝ }
     ensures { λ r. ⌜ LastAbove (now (work .entry)) name j r ⌝ }
 {
     let mut p = SLOTS;
-    let mut next = next_of(work, name, SLOTS);
+    let mut next = first_of(work, name);
     while j + 1 < next as usize {
         p = next as usize - 1;
-        next = next_of(work, name, p);
+        next = after(work, name, p);
     }
     p
 }
 
 // ---- Searches
 
-fn is_used(state: u8) -> bool
-    ensures { λ r. ⌜ r ≡ usedState state ⌝ }
-{
-    if state == 0 {
-        return false;
-    }
-    state != FREED
-}
-
-// The low byte first: most slots fail there.
-fn in_scope(work: &[u8], i: usize, scope: u16) -> bool
+fn is_for(work: &[u8], i: usize, scope: u16, name: u16, state: u8) -> bool
     requires { ⌜ (i < 512) × (65536 ≤ length (now work)) ⌝ }
-    ensures { λ r. ⌜ r ≡ ofScope scope (slotsOf (now (work .entry)) i) ⌝ }
+    ensures { λ r. ⌜ r ≡ isFor state scope name (slotsOf (now (work .entry)) i) ⌝ }
 {
-    let low = KEYS + KEY_SIZE * i + 1;
-    if work[low] != (scope % 256) as u8 {
+    if wire::two_in(work, KEYS + KEY_SIZE * i) != scope {
         return false;
     }
-    if wire::two_at(work, KEYS + KEY_SIZE * i) != scope {
+    if wire::two_in(work, KEYS + KEY_SIZE * i + KEY_NAME) != name {
         return false;
     }
-    is_used(wire::byte_at(work, i))
+    work[i] == state
 }
 
-fn find(work: &[u8], scope: u16, name: u16) -> Found
+// The slot of a key that is in use, or one that was freed.
+fn find(work: &[u8], scope: u16, name: u16, state: u8) -> Found
     requires { ⌜ 65536 ≤ length (now work) ⌝ }
-    ensures { λ r. ⌜ r ≡ slotFor (slotsOf (now (work .entry))) scope name ⌝ }
+    ensures { λ r. ⌜ r ≡ slotIn state (slotsOf (now (work .entry))) scope name ⌝ }
 {
-    let mut next = next_of(work, name, SLOTS);
+    let mut next = first_of(work, name);
     while next != 0 {
         let i = next as usize - 1;
-        if in_scope(work, i, scope) {
+        if is_for(work, i, scope, name, state) {
             return Found::At(i);
         }
-        next = next_of(work, name, i);
+        next = after(work, name, i);
     }
     Found::Nothing
 }
 
+// Whether slot i is the first that was never used.
+fn is_next(work: &[u8], i: usize) -> bool
+    requires { ⌜ 65536 ≤ length (now work) ⌝ }
+    ensures { λ r. ⌜ (r ≡ true → Open (slotsOf (now (work .entry))) i) ⌝ }
+{
+    if SLOTS <= i {
+        return false;
+    }
+    if work[i] != 0 {
+        return false;
+    }
+    if i == 0 {
+        return true;
+    }
+    work[i - 1] != 0
+}
+
 fn find_free(work: &[u8]) -> Found
     requires { ⌜ 65536 ≤ length (now work) ⌝ }
-    ensures { λ r. ⌜ r ≡ freeSlot (slotsOf (now (work .entry))) ⌝ }
+    ensures { λ r. ⌜ FindsOpen (slotsOf (now (work .entry))) r ⌝ }
 {
     let mut i = 0;
     while i < SLOTS {
-        if !is_used(work[i]) {
+        if work[i] != USED {
             return Found::At(i);
         }
         i += 1;
     }
     Found::Nothing
+}
+
+// The hint spares the walk as long as there are slots that were never used.
+fn find_open(work: &[u8]) -> Found
+    requires { ⌜ 65536 ≤ length (now work) ⌝ }
+    ensures { λ r. ⌜ FindsOpen (slotsOf (now (work .entry))) r ⌝ }
+{
+    let hint = wire::two_in(work, HINT) as usize;
+    if is_next(work, hint) {
+        return Found::At(hint);
+    }
+    find_free(work)
 }
 
 // ---- Reads
@@ -194,7 +233,7 @@ pub fn read_cell(work: &[u8], scope: u16, name: u16) -> Seen
     requires { ⌜ 65536 ≤ length (now work) ⌝ }
     ensures { λ r. ⌜ r ≡ seenOf (cellsOf (now (work .entry)) (scopeOf scope) name) ⌝ }
 {
-    let Found::At(i) = find(work, scope, name) else {
+    let Found::At(i) = find(work, scope, name, USED) else {
         return Seen {
             held: Held::Empty,
             mark: Labels::EMPTY,
@@ -212,7 +251,7 @@ fn take_out(work: &mut [u8], j: usize)
     requires { ⌜ (j < 512) × (65536 ≤ length (now work)) ⌝ }
     ensures { λ _. ⌜ StoresAt j takenOut (now (work .entry)) (now (work .exit)) ⌝ }
 {
-    let name = wire::two_at(work, KEYS + KEY_SIZE * j + KEY_NAME);
+    let name = wire::two_in(work, KEYS + KEY_SIZE * j + KEY_NAME);
     let p = last_above(work, name, j);
     if next_of(work, name, p) as usize != j + 1 {
         return;
@@ -232,15 +271,23 @@ fn put_in(work: &mut [u8], j: usize, name: u16)
     put_link(work, name, p, (j + 1) as u16);
 }
 
+// A slot that holds nothing is in use.
+fn renew(work: &mut [u8], j: usize)
+    requires { ⌜ (j < 512) × (65536 ≤ length (now work)) ⌝ }
+    ensures { λ _. ⌜ StoresAt j renewed (now (work .entry)) (now (work .exit)) ⌝ }
+{
+    wire::put_byte(work, j, USED);
+    records::empty_record(work, BODIES + BODY_SIZE * j);
+    Labels::EMPTY.write_within(work, BODIES + BODY_SIZE * j + BODY_MARK);
+}
+
 fn claim(work: &mut [u8], j: usize, scope: u16, name: u16)
     requires { ⌜ (j < 512) × ((65536 ≤ length (now work)) × (name < 1024)) ⌝ }
     ensures { λ _. ⌜ StoresAt j (claimed scope name) (now (work .entry)) (now (work .exit)) ⌝ }
 {
     take_out(work, j);
-    wire::put_byte(work, j, 1);
     wire::put_two(work, KEYS + KEY_SIZE * j, scope);
-    records::empty_record(work, BODIES + BODY_SIZE * j);
-    Labels::EMPTY.write_within(work, BODIES + BODY_SIZE * j + BODY_MARK);
+    renew(work, j);
     put_in(work, j, name);
 }
 
@@ -258,20 +305,35 @@ fn put_mark(work: &mut [u8], i: usize, mark: Labels)
     mark.write_within(work, BODIES + BODY_SIZE * i + BODY_MARK);
 }
 
-// The slot of a key, claimed if there is none; Nothing where all are in use.
-fn obtain(work: &mut [u8], scope: u16, name: u16) -> Found
+// Claims a slot for a key that none is in use for: one that was freed stands in its chain already. Nothing where all are in use.
+fn claim_open(work: &mut [u8], scope: u16, name: u16) -> Found
     requires { ⌜ (65536 ≤ length (now work)) × (name < 1024) ⌝ }
-    ensures { λ r. ⌜ obtained r (slotsOf (now (work .exit))) (besideSlots (now (work .exit))) ≡ slots.obtain (slotsOf (now (work .entry))) (besideSlots (now (work .entry))) scope name ⌝ }
+    ensures { λ r. ⌜ (Claims (slotsOf (now (work .entry))) scope name r (slotsOf (now (work .exit)))) × (besideSlots (now (work .exit)) ≡ besideSlots (now (work .entry))) ⌝ }
 {
-    match find(work, scope, name) {
-        Found::At(i) => Found::At(i),
-        Found::Nothing => match find_free(work) {
+    match find(work, scope, name, FREED) {
+        Found::At(i) => {
+            renew(work, i);
+            Found::At(i)
+        }
+        Found::Nothing => match find_open(work) {
             Found::At(j) => {
                 claim(work, j, scope, name);
+                wire::put_two(work, HINT, (j + 1) as u16);
                 Found::At(j)
             }
             Found::Nothing => Found::Nothing,
         },
+    }
+}
+
+// The slot of a key, claimed if there is none; Nothing where all are in use.
+fn obtain(work: &mut [u8], scope: u16, name: u16) -> Found
+    requires { ⌜ (65536 ≤ length (now work)) × (name < 1024) ⌝ }
+    ensures { λ r. ⌜ (Obtains (slotsOf (now (work .entry))) scope name r (slotsOf (now (work .exit)))) × (besideSlots (now (work .exit)) ≡ besideSlots (now (work .entry))) ⌝ }
+{
+    match find(work, scope, name, USED) {
+        Found::At(i) => Found::At(i),
+        Found::Nothing => claim_open(work, scope, name),
     }
 }
 
@@ -307,6 +369,17 @@ pub fn join_mark(work: &mut [u8], scope: u16, name: u16, set: Labels) -> Stored
 
 // ---- Freeing a scope
 
+// The state first: it has been read already, and most slots fail there.
+fn in_scope(work: &[u8], i: usize, scope: u16) -> bool
+    requires { ⌜ (i < 512) × (65536 ≤ length (now work)) ⌝ }
+    ensures { λ r. ⌜ r ≡ ofScope scope (slotsOf (now (work .entry)) i) ⌝ }
+{
+    if work[i] != USED {
+        return false;
+    }
+    wire::two_in(work, KEYS + KEY_SIZE * i) == scope
+}
+
 fn free_at(work: &mut [u8], i: usize, scope: u16)
     requires { ⌜ (i < 512) × (65536 ≤ length (now work)) ⌝ }
     ensures { λ _. ⌜ StoresAt i (freedSlot scope) (now (work .entry)) (now (work .exit)) ⌝ }
@@ -323,7 +396,7 @@ pub fn free_scope(work: &mut [u8], scope: u16)
 {
     let mut i = 0;
     while i < SLOTS {
-        if wire::byte_at(work, i) == 0 {
+        if work[i] == 0 {
             return;
         }
         free_at(work, i, scope);

@@ -17,22 +17,20 @@ abbrev μ-loop : tie.MeasureT-loop
 loop-holds : tie.Need-loop-holds Inv-loop μ-loop
 loop-holds c = (omega arith, (refl, (freed-none _ _, refl)))
 
-byte-at-requires : tie.Need-byte-at-requires Inv-loop μ-loop
-byte-at-requires c κs = tt
+slice-read-if1 : tie.Need-slice-read-if1 Inv-loop μ-loop
+slice-read-if1 c = omega (arith, c .before .before .loop .inv .1 .0, c .before .before .before .before .pre .0)
 
 same-length : tie.Need-same-length Inv-loop μ-loop
-same-length c = c .before .before .before .before .loop .inv .1 .0
+same-length c = c .before .before .before .loop .inv .1 .0
 
 returns : tie.Need-returns Inv-loop μ-loop
 returns c =
-    let inv = c .before .before .before .before .loop .inv .1 .1 in
-    let fine = c .before .before .before .before .before .before .pre .1 in
-    free-way _ _ _ _ fine (none-after _ _ _ _ fine (c .before .before .before .loop-test .taken) (inv .0) (c .before .byte-at .ensures) (c .if1 .taken)) (inv .0) (inv .1)
+    let inv = c .before .before .before .loop .inv .1 .1 in
+    let fine = c .before .before .before .before .before .pre .1 in
+    free-way _ _ _ _ fine (none-after _ _ _ _ fine (c .before .before .loop-test .taken) (inv .0) (c .if1 .taken)) (inv .0) (inv .1)
 
 free-at-requires : tie.Need-free-at-requires Inv-loop μ-loop
-free-at-requires c κs =
-    let in-loop = c .before .before .before .before in
-    (in-loop .loop-test .taken, omega (arith, in-loop .before .before .before .pre .0, in-loop .before .loop .inv .1 .0))
+free-at-requires c κs = (c .before .before .before .loop-test .taken, omega (arith, c .before .before .before .before .before .before .pre .0, c .before .before .before .before .loop .inv .1 .0))
 
 add-i : tie.Need-add-i Inv-loop μ-loop
 add-i c = omega arith
@@ -42,7 +40,7 @@ loop-less c = omega arith
 
 loop-again : tie.Need-loop-again Inv-loop μ-loop
 loop-again c =
-    let inv = c .before .before .before .before .before .before .before .before .loop .inv .1 in
+    let inv = c .before .before .before .before .before .before .before .loop .inv .1 in
     let free-at = c .before .before .free-at in
     let stores = free-at .ensures in
     (omega arith, (free-at .kept .0 ∙ inv .0, (freed-more _ _ _ (inv .1 .0) (stores .0), stores .1 ∙ inv .1 .1)))
@@ -62,7 +60,7 @@ free-scope-spec =
     Inv-loop
     μ-loop
     loop-holds
-    byte-at-requires
+    slice-read-if1
     same-length
     returns
     free-at-requires

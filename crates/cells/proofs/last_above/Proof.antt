@@ -10,11 +10,11 @@ Inv-loop work name j p₀ next₀ p next = Walked work name j p next
 abbrev μ-loop : tie.MeasureT-loop
 μ-loop work name j p₀ next₀ p next = next
 
-next-of-requires : tie.Need-next-of-requires Inv-loop μ-loop
-next-of-requires c κs = omega arith
+first-of-requires : tie.Need-first-of-requires Inv-loop μ-loop
+first-of-requires c κs = c .before .pre .1
 
 loop-holds : tie.Need-loop-holds Inv-loop μ-loop
-loop-holds c = walk-start _ _ _ (c .before .before .pre) (c .next-of .ensures)
+loop-holds c = walk-start _ _ _ (c .before .before .pre .0) (c .first-of .ensures)
 
 add-loop : tie.Need-add-loop Inv-loop μ-loop
 add-loop c = omega arith
@@ -28,14 +28,14 @@ cast-p c = omega (arith, c .before .loop .inv .small)
 sub-p : tie.Need-sub-p Inv-loop μ-loop
 sub-p c = omega arith
 
-next-of-requires-2 : tie.Need-next-of-requires-2 Inv-loop μ-loop
-next-of-requires-2 c κs = omega (arith, c .before .loop .inv .small)
+after-requires : tie.Need-after-requires Inv-loop μ-loop
+after-requires c κs = (omega (arith, c .before .loop .inv .small), c .before .before .before .before .pre .1)
 
 loop-less : tie.Need-loop-less Inv-loop μ-loop
-loop-less c = omega (arith, next-low _ _ _ (c .next-of2 .ensures))
+loop-less c = omega (arith, next-low _ _ _ (c .after .ensures))
 
 loop-again : tie.Need-loop-again Inv-loop μ-loop
-loop-again c = walk-next _ _ _ _ _ (c .before .before .loop .inv) (c .before .loop-test .taken) (c .next-of2 .ensures)
+loop-again c = walk-next _ _ _ _ _ (c .before .before .loop .inv) (c .before .loop-test .taken) (c .after .ensures)
 
 returns : tie.Need-returns Inv-loop μ-loop
 returns c = walk-end _ _ _ _ _ (c .before .loop .inv) (c .loop-test .left)
@@ -46,13 +46,13 @@ last-above-spec =
     (tie.spec
     Inv-loop
     μ-loop
-    next-of-requires
+    first-of-requires
     loop-holds
     add-loop
     cast-loop
     cast-p
     sub-p
-    next-of-requires-2
+    after-requires
     loop-less
     loop-again
     returns)

@@ -1,5 +1,6 @@
 -- `put_in`: the slot takes over what followed the last one above it, and follows that one.
 use mathlib.Core.Path.{refl}
+use native.Mathlib.Omega.{arith}
 use borrow.Author.Needs.{needs}
 use Rattle.cells.proofs.SlotReads.{last-small}
 use Rattle.cells.proofs.Claims.{in-way}
@@ -10,7 +11,7 @@ last-above-requires : tie.Need-last-above-requires
 last-above-requires c κs = search needs
 
 next-of-requires : tie.Need-next-of-requires
-next-of-requires c κs = last-small _ _ _ _ (c .before .last-above .ensures)
+next-of-requires c κs = (last-small _ _ _ _ (c .before .last-above .ensures), omega arith)
 
 put-link-requires : tie.Need-put-link-requires
 put-link-requires c κs = search needs
