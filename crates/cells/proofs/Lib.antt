@@ -4,6 +4,7 @@ pub mod Search
 pub mod Regions
 pub mod Links
 pub mod Slots
+pub mod Others
 pub mod Claims
 pub mod Scopes
 pub mod Cells

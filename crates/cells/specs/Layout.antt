@@ -75,9 +75,23 @@ hintAt = 52768
 abbrev pub wordsAt : ℕ
 wordsAt = 52770
 
--- from here on nothing is kept
-abbrev pub freeAt : ℕ
-freeAt = 52800
+-- the index over the catalog: the head of chain b, 2 bytes
+abbrev pub headAt : ℕ → ℕ
+headAt b = 52800 + 2 * b
+
+-- how many records there are, 2 bytes
+abbrev pub countAt : ℕ
+countAt = 54848
+
+-- record i: a place 2 bytes, and the next record of its chain 2
+abbrev pub indexAt : ℕ → ℕ
+indexAt i = 54850 + 4 * i
+
+abbrev pub indexLink : ℕ
+indexLink = 2
+
+abbrev pub mostRecords : ℕ
+mostRecords = 1680
 
 -- ---- What is read there
 

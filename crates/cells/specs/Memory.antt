@@ -95,6 +95,12 @@ pub record Becomes (w w′ : List ℕ) (change : State → State) (rename : Name
   pub rest : restOf w′ ≡ restOf w
   pub fine : Fine w → Fine w′
 
+-- from w to w′ the state and the names stay, and the invariant is kept
+pub record Stays (w w′ : List ℕ) : Type 0 where
+  pub state : (es : List Entry) (n r : ℕ) → stateOf w′ es n r ≡ stateOf w es n r
+  pub names : namesOf w′ ≡ namesOf w
+  pub fine : Fine w → Fine w′
+
 -- ---- Stores that may be refused
 
 -- what an answer says, for a statement at a place

@@ -1,4 +1,4 @@
--- A memory whose first bytes tell the start: no cell, no class, no name, an empty trail.
+-- A memory whose first bytes tell the start: no cell, no class, no name, an empty trail, an empty index.
 use mathlib.Core.Path.{_≡_, refl, ap, _∙_, fun-ext}
 use mathlib.Core.Bool.{Bool, true, false}
 use mathlib.Core.List.{List, []}
@@ -15,16 +15,16 @@ use Rattle.wire.specs.Runs.{over, zeros}
 use Rattle.wire.proofs.Laws.{byte-outside, over-whole, zeros-length, cleared}
 use Rattle.rules.specs.State.{DeclaredClass}
 use Rattle.rules.specs.Compile.{roomIn, start}
-use Rattle.cells.specs.Layout.{table, trailAt, recordAt, wordsAt, freeAt, trailOf, NameRecord, nameAt, blankRecord, recordsOf}
+use Rattle.cells.specs.Layout.{table, trailAt, recordAt, wordsAt, headAt, indexAt, trailOf, NameRecord, nameAt, blankRecord, recordsOf}
 use Rattle.cells.specs.Memory.{classFrom, classIn, definitionIn, builtInIn, classesOf, definitionOf, builtInOf, namesOf, stateOf}
 use Rattle.cells.proofs.Blank.{blank-cells, blank-used, blank-fine}
 use Rattle.cells.proofs.Regions.{names}
 use Rattle.memory.specs.Names.{noNames, Begun}
 use Rattle.memory.proofs.Titles.{no-title}
 
--- no slot is in use, and what follows the slots is zero up to the words' end
-module _ (w : List ℕ) (states : (i : ℕ) → i < 512 → byte w i ≡ 0) (after : (i : ℕ) → trailAt ≤ i → i < freeAt → byte w i ≡ 0) where
-  zero-two : (p : ℕ) → trailAt ≤ p → p ≤ wordsAt → two w p ≡ 0
+-- no slot is in use, and what follows the slots is zero up to the records of the index
+module _ (w : List ℕ) (states : (i : ℕ) → i < 512 → byte w i ≡ 0) (after : (i : ℕ) → trailAt ≤ i → i < indexAt 0 → byte w i ≡ 0) where
+  zero-two : (p : ℕ) → trailAt ≤ p → p + 2 ≤ indexAt 0 → two w p ≡ 0
   unfolding two
   zero-two p l u = rw (after p l (omega arith), after (p + 1) (omega arith) (omega arith)) refl
 
@@ -62,14 +62,14 @@ module _ (w : List ℕ) (states : (i : ℕ) → i < 512 → byte w i ≡ 0) (aft
 
   -- THE LAW: the definition's first state
   pub begun : Begun w
-  begun = record { state = begun-state; names = begun-names; title = no-title w (zero-two wordsAt (omega arith) (omega arith)); fine = blank-fine w states }
+  begun = record { state = begun-state; names = begun-names; title = no-title w (zero-two wordsAt (omega arith) (omega arith)); fine = blank-fine w states; index = λ p l u. zero-two p (omega arith) u }
 
 -- begin
-pub begin-way : (w w₁ w₂ : List ℕ) → 65536 ≤ length w → w₁ ≡ over w 0 (zeros (512 - 0)) → w₂ ≡ over w₁ trailAt (zeros (freeAt - trailAt)) → Begun w₂
+pub begin-way : (w w₁ w₂ : List ℕ) → 65536 ≤ length w → w₁ ≡ over w 0 (zeros (512 - 0)) → w₂ ≡ over w₁ trailAt (zeros (indexAt 0 - trailAt)) → Begun w₂
 begin-way w w₁ w₂ room e e′ =
     begun w₂
-    (λ i l. rw (e′, e) (byte-outside (over w 0 (zeros (512 - 0))) trailAt (zeros (freeAt - trailAt)) i (λ a b. omega arith) ∙ cleared w 0 512 i (omega arith) l))
-    (λ i l u. rw e′ (cleared w₁ trailAt (freeAt - trailAt) i l (omega arith)))
+    (λ i l. rw (e′, e) (byte-outside (over w 0 (zeros (512 - 0))) trailAt (zeros (indexAt 0 - trailAt)) i (λ a b. omega arith) ∙ cleared w 0 512 i (omega arith) l))
+    (λ i l u. rw e′ (cleared w₁ trailAt (indexAt 0 - trailAt) i l (omega arith)))
 
 -- clear
 pub clear-way : (m : List ℕ) {w′ : List ℕ} → w′ ≡ over m 0 (zeros (length m - 0)) → w′ ≡ zeros (length m)

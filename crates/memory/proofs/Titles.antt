@@ -8,14 +8,13 @@ use native.Mathlib.Omega.{arith}
 use lib.ListN.{length, drop}
 use lib.Dec.{eqb, ltb}
 use borrow.Author.Tests.{ne-eqb, lt-ltb, le-ltb, eqb-false, ltb-false}
-use Rattle.wire.specs.Bytes.{pick, byte, two}
+use Rattle.wire.specs.Bytes.{pick, two}
 use Rattle.wire.specs.Numbers.{highBytes}
 use Rattle.wire.specs.Runs.{over}
 use Rattle.wire.proofs.Laws.{same-rest, two-same, byte-outside, high-length, stored-two}
-use Rattle.cells.specs.Layout.{recordAt, wordsAt, slotsOf, trailOf, recordsOf, restOf}
-use Rattle.cells.specs.Memory.{stateOf}
-use Rattle.cells.proofs.Regions.{same-two, trail-same, records-same, names-by, classes-by, cells-by, used-by}
-use Rattle.cells.proofs.Slots.{slots-same}
+use Rattle.cells.specs.Layout.{wordsAt, restOf}
+use Rattle.cells.specs.Memory.{Stays}
+use Rattle.cells.proofs.Others.{others-stored}
 use Rattle.memory.specs.declared.TitleName.the-variants.{At as TitleAt, Nothing as NoTitle}
 use Rattle.memory.specs.Names.{titleIn, titleOf, titleFound, TitleSet}
 
@@ -27,6 +26,10 @@ rest-first w = two-same w (drop wordsAt w) wordsAt 0 (same-rest w (drop wordsAt 
 pub title-kept : (w w′ : List ℕ) → restOf w′ ≡ restOf w → titleOf w′ ≡ titleOf w
 unfolding titleOf
 title-kept w w′ e = rw e refl
+
+pub title-same : (w w′ : List ℕ) → two w′ wordsAt ≡ two w wordsAt → titleOf w′ ≡ titleOf w
+unfolding titleOf
+title-same w w′ e = ap titleIn (sym (rest-first w′) ∙ e ∙ rest-first w)
 
 pub no-title : (w : List ℕ) → two w wordsAt ≡ 0 → titleOf w ≡ none
 unfolding titleOf titleIn
@@ -60,18 +63,15 @@ module _ (w : List ℕ) {t : ℕ} (read : t ≡ two w wordsAt) where
 
 -- set_title
 pub title-way : (w : List ℕ) (n : ℕ) (w′ : List ℕ) → 65536 ≤ length w → n < 1024 → w′ ≡ over w wordsAt (highBytes 2 (n + 1)) → TitleSet w w′ n
-unfolding stateOf titleOf titleIn
+unfolding titleOf titleIn
 title-way w n w′ room below e =
     let size : length (highBytes 2 (n + 1)) ≡ 2 = high-length 2 (n + 1) in
-    let away : (k : ℕ) → k < wordsAt → byte w′ k ≡ byte w k = λ k l. rw e (byte-outside w wordsAt (highBytes 2 (n + 1)) k (λ a b. omega arith)) in
-    let slots : slotsOf w′ ≡ slotsOf w = slots-same w w′ (λ k l. away k (omega arith)) (λ q l. same-two w w′ (recordAt q) (λ j h. away (recordAt q + j) (omega arith))) (λ k l u. away k (omega arith)) in
-    let trail : trailOf w′ ≡ trailOf w = trail-same w w′ (λ k l u. away k (omega arith)) in
-    let records : recordsOf w′ ≡ recordsOf w = records-same w w′ (λ k j l a b. away (recordAt k + j) (omega arith)) in
+    let stays : Stays w w′ = others-stored w w′ (λ k l. rw e (byte-outside w wordsAt (highBytes 2 (n + 1)) k (λ a b. omega arith))) in
     let back : two w′ wordsAt ≡ n + 1 = ap (λ (m : List ℕ). two m wordsAt) e ∙ stored-two w wordsAt (n + 1) (omega arith) (omega arith) in
     let one-less : n + 1 - 1 ≡ n = omega arith in
     record {
       title = rw (sym (rest-first w′), back, ne-eqb (n + 1) 0 (λ z. omega arith), le-ltb 1024 (n + 1) (omega arith), one-less) refl;
-      state = λ es k r. rw (cells-by w w′ slots, used-by w w′ slots, classes-by w w′ records, trail) refl;
-      names = names-by w w′ records;
-      fine = λ f. rw slots f;
+      state = stays .state;
+      names = stays .names;
+      fine = stays .fine;
     }

@@ -10,13 +10,13 @@ ghost use Rattle.cells.specs.Layout.{trailOf};
 ghost use Rattle.cells.specs.Scopes.{scopeOf};
 ghost use Rattle.cells.specs.Memory.{baseFor, classesOf, definitionOf, builtInOf, stateOf, trailed, Becomes};
 ghost use Rattle.memory.specs.Names.{withDefinition, withBuiltIn, classState, placed, scopeAbove, atNode, titleOf, titleFound, TitleSet, Begun};
-use cells::layout::FREE;
 use cells::layout::NAME_BUILT_IN;
 use cells::layout::NAME_CLASS;
 use cells::layout::NAME_DEFINITION;
 use cells::layout::NAME_PARENT;
 use cells::layout::NAME_SIZE;
 use cells::layout::NAMES;
+use cells::layout::RECORDS;
 use cells::layout::SLOTS;
 use cells::layout::TITLE;
 use cells::layout::TRAIL;
@@ -70,7 +70,7 @@ pub fn begin(work: &mut [u8])
     ensures { λ _. ⌜ Begun (now (work .exit)) ⌝ }
 {
     wire::clear(work, 0, SLOTS);
-    wire::clear(work, TRAIL, FREE);
+    wire::clear(work, TRAIL, RECORDS);
 }
 
 // ---- The trail
