@@ -42,7 +42,7 @@ entry-is : (e : Entry) → entryBytes e ≡ fieldBytes 0x40 (entryBody e)
 unfolding entryBytes entryBody
 entry-is e = refl
 
-entry-length : (e : Entry) → length (entryBytes e) ≡ entryAttributes + length (attributesBytes (e .attributes))
+pub entry-length : (e : Entry) → length (entryBytes e) ≡ entryAttributes + length (attributesBytes (e .attributes))
 entry-length e = entry-size (entryAttributes + length (attributesBytes (e .attributes))) (e .type) (e .title) (e .labels) (e .attributes) refl
 
 module _ (m : List ℕ) {p : ℕ} (e : Entry) (stands : Stands m p (entryBytes e)) where
@@ -59,7 +59,7 @@ module _ (m : List ℕ) {p : ℕ} (e : Entry) (stands : Stands m p (entryBytes e
   attributes-stand : Stands m (p + entryAttributes) (attributesBytes (e .attributes))
   attributes-stand = stands-next m (labelBytes (e .labels)) (attributesBytes (e .attributes)) (omega (arith, label-length (e .labels))) after-title
 
-  entry-test : (t n : ℕ) → FitsEntry e → (eqb (two m (p + entryType)) t && eqb (two m (p + entryTitle)) n) ≡ isEntry t n e
+  pub entry-test : (t n : ℕ) → FitsEntry e → (eqb (two m (p + entryType)) t && eqb (two m (p + entryTitle)) n) ≡ isEntry t n e
   unfolding isEntry
   entry-test t n f = rw (stands-two m (e .type) _ (f .type) entry-body, stands-two m (e .title) _ (f .title) after-type)
 
@@ -96,7 +96,7 @@ module _ (m : List ℕ) {p : ℕ} (a : Attribute) (stands : Stands m p (attribut
   pub after-labels : Stands m (p + attributeValue) (valueBytes (a .content .value))
   after-labels = stands-next m (labelBytes (a .content .labels)) (valueBytes (a .content .value)) (omega (arith, label-length (a .content .labels))) after-name
 
-  attribute-test : (n : ℕ) → FitsAttribute a → eqb (two m (p + attributeName)) n ≡ isAttribute n a
+  pub attribute-test : (n : ℕ) → FitsAttribute a → eqb (two m (p + attributeName)) n ≡ isAttribute n a
   unfolding isAttribute
   attribute-test n f = rw (stands-two m (a .name) _ (f .name) attribute-body)
 

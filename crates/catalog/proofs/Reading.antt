@@ -22,49 +22,49 @@ use Rattle.catalog.proofs.Entries.{entry-hits, attribute-hits, content-
 stands-there : {m : List ℕ} {o : Option Entry} {p : ℕ} (h : HitAt entryBytes FitsEntry m o p) → EntryAt m p (h .x)
 stands-there h = record { stands = h .stands; short = h .short; fits = h .fits }
 
-module _ (m : List ℕ) (fill t n : ℕ) (small : fill ≤ 65535) (within : fill ≤ length m) where
+module _ (m : List ℕ) (fill t n : ℕ) (small : fill ≤ 65535) (within : fill ≤ length m) (es : List Entry) (w : Written m fill es) where
   -- an entry that was found stands there
-  entry-at : (p : ℕ) (es : List Entry) → Written m fill es → entryPlace t n es ≡ At p → HitAt entryBytes FitsEntry m (firstWith (isEntry t n) es) p
-  entry-at p es w e = hit-at p (entry-hits m fill t n small within es w) e
+  entry-at : (p : ℕ) → entryPlace t n es ≡ At p → HitAt entryBytes FitsEntry m (firstWith (isEntry t n) es) p
+  entry-at p e = hit-at p (entry-hits m fill t n small within es w) e
 
-  no-entry : (es : List Entry) → Written m fill es → entryPlace t n es ≡ Nothing → firstWith (isEntry t n) es ≡ none
-  no-entry es w e = hit-nothing (entry-hits m fill t n small within es w) e
+  no-entry : entryPlace t n es ≡ Nothing → firstWith (isEntry t n) es ≡ none
+  no-entry e = hit-nothing (entry-hits m fill t n small within es w) e
 
-  module _ {r : Place} (answer : (es : List Entry) → Written m fill es → r ≡ entryPlace t n es) where
-    pub has-one : (p : ℕ) → r ≡ At p → (es : List Entry) → Written m fill es → true ≡ any (isEntry t n) es
+  module _ {r : Place} (answer : r ≡ entryPlace t n es) where
+    pub has-one : (p : ℕ) → r ≡ At p → true ≡ any (isEntry t n) es
     unfolding isSome
-    has-one p is es w =
-        let h = entry-at p es w (sym (answer es w) ∙ is) in
+    has-one p is =
+        let h = entry-at p (sym answer ∙ is) in
         sym (any-first (isEntry t n) es ∙ ap isSome (h .first))
 
-    pub has-none : r ≡ Nothing → (es : List Entry) → Written m fill es → false ≡ any (isEntry t n) es
+    pub has-none : r ≡ Nothing → false ≡ any (isEntry t n) es
     unfolding isSome
-    has-none is es w = sym (any-first (isEntry t n) es ∙ ap isSome (no-entry es w (sym (answer es w) ∙ is)))
+    has-none is = sym (any-first (isEntry t n) es ∙ ap isSome (no-entry (sym answer ∙ is)))
 
     -- the ways of `read`, for an attribute named a
     module _ (a : ℕ) where
-      pub read-nothing : r ≡ Nothing → (es : List Entry) → Written m fill es → NotFound ≡ foundIn (lookUp t n a es)
+      pub read-nothing : r ≡ Nothing → NotFound ≡ foundIn (lookUp t n a es)
       unfolding lookUp contentIn foundIn
-      read-nothing is es w = rw (no-entry es w (sym (answer es w) ∙ is))
+      read-nothing is = rw (no-entry (sym answer ∙ is))
 
-      module _ (p : ℕ) (is : r ≡ At p) {s : Place} (next : (e : Entry) → EntryAt m p e → s ≡ attributePlace a e p) where
-        found-entry : (es : List Entry) → Written m fill es → HitAt entryBytes FitsEntry m (firstWith (isEntry t n) es) p
-        found-entry es w = entry-at p es w (sym (answer es w) ∙ is)
+      module _ (p : ℕ) (is : r ≡ At p) {s : Place} (next : (e : Entry) → EntryAt m p e → entryPlace t n es ≡ At p → firstWith (isEntry t n) es ≡ some e → s ≡ attributePlace a e p) where
+        there : entryPlace t n es ≡ At p
+        there = sym answer ∙ is
 
-        pub read-missing : s ≡ Nothing → (es : List Entry) → Written m fill es → NotFound ≡ foundIn (lookUp t n a es)
+        pub read-missing : s ≡ Nothing → NotFound ≡ foundIn (lookUp t n a es)
         unfolding lookUp contentIn contentOf foundIn
-        read-missing none′ es w =
-            let h = found-entry es w in
+        read-missing none′ =
+            let h = entry-at p there in
             let at = stands-there h in
-            let none″ : firstWith (isAttribute a) (h .x .attributes) ≡ none = hit-nothing (attribute-hits m p (h .x) a at) (sym (next (h .x) at) ∙ none′) in
+            let none″ : firstWith (isAttribute a) (h .x .attributes) ≡ none = hit-nothing (attribute-hits m p (h .x) a at) (sym (next (h .x) at there (h .first)) ∙ none′) in
             rw (h .first, none″)
 
-        pub read-content : (q : ℕ) {x : Labelled} → s ≡ At q → x ≡ contentAt m q → (es : List Entry) → Written m fill es → Content x ≡ foundIn (lookUp t n a es)
+        pub read-content : (q : ℕ) {x : Labelled} → s ≡ At q → x ≡ contentAt m q → Content x ≡ foundIn (lookUp t n a es)
         unfolding lookUp contentIn contentOf foundIn
-        read-content q {x} is′ content es w =
-            let h = found-entry es w in
+        read-content q {x} is′ content =
+            let h = entry-at p there in
             let at = stands-there h in
-            let g = hit-at q (attribute-hits m p (h .x) a at) (sym (next (h .x) at) ∙ is′) in
+            let g = hit-at q (attribute-hits m p (h .x) a at) (sym (next (h .x) at there (h .first)) ∙ is′) in
             let same : x ≡ g .x .content = content ∙ content-back m q (g .x) (g .fits) (g .stands) in
             rw (h .first, g .first, same)
 

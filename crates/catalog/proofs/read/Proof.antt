@@ -16,10 +16,10 @@ enum-told : tie.Need-enum-told
 enum-told c = search needs
 
 returns : tie.Need-returns
-returns c =
+returns c = λ es w.
     let s = c .before .before .before .before in
     let a = s .args in
-    read-nothing (a .out .now) (a .fill) (a .kind) (a .title) (s .pre .0) (s .pre .1) (c .before .before .find-entry .ensures .0) (a .name) (c .enum-told .given .1)
+    read-nothing (a .out .now) (a .fill) (a .kind) (a .title) (s .pre .0) (s .pre .1) es w (c .before .before .find-entry .ensures .0 es w) (a .name) (c .enum-told .given .1)
 
 find-attribute-requires : tie.Need-find-attribute-requires
 find-attribute-requires c κs = omega (arith, c .before .before .before .before .before .pre .0, below-at (c .before .before .before .find-entry .ensures .1) (c .before .entry .given .1))
@@ -31,19 +31,19 @@ enum-told-2 : tie.Need-enum-told-2
 enum-told-2 c = search needs
 
 returns-2 : tie.Need-returns-2
-returns-2 c =
+returns-2 c = λ es w.
     let s = c .before .before .before .before .before .before .before .before in
     let a = s .args in
-    read-missing (a .out .now) (a .fill) (a .kind) (a .title) (s .pre .0) (s .pre .1) (c .before .before .before .before .before .before .find-entry .ensures .0) (a .name) (c .before .before .before .before .entry .given .0 .0) (c .before .before .before .before .entry .given .1) (c .before .before .find-attribute .ensures .0) (c .enum-told2 .given .1)
+    read-missing (a .out .now) (a .fill) (a .kind) (a .title) (s .pre .0) (s .pre .1) es w (c .before .before .before .before .before .before .find-entry .ensures .0 es w) (a .name) (c .before .before .before .before .entry .given .0 .0) (c .before .before .before .before .entry .given .1) (λ e at _ _. c .before .before .find-attribute .ensures .0 e at) (c .enum-told2 .given .1)
 
 read-attribute-requires : tie.Need-read-attribute-requires
 read-attribute-requires c κs = omega (arith, c .before .before .before .before .before .before .before .before .before .pre .0, below-at (c .before .before .before .before .before .before .before .find-entry .ensures .1) (c .before .before .before .before .before .entry .given .1), below-at (c .before .before .before .find-attribute .ensures .1) (c .before .at .given .1))
 
 returns-3 : tie.Need-returns-3
-returns-3 c =
+returns-3 c = λ es w.
     let s = c .before .before .before .before .before .before .before .before .before .before in
     let a = s .args in
-    read-content (a .out .now) (a .fill) (a .kind) (a .title) (s .pre .0) (s .pre .1) (c .before .before .before .before .before .before .before .before .find-entry .ensures .0) (a .name) (c .before .before .before .before .before .before .entry .given .0 .0) (c .before .before .before .before .before .before .entry .given .1) (c .before .before .before .before .find-attribute .ensures .0) (c .before .before .at .given .0 .0) (c .before .before .at .given .1) (c .read-attribute .ensures)
+    read-content (a .out .now) (a .fill) (a .kind) (a .title) (s .pre .0) (s .pre .1) es w (c .before .before .before .before .before .before .before .before .find-entry .ensures .0 es w) (a .name) (c .before .before .before .before .before .before .entry .given .0 .0) (c .before .before .before .before .before .before .entry .given .1) (λ e at _ _. c .before .before .before .before .find-attribute .ensures .0 e at) (c .before .before .at .given .0 .0) (c .before .before .at .given .1) (c .read-attribute .ensures)
 
 pub read-spec : {M : Type 1} → statement M
 read-spec =
