@@ -8,6 +8,7 @@ use borrow.Author.Tests.{eqb-true, eqb-false, eq-eqb, ne-eqb}
 use lib.Dec.{eqb}
 use lib.ListN.{length}
 use Rattle.wire.specs.Bytes.{pick}
+use Rattle.cells.specs.Layout.{mostChains}
 use Rattle.catalog.specs.declared.Place.{Place}
 use Rattle.catalog.specs.declared.Place.the-variants.{At}
 use Rattle.catalog.specs.Finding.{Below}
@@ -69,16 +70,16 @@ module _ (f : ℕ → Bool) where
 
 -- ---- Postings in chains
 
-pub chained-none : (heads places links : ℕ → ℕ) → ((b : ℕ) → b < 1024 → heads b ≡ 0) → Chained heads places links []
+pub chained-none : (heads places links : ℕ → ℕ) → ((b : ℕ) → b < mostChains → heads b ≡ 0) → Chained heads places links []
 unfolding follow placesIn
 chained-none heads places links z = record { low = λ b h. omega (arith, z b h); follows = λ b h. refl }
 
 -- what a search sees that starts past the records
-pub chain-seen : {heads places links : ℕ → ℕ} {ts : List Posting} (k b : ℕ) → length ts ≤ k → b < 1024 → Chained heads places links ts → follow places links k (heads b) ≡ placesIn b ts
+pub chain-seen : {heads places links : ℕ → ℕ} {ts : List Posting} (k b : ℕ) → length ts ≤ k → b < mostChains → Chained heads places links ts → follow places links k (heads b) ≡ placesIn b ts
 chain-seen {heads} {places} {links} {ts} k b few h c = follow-less places links k (length ts) (heads b) few (c .low b h) ∙ c .follows b h
 
 -- one record more, the next by number, becomes the first of chain b
-module _ {heads places links heads′ places′ links′ : ℕ → ℕ} (ts : List Posting) (b p : ℕ) (head : heads′ b ≡ suc (length ts)) (others : (c : ℕ) → c < 1024 → (c ≡ b → ⊥) → heads′ c ≡ heads c)
+module _ {heads places links heads′ places′ links′ : ℕ → ℕ} (ts : List Posting) (b p : ℕ) (head : heads′ b ≡ suc (length ts)) (others : (c : ℕ) → c < mostChains → (c ≡ b → ⊥) → heads′ c ≡ heads c)
     (place : places′ (length ts) ≡ p) (link : links′ (length ts) ≡ heads b) (same-places : (i : ℕ) → i < length ts → places′ i ≡ places i) (same-links : (i : ℕ) → i < length ts → links′ i ≡ links i) where
   later : (r : ℕ) → follow places′ links′ (length ts) r ≡ follow places links (length ts) r
   later = follow-same places links places′ links′ (length ts) same-places same-links
@@ -87,11 +88,11 @@ module _ {heads places links heads′ places′ links′ : ℕ → ℕ} (ts : Li
   unfolding follow placesIn
   chained-more c = record { low = λ d h. low d h (eqb d b) refl; follows = λ d h. follows d h (eqb b d) refl }
     where
-      low : (d : ℕ) → d < 1024 → (t : Bool) → eqb d b ≡ t → heads′ d ≤ suc (length ts)
+      low : (d : ℕ) → d < mostChains → (t : Bool) → eqb d b ≡ t → heads′ d ≤ suc (length ts)
       low d h true e = let same : d ≡ b = eqb-true d b e in rw (same, head) (omega arith)
       low d h false e = omega (arith, others d h (eqb-false d b e), c .low d h)
 
-      follows : (d : ℕ) → d < 1024 → (t : Bool) → eqb b d ≡ t → follow places′ links′ (suc (length ts)) (heads′ d) ≡ pick t (p ∷ placesIn d ts) (placesIn d ts)
+      follows : (d : ℕ) → d < mostChains → (t : Bool) → eqb b d ≡ t → follow places′ links′ (suc (length ts)) (heads′ d) ≡ pick t (p ∷ placesIn d ts) (placesIn d ts)
       follows d h true e =
           let same : d ≡ b = sym (eqb-true b d e) in
           let first : heads′ d ≡ suc (length ts) = ap heads′ same ∙ head in

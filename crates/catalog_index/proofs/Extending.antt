@@ -33,15 +33,15 @@ pub record Going (out : List ℕ) (entry end q : ℕ) (w : List ℕ) (goal : Lis
   pub left : Listed FitsAttribute attributesBytes out q end ats
   pub ts : List Posting
   pub held : Holds w ts
-  pub goes : gather attributeBytes (postAttribute entry) ats q ts ≡ goal
+  pub goes : gather attributeBytes (postAttribute entry end) ats q ts ≡ goal
   pub room : length goal ≤ mostRecords
 
 -- and so they are later, at q with w, if they were at q₀ with w₀
 abbrev pub Goes : (out : List ℕ) (entry end : ℕ) (q₀ : ℕ) (w₀ : List ℕ) (q : ℕ) (w : List ℕ) → Type 0
 Goes out entry end q₀ w₀ q w = InIndex w₀ w × ((goal : List Posting) → Going out entry end q₀ w₀ goal → Going out entry end q w goal)
 
-posted-more : (entry : ℕ) (ats : List Attribute) (q : ℕ) (ts : List Posting) → length ts ≤ length (gather attributeBytes (postAttribute entry) ats q ts)
-posted-more entry ats q ts = gather-grows attributeBytes (postAttribute entry) (λ p x ss. omega arith) ats q ts
+posted-more : (entry end : ℕ) (ats : List Attribute) (q : ℕ) (ts : List Posting) → length ts ≤ length (gather attributeBytes (postAttribute entry end) ats q ts)
+posted-more entry end ats q ts = gather-grows attributeBytes (postAttribute entry end) (λ p x ss. omega arith) ats q ts
 
 module _ (out : List ℕ) (entry end : ℕ) (within : end ≤ length out) (small : end ≤ 65535) where
   pub extend-begin : (w w′ : List ℕ) {b title : ℕ} → title ≡ two out (entry + entryTitle) → b ≡ entryBucket title → Recorded w w′ b entry
@@ -53,44 +53,45 @@ module _ (out : List ℕ) (entry end : ℕ) (within : end ≤ length out) (small
       let o : OneEntry out end entry entry e = one-first entryBytes FitsEntry catalogBytes out end (next out) entry e [] last in
       let ends : endOf out entry ≡ end = omega (arith, next out e [] entry last .others .ends) in
       let own : Listed FitsAttribute attributesBytes out (entry + entryAttributes) end (e .attributes) = rw ends at (own-attributes out small e o) in
+      let to-end : end ≡ entry + length (entryBytes e) = sym ends ∙ own-end out small e o in
       let same : title ≡ e .title = read ∙ stands-two out (e .title) _ (o .fits .title) (after-type out e (o .stands)) in
       let bucket : b ≡ entryBucket (e .title) = is ∙ ap entryBucket same in
       let goes : postings (es ++ (e ∷ [])) ≡ postEntry entry e (postings es) = rw place at (gather-last entryBytes postEntry catalogBytes refl (λ x xs. refl) es e 0 []) in
       let room : length (postings (es ++ (e ∷ []))) ≤ mostRecords = omega (arith, postings-few out end small within (es ++ (e ∷ [])) written) in
-      let more : length (posting entry (entryBucket (e .title)) ∷ postings es) ≤ length (postings (es ++ (e ∷ []))) = rw goes (posted-more entry (e .attributes) (entry + entryAttributes) (posting entry (entryBucket (e .title)) ∷ postings es)) in
+      let more : length (posting entry (entryBucket (e .title)) ∷ postings es) ≤ length (postings (es ++ (e ∷ []))) = rw goes (posted-more entry (entry + length (entryBytes e)) (e .attributes) (entry + entryAttributes) (posting entry (entryBucket (e .title)) ∷ postings es)) in
       record {
         ats = e .attributes;
         left = own;
         ts = posting entry (entryBucket (e .title)) ∷ postings es;
         held = rw bucket at (r .more (postings es) (omega arith) i);
-        goes = sym goes;
+        goes = ap (λ (to : ℕ). gather attributeBytes (postAttribute entry to) (e .attributes) (entry + entryAttributes) (posting entry (entryBucket (e .title)) ∷ postings es)) to-end ∙ sym goes;
         room = room;
       }
 
   module _ (q₀ : ℕ) (w₀ : List ℕ) (q : ℕ) (w : List ℕ) (so-far : Goes out entry end q₀ w₀ q w) where
-    step : {w′ : List ℕ} {b name q′ : ℕ} → q < end → name ≡ two out (q + attributeName) → b ≡ attributeBucket entry name → Recorded w w′ b q → q′ ≡ endOf out q → (goal : List Posting) (ats : List Attribute) (ts : List Posting) → Listed FitsAttribute attributesBytes out q end ats
-        → Holds w ts → gather attributeBytes (postAttribute entry) ats q ts ≡ goal → length goal ≤ mostRecords → Going out entry end q′ w′ goal
+    step : {w′ : List ℕ} {b name q′ : ℕ} → q < end → name ≡ two out (q + attributeName) → b ≡ attributeBucket entry end name → Recorded w w′ b q → q′ ≡ endOf out q → (goal : List Posting) (ats : List Attribute) (ts : List Posting) → Listed FitsAttribute attributesBytes out q end ats
+        → Holds w ts → gather attributeBytes (postAttribute entry end) ats q ts ≡ goal → length goal ≤ mostRecords → Going out entry end q′ w′ goal
     unfolding gather attributesBytes
     step before read is r after goal [] ts l held goes room = absurd (omega (arith, l .ends))
     step {w′} {b} {name} {q′} before read is r after goal (a ∷ ats) ts l held goes room =
         let f = attribute-first out a ats l in
         let next : q′ ≡ q + length (attributeBytes a) = after ∙ f .ends in
         let same : name ≡ a .name = read ∙ stands-two out (a .name) _ (f .fits .name) (attribute-body out a (f .stands)) in
-        let bucket : b ≡ attributeBucket entry (a .name) = is ∙ ap (attributeBucket entry) same in
-        let more : length (postAttribute entry q a ts) ≤ length goal = rw goes at (posted-more entry ats (q + length (attributeBytes a)) (postAttribute entry q a ts)) in
+        let bucket : b ≡ attributeBucket entry end (a .name) = is ∙ ap (attributeBucket entry end) same in
+        let more : length (postAttribute entry end q a ts) ≤ length goal = rw goes at (posted-more entry end ats (q + length (attributeBytes a)) (postAttribute entry end q a ts)) in
         record {
           ats = ats;
           left = rw after (f .others);
-          ts = postAttribute entry q a ts;
+          ts = postAttribute entry end q a ts;
           held = rw bucket at (r .more ts (omega arith) held);
           goes = rw next goes;
           room = room;
         }
 
-    pub extend-on : {w′ : List ℕ} {b name q′ : ℕ} → q < end → name ≡ two out (q + attributeName) → b ≡ attributeBucket entry name → Recorded w w′ b q → q′ ≡ endOf out q → Goes out entry end q₀ w₀ q′ w′
+    pub extend-on : {w′ : List ℕ} {b name q′ : ℕ} → q < end → name ≡ two out (q + attributeName) → b ≡ attributeBucket entry end name → Recorded w w′ b q → q′ ≡ endOf out q → Goes out entry end q₀ w₀ q′ w′
     extend-on before read is r after = (in-index-both (so-far .0) (r .kept), λ goal begun. let g = so-far .1 goal begun in step before read is r after goal (g .ats) (g .ts) (g .left) (g .held) (g .goes) (g .room))
 
-    done : end ≤ q → (goal : List Posting) (ats : List Attribute) (ts : List Posting) → Listed FitsAttribute attributesBytes out q end ats → Holds w ts → gather attributeBytes (postAttribute entry) ats q ts ≡ goal → Holds w goal
+    done : end ≤ q → (goal : List Posting) (ats : List Attribute) (ts : List Posting) → Listed FitsAttribute attributesBytes out q end ats → Holds w ts → gather attributeBytes (postAttribute entry end) ats q ts ≡ goal → Holds w goal
     unfolding gather attributesBytes
     done past goal [] ts l held goes = rw goes at held
     done past goal (a ∷ ats) ts l held goes = let f = attribute-first out a ats l in absurd (omega (arith, f .ends, f .others .ends))

@@ -14,7 +14,7 @@ use Rattle.rules.specs.Evaluate.{firstWith, isEntry, isAttribute}
 use Rattle.rules.specs.Catalog.{fieldBytes, attributeBytes, attributesBytes, entryBytes, catalogBytes}
 use Rattle.rules.proofs.Lists.{both-right}
 use Rattle.rules.proofs.ReadBack.{FitsAttribute, FitsEntry}
-use Rattle.cells.specs.Layout.{mostRecords}
+use Rattle.cells.specs.Layout.{mostChains, mostRecords}
 use Rattle.catalog.specs.declared.Place.{Place}
 use Rattle.catalog.specs.declared.Place.the-variants.{At, Nothing}
 use Rattle.catalog.specs.Layout.{entryAttributes}
@@ -59,16 +59,16 @@ module _ (m : List ℕ) {end q p : ℕ} (small : end ≤ 65535) (e : Entry) (o :
 
   -- what the attributes put down, each of them as a test tells
   among-own : (b : ℕ) (f : ℕ → Bool) (test : Attribute → Bool)
-      → ((a : Attribute) (i : ℕ) → OneAttribute m (endOf m p) (p + entryAttributes) i a → (v : Place) (ts : List Posting) → lastIn b f v (postAttribute p i a ts) ≡ lastIn b f (pick (test a) (At i) v) ts)
+      → ((a : Attribute) (i : ℕ) → OneAttribute m (endOf m p) (p + entryAttributes) i a → (v : Place) (ts : List Posting) → lastIn b f v (postAttribute p (p + length (entryBytes e)) i a ts) ≡ lastIn b f (pick (test a) (At i) v) ts)
       → (v : Place) (ts : List Posting) → lastIn b f v (postEntry p e ts) ≡ lastIn b f (placeOr attributeBytes test v (e .attributes) (p + entryAttributes)) (posting p (entryBucket (e .title)) ∷ ts)
   unfolding postEntry
   among-own b f test step v ts =
-      among attributeBytes FitsAttribute attributesBytes m (endOf m p) (next-attribute m) (postAttribute p) b f test (e .attributes) (p + entryAttributes) own-attributes step v (posting p (entryBucket (e .title)) ∷ ts)
+      among attributeBytes FitsAttribute attributesBytes m (endOf m p) (next-attribute m) (postAttribute p (p + length (entryBytes e))) b f test (e .attributes) (p + entryAttributes) own-attributes step v (posting p (entryBucket (e .title)) ∷ ts)
 
   pub own-few : (ts : List Posting) → 39 * length (postEntry p e ts) ≤ 39 * length ts + length (entryBytes e)
   unfolding postEntry
   own-few ts =
-      omega (arith, own-end, few attributeBytes FitsAttribute attributesBytes m (endOf m p) (next-attribute m) (postAttribute p) (e .attributes) (p + entryAttributes) own-attributes (λ a i oa ss. omega (arith, attribute-least a)) (posting p (entryBucket (e .title)) ∷ ts))
+      omega (arith, own-end, few attributeBytes FitsAttribute attributesBytes m (endOf m p) (next-attribute m) (postAttribute p (p + length (entryBytes e))) (e .attributes) (p + entryAttributes) own-attributes (λ a i oa ss. omega (arith, attribute-least a)) (posting p (entryBucket (e .title)) ∷ ts))
 
 module _ (m : List ℕ) (fill : ℕ) (small : fill ≤ 65535) (within : fill ≤ length m) (es : List Entry) (w : Written m fill es) where
   listed : Listed FitsEntry catalogBytes m 0 fill es
@@ -84,7 +84,7 @@ module _ (m : List ℕ) (fill : ℕ) (small : fill ≤ 65535) (within : fill ≤
   postings-few = omega (arith, few entryBytes FitsEntry catalogBytes m fill (next m) postEntry es 0 listed (λ e p o ts. own-few m small e o ts) [])
 
   -- what a search in a chain sees
-  pub seen : (work : List ℕ) (b : ℕ) (f : ℕ → Bool) → b < 1024 → Indexed work es → lastWith f Nothing (chainIn work b) ≡ lastIn b f Nothing (postings es)
+  pub seen : (work : List ℕ) (b : ℕ) (f : ℕ → Bool) → b < mostChains → Indexed work es → lastWith f Nothing (chainIn work b) ≡ lastIn b f Nothing (postings es)
   unfolding chainIn
   seen work b f below i =
       ap (lastWith f Nothing) (chain-seen mostRecords b (omega (arith, postings-few)) below (i .chains)) ∙ last-in b f Nothing (postings es)
@@ -120,7 +120,7 @@ module _ (m : List ℕ) (fill t n : ℕ) (small : fill ≤ 65535) where
       ∙ posted (entryBucket n) entryTest (isEntry t n e) v ts (this-entry e o) (same-title e)
 
   -- find_entry
-  pub entry-found : fill ≤ length m → (work : List ℕ) {b : ℕ} {r : Place} → b ≡ entryBucket n → b < 1024 → r ≡ lastWith (soughtAt m fill (SoughtEntry t n)) Nothing (chainIn work b)
+  pub entry-found : fill ≤ length m → (work : List ℕ) {b : ℕ} {r : Place} → b ≡ entryBucket n → b < mostChains → r ≡ lastWith (soughtAt m fill (SoughtEntry t n)) Nothing (chainIn work b)
       → (es : List Entry) → Written m fill es → Indexed work es → r ≡ entryPlace t n es
   unfolding entryTest entryPlace
   entry-found within work {b} {r} is below answer es w i =
@@ -156,7 +156,7 @@ module _ (m : List ℕ) (fill n p : ℕ) (small : fill ≤ 65535) (e : Entry) (e
   attributeTest = soughtAt m fill (SoughtAttribute n (p + entryAttributes) end)
 
   bucket : ℕ
-  bucket = attributeBucket p n
+  bucket = attributeBucket p end n
 
   outside : (i : ℕ) → (p + entryAttributes ≤ i → i < end → ⊥) → attributeTest i ≡ false
   unfolding attributeTest soughtAt matches
@@ -183,9 +183,9 @@ module _ (m : List ℕ) (fill n p : ℕ) (small : fill ≤ 65535) (e : Entry) (e
       near-enough m fill (SoughtAttribute n (p + entryAttributes) end) i (omega (arith, o .within, attribute-least a))
       ∙ rw (le-ltb i (p + entryAttributes) (o .from), lt-ltb i end (omega (arith, o .within, attribute-least a))) (attribute-test m a (o .stands) n (o .fits))
 
-  same-name : (a : Attribute) → isAttribute n a ≡ true → attributeBucket p (a .name) ≡ bucket
+  same-name : (a : Attribute) → isAttribute n a ≡ true → attributeBucket p (p + length (entryBytes e)) (a .name) ≡ bucket
   unfolding isAttribute bucket
-  same-name a is = ap (attributeBucket p) (eqb-true (a .name) n is)
+  same-name a is = ap (λ (to : ℕ). attributeBucket p to (a .name)) (sym ends) ∙ ap (attributeBucket p end) (eqb-true (a .name) n is)
 
   this-entry-posts : {r : ℕ} → OneEntry m fill r p e → (v : Place) (ts : List Posting) → lastIn bucket attributeTest v (postEntry p e ts) ≡ lastIn bucket attributeTest (placeOr attributeBytes (isAttribute n) v (e .attributes) (p + entryAttributes)) ts
   this-entry-posts o v ts =
@@ -207,7 +207,7 @@ module _ (m : List ℕ) (fill n p : ℕ) (small : fill ≤ 65535) (e : Entry) (e
       (λ v. other-entry x (one-first entryBytes FitsEntry catalogBytes m fill (next m) q x es l) (λ i a b c d. omega (arith, within-from w)) v ts ∙ clean v)
 
 -- find_attribute
-pub attribute-found : (m : List ℕ) (fill n p : ℕ) → fill ≤ 65535 → fill ≤ length m → (work : List ℕ) {b end : ℕ} {r : Place} → b ≡ attributeBucket p n → b < 1024 → end ≡ endOf m p → r ≡ lastWith (soughtAt m fill (SoughtAttribute n (p + entryAttributes) end)) Nothing (chainIn work b)
+pub attribute-found : (m : List ℕ) (fill n p : ℕ) → fill ≤ 65535 → fill ≤ length m → (work : List ℕ) {b end : ℕ} {r : Place} → b ≡ attributeBucket p end n → b < mostChains → end ≡ endOf m p → r ≡ lastWith (soughtAt m fill (SoughtAttribute n (p + entryAttributes) end)) Nothing (chainIn work b)
     → (es : List Entry) (t title : ℕ) (e : Entry) → Written m fill es → Indexed work es → entryPlace t title es ≡ At p → firstWith (isEntry t title) es ≡ some e → r ≡ attributePlace n e p
 unfolding entryPlace postings bucket attributeTest lastIn
 attribute-found m fill n p small within work {b} {end} {r} is below at-end answer es t title e w i place found =

@@ -8,7 +8,7 @@ use Rattle.wire.specs.Bytes.{byte, two}
 use Rattle.wire.specs.Numbers.{highBytes}
 use Rattle.wire.specs.Runs.{over}
 use Rattle.wire.proofs.Laws.{over-length, byte-outside, high-length, stored-outside, stored-two, two-same}
-use Rattle.cells.specs.Layout.{headAt, countAt, indexAt, indexLink, mostRecords}
+use Rattle.cells.specs.Layout.{mostChains, headAt, countAt, indexAt, indexLink, mostRecords}
 use Rattle.catalog_index.specs.Chains.{Posting, posting, Chained}
 use Rattle.catalog_index.specs.Index.{headsOf, placesOf, linksOf, Holds, InIndex, Recorded}
 use Rattle.catalog_index.proofs.Chains.{chained-more}
@@ -44,7 +44,7 @@ put w w′ p v room small e =
 pub no-room : (w : List ℕ) (b p : ℕ) {n : ℕ} → n ≡ two w countAt → mostRecords ≤ n → Recorded w w b p
 no-room w b p count full = record { kept = in-index-none w; more = λ ts h i. absurd (omega (arith, i .count)) }
 
-pub record-added : (w : List ℕ) (b p : ℕ) {n next : ℕ} {w1 w2 w3 w4 : List ℕ} → 65536 ≤ length w → b < 1024 → p < 65536 → n ≡ two w countAt → n < mostRecords → next ≡ two w (headAt b) → next < 65536
+pub record-added : (w : List ℕ) (b p : ℕ) {n next : ℕ} {w1 w2 w3 w4 : List ℕ} → 65536 ≤ length w → b < mostChains → p < 65536 → n ≡ two w countAt → n < mostRecords → next ≡ two w (headAt b) → next < 65536
     → w1 ≡ over w (indexAt n) (highBytes 2 p) → w2 ≡ over w1 (indexAt n + indexLink) (highBytes 2 next) → w3 ≡ over w2 (headAt b) (highBytes 2 (n + 1)) → w4 ≡ over w3 countAt (highBytes 2 (n + 1)) → Recorded w w4 b p
 record-added w b p {n} {next} {w1} {w2} {w3} {w4} room below small count few head small-next e1 e2 e3 e4 =
     let s1 = put w w1 (indexAt n) p (omega arith) small e1 in

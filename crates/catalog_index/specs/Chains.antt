@@ -6,6 +6,7 @@ use mathlib.Core.List.{List, [], _∷_}
 use lib.Dec.{eqb}
 use lib.ListN.{length}
 use Rattle.wire.specs.Bytes.{pick}
+use Rattle.cells.specs.Layout.{mostChains}
 use Rattle.catalog.specs.declared.Place.{Place}
 use Rattle.catalog.specs.declared.Place.the-variants.{At}
 
@@ -41,7 +42,7 @@ unfoldable pub gather : {A : Type 0} → (bytesOf : A → List ℕ) → (put : �
 gather bytesOf put [] q ts = ts
 gather bytesOf put (x ∷ xs) q ts = gather bytesOf put xs (q + length (bytesOf x)) (put q x ts)
 
--- the 1,024 chains hold the postings, the latest first: one more than its number tells each record
+-- the chains hold the postings, the latest first: one more than its number tells each record
 pub record Chained (heads places links : ℕ → ℕ) (ts : List Posting) : Type 0 where
-  pub low : (b : ℕ) → b < 1024 → heads b ≤ length ts
-  pub follows : (b : ℕ) → b < 1024 → follow places links (length ts) (heads b) ≡ placesIn b ts
+  pub low : (b : ℕ) → b < mostChains → heads b ≤ length ts
+  pub follows : (b : ℕ) → b < mostChains → follow places links (length ts) (heads b) ≡ placesIn b ts

@@ -1,5 +1,5 @@
 -- The index over the catalog in the working memory: what it holds, what a search tests, and what a store changes.
-use Prim.Native.Nat.{ℕ, _+_, _%_, _<_}
+use Prim.Native.Nat.{ℕ, _+_, _-_, _/_, _%_, _<_}
 use mathlib.Core.Path.{_≡_}
 use mathlib.Core.Bool.{Bool, false, _&&_}
 use mathlib.Core.List.{List, [], _∷_, _++_}
@@ -18,17 +18,22 @@ use Rattle.catalog_index.specs.Chains.{follow, Posting, posting, gather,
 -- ---- The postings of a catalog: for each entry its own, then those of its attributes
 
 abbrev pub entryBucket : (title : ℕ) → ℕ
-entryBucket t = t % 1024
+entryBucket t = t % 256
 
--- 1,021 is prime, so that entries of one size do not share few chains
-abbrev pub attributeBucket : (entry name : ℕ) → ℕ
-attributeBucket p n = (p + n) % 1021
+-- how many chains the entry between two places has for its attributes: about as many as it has attributes, since each takes 41 to 48 bytes
+unfoldable pub attributeChains : (entry end : ℕ) → ℕ
+attributeChains p e = pick (ltb e (p + 87)) 1 ((e - p - 39) / 48)
 
-abbrev pub postAttribute : (entry : ℕ) → ℕ → Attribute → List Posting → List Posting
-postAttribute p q a ts = posting q (attributeBucket p (a .name)) ∷ ts
+-- They begin where those of the entry before it end, as every 41 bytes of the catalog have one chain: no two entries share a chain. An entry has a name once, and
+-- names are below 1,024, so a chain holds at most as many attributes as numbers below 1,024 have one remainder, and no more than the entry has: 35.
+abbrev pub attributeBucket : (entry end name : ℕ) → ℕ
+attributeBucket p e n = 256 + (p / 41 + n % attributeChains p e) % 1600
+
+abbrev pub postAttribute : (entry end : ℕ) → ℕ → Attribute → List Posting → List Posting
+postAttribute p e q a ts = posting q (attributeBucket p e (a .name)) ∷ ts
 
 unfoldable pub postEntry : ℕ → Entry → List Posting → List Posting
-postEntry p e ts = gather attributeBytes (postAttribute p) (e .attributes) (p + entryAttributes) (posting p (entryBucket (e .title)) ∷ ts)
+postEntry p e ts = gather attributeBytes (postAttribute p (p + length (entryBytes e))) (e .attributes) (p + entryAttributes) (posting p (entryBucket (e .title)) ∷ ts)
 
 unfoldable pub postings : List Entry → List Posting
 postings es = gather entryBytes postEntry es 0 []

@@ -11,8 +11,9 @@ ghost use Rattle.rules.specs.Evaluate.{any, firstWith, isEntry};
 ghost use Rattle.rules.specs.Catalog.{catalogBytes};
 ghost use Rattle.catalog.specs.declared.Place.the-variants.{At, Nothing};
 ghost use Rattle.catalog.specs.Finding.{Written, entryPlace, attributePlace, Below, lookUp, foundIn};
+ghost use Rattle.cells.specs.Layout.{mostChains};
 ghost use Rattle.catalog_index.specs.Chains.{lastWith};
-ghost use Rattle.catalog_index.specs.Index.{entryBucket, attributeBucket, chainIn, Indexed, Recorded, Extended, soughtAt};
+ghost use Rattle.catalog_index.specs.Index.{entryBucket, attributeChains, attributeBucket, chainIn, Indexed, Recorded, Extended, soughtAt};
 use catalog::Found;
 use catalog::Place;
 use catalog::layout::ATTRIBUTE_NAME;
@@ -27,6 +28,17 @@ use cells::layout::RECORD_LINK;
 use cells::layout::RECORD_SIZE;
 use cells::layout::RECORDS;
 
+// The first chains are for entries, by their titles.
+const TITLE_CHAINS: usize = 256;
+
+// The others are for attributes, one for each attribute that a catalog has room for.
+const ATTRIBUTE_CHAINS: usize = 1600;
+
+// What an attribute takes in the catalog: with a boolean, and with an integer.
+const SHORTEST_ATTRIBUTE: usize = 41;
+
+const LONGEST_ATTRIBUTE: usize = 48;
+
 // What a search looks for: the entry of a type and title, or the attribute of a name between two places.
 pub enum Sought {
     Entry { kind: u16, title: u16 },
@@ -36,17 +48,29 @@ pub enum Sought {
 // ---- Chains
 
 fn entry_bucket(title: u16) -> usize
-    ensures { λ r. ⌜ (r ≡ entryBucket title) × (r < 1024) ⌝ }
+    ensures { λ r. ⌜ (r ≡ entryBucket title) × (r < mostChains) ⌝ }
 {
-    title as usize % 1024
+    title as usize % TITLE_CHAINS
 }
 
-// The remainder by a prime: entries of one size do not share few chains.
-fn attribute_bucket(entry: usize, name: u16) -> usize
+// How many chains the entry between two places has for its attributes: about as many as it has attributes.
+fn attribute_chains(entry: usize, end: usize) -> usize
     requires { ⌜ entry ≤ 65535 ⌝ }
-    ensures { λ r. ⌜ (r ≡ attributeBucket entry name) × (r < 1024) ⌝ }
+    ensures { λ r. ⌜ (r ≡ attributeChains entry end) × (0 < r) ⌝ }
 {
-    (entry + name as usize) % 1021
+    if end < entry + ENTRY_ATTRIBUTES + LONGEST_ATTRIBUTE {
+        return 1;
+    }
+    (end - entry - ENTRY_ATTRIBUTES) / LONGEST_ATTRIBUTE
+}
+
+// No two entries share a chain, and an entry has no name twice: so a chain has at most 35 records, whatever a manifest does.
+fn attribute_bucket(entry: usize, end: usize, name: u16) -> usize
+    requires { ⌜ entry ≤ 65535 ⌝ }
+    ensures { λ r. ⌜ (r ≡ attributeBucket entry end name) × (r < mostChains) ⌝ }
+{
+    let own = name as usize % attribute_chains(entry, end);
+    TITLE_CHAINS + (entry / SHORTEST_ATTRIBUTE + own) % ATTRIBUTE_CHAINS
 }
 
 // ---- Searching
@@ -82,7 +106,7 @@ fn is_sought(out: &[u8], fill: usize, p: usize, sought: Sought) -> bool
 
 // The last place in a chain that is sought: of the places written, the first.
 fn find(work: &[u8], out: &[u8], fill: usize, bucket: usize, sought: Sought) -> Place
-    requires { ⌜ (65536 ≤ length (now work)) × ((fill ≤ length (now out)) × (bucket < 1024)) ⌝ }
+    requires { ⌜ (65536 ≤ length (now work)) × ((fill ≤ length (now out)) × (bucket < mostChains)) ⌝ }
     ensures { λ r. ⌜ (r ≡ lastWith (soughtAt (now (out .entry)) fill sought) Nothing (chainIn (now (work .entry)) bucket)) × Below 65536 r ⌝ }
 {
     let mut found = Place::Nothing;
@@ -119,7 +143,7 @@ fn find_attribute(work: &[u8], out: &[u8], fill: usize, at: usize, name: u16) ->
 {
     let from = at + ENTRY_ATTRIBUTES;
     let end = wire::end_of(out, at);
-    let bucket = attribute_bucket(at, name);
+    let bucket = attribute_bucket(at, end, name);
     find(
         work,
         out,
@@ -158,7 +182,7 @@ pub fn has_entry(work: &[u8], out: &[u8], fill: usize, kind: u16, title: u16) ->
 
 // One record more, the first of its chain.
 fn add_record(work: &mut [u8], bucket: usize, place: u16)
-    requires { ⌜ (65536 ≤ length (now work)) × (bucket < 1024) ⌝ }
+    requires { ⌜ (65536 ≤ length (now work)) × (bucket < mostChains) ⌝ }
     ensures { λ _. ⌜ Recorded (now (work .entry)) (now (work .exit)) bucket place ⌝ }
 {
     let n = wire::two_in(work, COUNT);
@@ -184,7 +208,7 @@ pub fn index_entry(work: &mut [u8], out: &[u8], entry: usize, end: usize)
     let mut q = entry + ENTRY_ATTRIBUTES;
     while q < end {
         let name = wire::two_at(out, q + ATTRIBUTE_NAME);
-        add_record(work, attribute_bucket(entry, name), q as u16);
+        add_record(work, attribute_bucket(entry, end, name), q as u16);
         q = wire::end_of(out, q);
     }
 }

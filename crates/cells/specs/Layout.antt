@@ -79,13 +79,16 @@ wordsAt = 52770
 abbrev pub headAt : ℕ → ℕ
 headAt b = 52800 + 2 * b
 
+abbrev pub mostChains : ℕ
+mostChains = 1856
+
 -- how many records there are, 2 bytes
 abbrev pub countAt : ℕ
-countAt = 54848
+countAt = 56512
 
 -- record i: a place 2 bytes, and the next record of its chain 2
 abbrev pub indexAt : ℕ → ℕ
-indexAt i = 54850 + 4 * i
+indexAt i = 56514 + 4 * i
 
 abbrev pub indexLink : ℕ
 indexLink = 2

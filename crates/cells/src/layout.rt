@@ -46,15 +46,15 @@ pub const WORDS: usize = 52770;
 
 pub const TITLE: usize = WORDS;
 
-// The index over the catalog: the heads of 1,024 chains, 2 bytes each; how many records there are, 2 bytes; and the records, the place of an entry or an
+// The index over the catalog: the heads of 1,856 chains, 2 bytes each; how many records there are, 2 bytes; and the records, the place of an entry or an
 // attribute 2 bytes, and the next record of its chain 2. A record is told by one more than its number, and 0 is none.
 pub const HEADS: usize = 52800;
 
 pub const HEAD_SIZE: usize = 2;
 
-pub const COUNT: usize = 54848;
+pub const COUNT: usize = 56512;
 
-pub const RECORDS: usize = 54850;
+pub const RECORDS: usize = 56514;
 
 pub const RECORD_LINK: usize = 2;
 
@@ -64,4 +64,4 @@ pub const RECORD_SIZE: usize = 4;
 pub const MOST_RECORDS: u16 = 1680;
 
 // From here on nothing is kept.
-pub const FREE: usize = 61570;
+pub const FREE: usize = 63234;
