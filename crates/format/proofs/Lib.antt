@@ -1,3 +1,6 @@
-pub mod Order
 pub mod Table
-pub mod Heads
+pub mod Head
+pub mod Tags
+pub mod Listed
+pub mod Undone
+pub mod Steps

@@ -1,38 +1,35 @@
--- Where a tag stands in the list: in a range by what it is not, and in a gap, where no line is.
-use mathlib.Core.Path.{_≡_, refl, sym}
-use mathlib.Core.Bool.{Bool, true, false, _||_}
+-- The rule of a table that a `match` makes of tags: one computed test over a range of tags says what holds at each tag that has no arm of its own.
+use mathlib.Core.Path.{_≡_, refl, sym, subst}
+use mathlib.Core.Bool.{Bool, true, false, _&&_, _||_}
 use mathlib.Core.List.{List, [], _∷_}
-use Prim.Native.Nat.{ℕ, _+_, _<_, _≤_}
+use Prim.Native.Nat.{ℕ, zero, suc, _+_, _<_, _≤_}
 use native.Mathlib.Omega.{arith}
-use lib.Dec.{eqb, ltb, leb, T}
-use borrow.Author.Tests.{ne-eqb, ltb-true, leb-true}
-use Rattle.rules.specs.Bytes.{pick}
-use Rattle.rules.specs.Format.{forms, formIn, formOf, just}
-use Rattle.rules.specs.declared.Piece.the-variants.{Nothing}
-use Rattle.rules.specs.declared.Form.{Form}
+use lib.Dec.{eqb}
+use borrow.Author.Tests.{ne-eqb, eqb-true, eqb-false}
+use Rattle.rules.proofs.Listed.{both-left, both-right}
 
--- a number that is not the least of a range is in the rest of it
-pub above : (k t : ℕ) → k ≤ t → (t ≡ k → ⊥) → k + 1 ≤ t
-above k t h n = omega arith
+-- t is none of the keys, the last one first, as a `match` tells it
+abbrev pub unlike : ℕ → List ℕ → Type 0
+unlike t [] = Unit {0}
+unlike t (k ∷ ks) = unlike t ks × (t ≡ k → ⊥)
 
-pub only : {k t : ℕ} → k ≤ t → t ≤ k → t ≡ k
-only a b = omega arith
+abbrev member : ℕ → List ℕ → Bool
+member t [] = false
+member t (k ∷ ks) = eqb t k || member t ks
 
--- no tag of the list lies in [lo, hi): one computed test over the list
-abbrev pub clear : ℕ → ℕ → List (ℕ × Form) → Bool
-clear lo hi [] = true
-clear lo hi (x ∷ xs) = pick (ltb (x .0) lo || leb hi (x .0)) (clear lo hi xs) false
+-- each of n tags from lo on is a key or passes the test
+abbrev pub along : (ℕ → Bool) → List ℕ → (n lo : ℕ) → Bool
+along f ks zero lo = true
+along f ks (suc n) lo = (member lo ks || f lo) && along f ks n (suc lo)
 
-gap-in : (lo hi t : ℕ) → lo ≤ t → t < hi → (xs : List (ℕ × Form)) → T (clear lo hi xs) → formIn xs t ≡ just Nothing Nothing
-unfolding formIn
-gap-in lo hi t a b [] k = refl
-gap-in lo hi t a b (x ∷ xs) k = go (ltb (x .0) lo) (leb hi (x .0)) refl refl k (λ y. gap-in lo hi t a b xs y)
+no-member : (t : ℕ) (ks : List ℕ) → unlike t ks → member t ks ≡ false
+no-member t [] u = refl
+no-member t (k ∷ ks) u = rw (ne-eqb t k (u .1)) (no-member t ks (u .0))
+
+pub elsewhere : (f : ℕ → Bool) (ks : List ℕ) (n lo : ℕ) → along f ks n lo ≡ true → (t : ℕ) → lo ≤ t → t < lo + n → unlike t ks → f t ≡ true
+elsewhere f ks zero lo h t a b u = absurd (omega arith)
+elsewhere f ks (suc n) lo h t a b u = go (elsewhere f ks n (suc lo) (both-right (member lo ks || f lo) (along f ks n (suc lo)) h) t) (eqb t lo) refl
   where
-    go : (u v : Bool) → ltb (x .0) lo ≡ u → leb hi (x .0) ≡ v → T (pick (u || v) (clear lo hi xs) false) → (T (clear lo hi xs) → formIn xs t ≡ just Nothing Nothing) → pick (eqb t (x .0)) (x .1) (formIn xs t) ≡ just Nothing Nothing
-    go true v p q y ih = let h : x .0 < lo = ltb-true _ _ p in rw (ne-eqb t (x .0) (λ e. absurd (omega arith))) (ih y)
-    go false true p q y ih = let h : hi ≤ x .0 = leb-true _ _ q in rw (ne-eqb t (x .0) (λ e. absurd (omega arith))) (ih y)
-    go false false p q y ih = absurd y
-
-pub gap : (lo hi t : ℕ) → lo ≤ t → t < hi → T (clear lo hi forms) → just Nothing Nothing ≡ formOf t
-unfolding formOf
-gap lo hi t a b k = sym (gap-in lo hi t a b forms k)
+    go : (suc lo ≤ t → t < suc lo + n → unlike t ks → f t ≡ true) → (e : Bool) → eqb t lo ≡ e → f t ≡ true
+    go later true e = let same : t ≡ lo = eqb-true t lo e in subst (λ (x : ℕ). f x ≡ true) (sym same) (rw (no-member lo ks (subst (λ (x : ℕ). unlike x ks) same u)) at (both-left (member lo ks || f lo) (along f ks n (suc lo)) h))
+    go later false e = let other = eqb-false t lo e in later (omega arith) (omega arith) u

@@ -1,4 +1,5 @@
-// Document 01's list of fields as code: for each tag what its body begins with and which fields follow, and what may come next.
-pub mod forms; // forms.rt: the list, by tag
-pub mod parts; // parts.rt: which fields may come next
-pub mod bodies; // bodies.rt: the bytes that a body begins with
+// Document 01's list of fields as code, in numbers: for each tag what its body begins with and which fields follow, and what may come next.
+pub mod heads; // heads.rt: what a body begins with, by tag
+pub mod kinds; // kinds.rt: the tags of each kind of field
+pub mod parts; // parts.rt: the fields that follow, by tag
+pub mod order; // order.rt: which fields may come next

@@ -1,184 +1,134 @@
-// Which fields may come next, where some parts of a body are still to come.
+// The fields that follow the pieces, by tag. A part is a number: its kind, how many fields of this kind it takes (from 16), and for `UP_TO`
+// at most how many (128 times). Up to three parts are one number, the first part lowest.
 ghost use mathlib.Core.Path.{_≡_};
-ghost use Rattle.rules.specs.Format.{isConstant, isExpression, isStatement, isItem, allowed, take, follow, partMayEnd, mayEnd};
-ghost use Rattle.rules.specs.declared.Kind.the-variants.{Pattern};
-ghost use Rattle.rules.specs.declared.Part.the-variants.{Names};
-use rules::Kind;
-use rules::Next;
-use rules::Part;
-use rules::Parts;
-use rules::Took;
+ghost use Prim.Native.Nat.{_≤_};
+ghost use Rattle.rules.specs.Format.{formOf};
+ghost use Rattle.format.specs.Numbers.{partsFrom, partsIn};
+use crate::kinds::ARM;
+use crate::kinds::ATTRIBUTE;
+use crate::kinds::BLOCK;
+use crate::kinds::BRANCH;
+use crate::kinds::CONSTANT;
+use crate::kinds::EXPRESSION;
+use crate::kinds::ITEM;
+use crate::kinds::PARAMETER;
+use crate::kinds::PARENT;
+use crate::kinds::PATTERN;
+use crate::kinds::STATEMENT;
+use crate::kinds::TABLE;
+use crate::kinds::TEXT;
 
-fn is_constant(tag: u8) -> bool
-    ensures { λ r. ⌜ r ≡ isConstant tag ⌝ }
+pub const ONE: u64 = 16;
+
+pub const UP_TO: u64 = 32;
+
+pub const MANY: u64 = 48;
+
+pub const NAMES: u64 = 64;
+
+pub const COUNT: u64 = 128;
+
+pub const SECOND: u64 = 2097152;
+
+const THIRD: u64 = SECOND * SECOND;
+
+// One field 01, then items.
+pub const MANIFEST: u64 = ONE + TABLE + SECOND * (MANY + ITEM);
+
+const NOTHING: u64 = 0;
+
+const STRINGS: u64 = UP_TO + 1024 * COUNT + TEXT;
+
+const ONE_EXPRESSION: u64 = ONE + EXPRESSION;
+
+const TWO_EXPRESSIONS: u64 = ONE + EXPRESSION + SECOND * (ONE + EXPRESSION);
+
+const SELECTOR: u64 = ONE + EXPRESSION + SECOND * (ONE + ARM) + THIRD * (MANY + ARM);
+
+const PATTERN_EXPRESSION: u64 = ONE + PATTERN + SECOND * (ONE + EXPRESSION);
+
+const STATEMENTS: u64 = MANY + STATEMENT;
+
+const EXPRESSION_BLOCKS: u64 = ONE + EXPRESSION + SECOND * (ONE + BLOCK) + THIRD * (ONE + BLOCK);
+
+const EXPRESSION_BRANCHES: u64 = ONE + EXPRESSION + SECOND * (MANY + BRANCH);
+
+const PATTERN_BLOCK: u64 = ONE + PATTERN + SECOND * (ONE + BLOCK);
+
+const EXPRESSION_ATTRIBUTES: u64 = ONE + EXPRESSION + SECOND * (MANY + ATTRIBUTE);
+
+const ATTRIBUTES: u64 = MANY + ATTRIBUTE;
+
+const NAMES_BLOCK: u64 = NAMES + SECOND * (ONE + BLOCK);
+
+const PARAMETERS_BLOCK: u64 = MANY + PARAMETER + SECOND * (ONE + BLOCK);
+
+const DEFAULT: u64 = UP_TO + COUNT + CONSTANT;
+
+const PARENT_PARAMETERS_BLOCK: u64 = UP_TO
+    + COUNT
+    + PARENT
+    + SECOND * (MANY + PARAMETER)
+    + THIRD * (ONE + BLOCK);
+
+// Expressions, and the parts of a selector.
+fn expression_parts(tag: u8) -> u64
+    requires { ⌜ (0x13 ≤ tag) × (tag ≤ 0x1b) ⌝ }
+    ensures { λ r. ⌜ partsFrom r ≡ partsIn (formOf tag .rest) ⌝ }
 {
     match tag {
-        0x10..=0x12 => true,
-        _ => false,
+        0x16 => TWO_EXPRESSIONS,
+        0x17 => ONE_EXPRESSION,
+        0x18 => ONE_EXPRESSION,
+        0x19 => SELECTOR,
+        0x1a => PATTERN_EXPRESSION,
+        _ => NOTHING,
     }
 }
 
-fn is_expression(tag: u8) -> bool
-    ensures { λ r. ⌜ r ≡ isExpression tag ⌝ }
+// Statements, and the parts of statements.
+fn statement_parts(tag: u8) -> u64
+    requires { ⌜ (0x20 ≤ tag) × (tag ≤ 0x29) ⌝ }
+    ensures { λ r. ⌜ partsFrom r ≡ partsIn (formOf tag .rest) ⌝ }
 {
     match tag {
-        0x10..=0x19 => true,
-        _ => false,
+        0x20 => STATEMENTS,
+        0x21 => ONE_EXPRESSION,
+        0x22 => EXPRESSION_BLOCKS,
+        0x23 => EXPRESSION_BRANCHES,
+        0x24 => PATTERN_BLOCK,
+        0x25 => EXPRESSION_ATTRIBUTES,
+        0x26 => ONE_EXPRESSION,
+        0x27 => EXPRESSION_ATTRIBUTES,
+        0x28 => ATTRIBUTES,
+        _ => NOTHING,
     }
 }
 
-fn is_statement(tag: u8) -> bool
-    ensures { λ r. ⌜ r ≡ isStatement tag ⌝ }
+// Items, and the parts of definitions.
+fn item_parts(tag: u8) -> u64
+    requires { ⌜ (0x30 ≤ tag) × (tag ≤ 0x35) ⌝ }
+    ensures { λ r. ⌜ partsFrom r ≡ partsIn (formOf tag .rest) ⌝ }
 {
     match tag {
-        0x21..=0x23 | 0x25 | 0x27..=0x29 => true,
-        _ => false,
+        0x30 => NAMES_BLOCK,
+        0x32 => PARAMETERS_BLOCK,
+        0x33 => DEFAULT,
+        0x34 => PARENT_PARAMETERS_BLOCK,
+        _ => NOTHING,
     }
 }
 
-fn is_item(tag: u8) -> bool
-    ensures { λ r. ⌜ r ≡ isItem tag ⌝ }
+// The parts of a tag.
+pub fn parts_of(tag: u8) -> u64
+    ensures { λ r. ⌜ partsFrom r ≡ partsIn (formOf tag .rest) ⌝ }
 {
     match tag {
-        0x30 | 0x32 | 0x34 => true,
-        _ => is_statement(tag),
+        0x01 => STRINGS,
+        0x10..=0x12 => NOTHING,
+        0x13..=0x1b => expression_parts(tag),
+        0x20..=0x29 => statement_parts(tag),
+        0x30..=0x35 => item_parts(tag),
+        _ => NOTHING,
     }
-}
-
-fn is_pattern(tag: u8) -> bool
-    ensures { λ r. ⌜ r ≡ allowed Pattern tag ⌝ }
-{
-    if tag == 0x1b { true } else { is_constant(tag) }
-}
-
-// Whether a field with this tag is of this kind.
-fn allows(kind: Kind, tag: u8) -> bool
-    ensures { λ r. ⌜ r ≡ allowed kind tag ⌝ }
-{
-    match kind {
-        Kind::Table => tag == 0x01,
-        Kind::Text => tag == 0x02,
-        Kind::Constant => is_constant(tag),
-        Kind::Expression => is_expression(tag),
-        Kind::Pattern => is_pattern(tag),
-        Kind::Arm => tag == 0x1a,
-        Kind::Statement => is_statement(tag),
-        Kind::Block => tag == 0x20,
-        Kind::Branch => tag == 0x24,
-        Kind::Attribute => tag == 0x26,
-        Kind::Parameter => tag == 0x33,
-        Kind::Parent => tag == 0x35,
-        Kind::Item => is_item(tag),
-        Kind::Device => tag == 0x31,
-    }
-}
-
-// What the names of a node make of a field with this tag.
-fn takes_name(tag: u8) -> Took
-    ensures { λ r. ⌜ r ≡ take Names tag ⌝ }
-{
-    match tag {
-        0x31 => Took::Takes(Part::Many(Kind::Device)),
-        0x1b => Took::Takes(Part::Over),
-        _ => Took::Refuses,
-    }
-}
-
-// What a part makes of a field with this tag.
-fn takes(part: Part, tag: u8) -> Took
-    ensures { λ r. ⌜ r ≡ take part tag ⌝ }
-{
-    match part {
-        Part::Over => Took::Passes,
-        Part::One(kind) => {
-            if allows(kind, tag) {
-                Took::Takes(Part::Over)
-            } else {
-                Took::Refuses
-            }
-        }
-        Part::UpTo { most, kind } => {
-            if most == 0 {
-                return Took::Passes;
-            }
-            if allows(kind, tag) {
-                Took::Takes(Part::UpTo {
-                    most: most - 1,
-                    kind,
-                })
-            } else {
-                Took::Passes
-            }
-        }
-        Part::Many(kind) => {
-            if allows(kind, tag) {
-                Took::Takes(Part::Many(kind))
-            } else {
-                Took::Passes
-            }
-        }
-        Part::Names => takes_name(tag),
-    }
-}
-
-// What may come after a field with this tag, where these parts may come.
-pub fn follows(parts: Parts, tag: u8) -> Next
-    ensures { λ r. ⌜ r ≡ follow parts tag ⌝ }
-{
-    let a = parts.first;
-    let b = parts.second;
-    let c = parts.third;
-    match takes(a, tag) {
-        Took::Takes(x) => Next::Go(Parts {
-            first: x,
-            second: b,
-            third: c,
-        }),
-        Took::Refuses => Next::Wrong,
-        Took::Passes => match takes(b, tag) {
-            Took::Takes(y) => Next::Go(Parts {
-                first: Part::Over,
-                second: y,
-                third: c,
-            }),
-            Took::Refuses => Next::Wrong,
-            Took::Passes => match takes(c, tag) {
-                Took::Takes(z) => Next::Go(Parts {
-                    first: Part::Over,
-                    second: Part::Over,
-                    third: z,
-                }),
-                Took::Refuses => Next::Wrong,
-                Took::Passes => Next::Wrong,
-            },
-        },
-    }
-}
-
-fn part_may_end(part: Part) -> bool
-    ensures { λ r. ⌜ r ≡ partMayEnd part ⌝ }
-{
-    match part {
-        Part::Over => true,
-        Part::One(_) => false,
-        Part::UpTo { most: _, kind: _ } => true,
-        Part::Many(_) => true,
-        Part::Names => false,
-    }
-}
-
-// Whether a body may end where these parts may still come.
-pub fn may_end(parts: Parts) -> bool
-    ensures { λ r. ⌜ r ≡ mayEnd parts ⌝ }
-{
-    let a = parts.first;
-    let b = parts.second;
-    let c = parts.third;
-    if !part_may_end(a) {
-        return false;
-    }
-    if !part_may_end(b) {
-        return false;
-    }
-    part_may_end(c)
 }

@@ -10,7 +10,6 @@ use Rattle.values.specs.declared.Reason.the-variants.{StringOrder}
 use Rattle.rules.specs.Bytes.{pick, byte, two}
 use Rattle.rules.specs.Format.{formOf, headSize, namesRight}
 use Rattle.rules.specs.Check.{stride, nextInOrder, placesUp, placesIn, namesKnown}
-use Rattle.rules.specs.declared.Form.{Form}
 use Rattle.rules.specs.declared.Verdict.{Verdict}
 use Rattle.rules.specs.declared.Verdict.the-variants.{Sound, Fault}
 
@@ -49,13 +48,13 @@ place-first m p e h = go (e - p) refl
 
 -- the walk
 module _ (m : List ℕ) (n p e : ℕ) where
-  module _ {t : ℕ} {f : Form} {b : Bool} (l : p < e) (et : t ≡ byte m p) (ef : f ≡ formOf t) (eb : b ≡ namesRight m n p f) where
+  module _ {t : ℕ} {b : Bool} (l : p < e) (et : t ≡ byte m p) (eb : b ≡ namesRight m n p (formOf t)) where
     named : namesKnown m n (placesIn m p e) ≡ pick b (namesKnown m n (placesIn m (nextInOrder m p) e)) (Fault StringOrder p)
     unfolding namesKnown
-    named = rw (place-first m p e l, eb, ef, et)
+    named = rw (place-first m p e l, eb, et)
 
-    pub next-names : {h k w : ℕ} {whole : Verdict} → b ≡ true → h ≡ headSize f → k ≡ two m (p + 1) → w ≡ stride (f .rest) h k → namesKnown m n (placesIn m p e) ≡ whole → namesKnown m n (placesIn m (p + 3 + w) e) ≡ whole
-    next-names hb eh ek ew inv = rw (ew, ek, eh, ef, et) (rw (named, hb) at inv)
+    pub next-names : {k w : ℕ} {whole : Verdict} → b ≡ true → k ≡ two m (p + 1) → w ≡ stride (formOf t .rest) (headSize (formOf t)) k → namesKnown m n (placesIn m p e) ≡ whole → namesKnown m n (placesIn m (p + 3 + w) e) ≡ whole
+    next-names hb ek ew inv = rw (ew, ek, et) (rw (named, hb) at inv)
 
     pub name-past : {whole : Verdict} → b ≡ false → namesKnown m n (placesIn m p e) ≡ whole → Fault StringOrder p ≡ whole
     name-past h inv = rw (named, h) at inv

@@ -3,12 +3,11 @@ ghost use mathlib.Core.Path.{_≡_};
 ghost use lib.ListN.{length};
 ghost use Rattle.rules.specs.Check.{namesKnown, placesIn};
 use crate::order::wrong_string;
-use format::bodies::head_size;
-use format::bodies::names_right;
-use format::bodies::stride;
-use format::forms::form_of;
+use format::heads::head_of;
+use format::heads::names_right;
+use format::heads::stride;
 use rules::Verdict;
-use wire::byte_at;
+use wire::byte_in;
 use wire::length_at;
 
 // The names of all fields from `from` on, in reading order.
@@ -17,12 +16,11 @@ pub fn check_names(m: &[u8], from: usize, strings: u16) -> Verdict
 {
     let mut p = from;
     while p < m.len() {
-        let form = form_of(byte_at(m, p));
-        let rest = form.rest;
-        if !names_right(m, strings, p, form) {
+        let head = head_of(byte_in(m, p));
+        if !names_right(m, strings, p, head) {
             return wrong_string(p);
         }
-        p = p + 3 + stride(rest, head_size(form), length_at(m, p)) as usize;
+        p = p + 3 + stride(head, length_at(m, p)) as usize;
     }
     Verdict::Sound
 }

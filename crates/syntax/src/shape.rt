@@ -2,27 +2,28 @@
 ghost use mathlib.Core.Path.{_≡_};
 ghost use Prim.Native.Nat.{_+_, _≤_, _<_};
 ghost use lib.ListN.{length};
-ghost use Rattle.rules.specs.Bytes.{byte, endOf, fieldsIn};
+ghost use Rattle.rules.specs.Bytes.{byte, two, endOf, fieldsIn};
 ghost use Rattle.rules.specs.Format.{formOf};
-ghost use Rattle.rules.specs.Check.{header, walk, inside, shape};
+ghost use Rattle.rules.specs.Check.{inside, shape};
 ghost use Rattle.values.specs.declared.Reason.the-variants.{Malformed, TooDeep};
 ghost use Rattle.rules.specs.declared.Verdict.the-variants.{Fault};
-use format::bodies::bytes_right;
-use format::bodies::head_size;
-use format::bodies::length_right;
-use format::forms::form_of;
-use format::parts::follows;
-use format::parts::may_end;
-use rules::Form;
-use rules::Kind;
-use rules::Next;
-use rules::Part;
-use rules::Parts;
-use rules::Rest;
+ghost use Rattle.format.specs.Numbers.{headNumber, partsFrom};
+ghost use Rattle.format.specs.Coming.{thenFrom};
+ghost use Rattle.syntax.specs.Walked.{headed, walked};
+use format::heads::bytes_right;
+use format::heads::has_fields;
+use format::heads::head_of;
+use format::heads::head_size;
+use format::heads::length_right;
+use format::order::Then;
+use format::order::follows;
+use format::order::may_end;
+use format::parts::MANIFEST;
+use format::parts::parts_of;
 use rules::Verdict;
 use values::Reason;
-use wire::byte_at;
-use wire::length_at;
+use wire::byte_in;
+use wire::two_in;
 
 fn malformed(place: usize) -> Verdict
     ensures { λ r. ⌜ r ≡ Fault Malformed place ⌝ }
@@ -42,66 +43,63 @@ fn too_deep(place: usize) -> Verdict
     }
 }
 
-// The header of the field at `q`, whose line in the list is `form`, in surroundings that end at `e`.
-fn header_at(m: &[u8], parts: Parts, form: Form, q: usize, e: usize) -> Next
-    requires { ⌜ (q < e) × ((e ≤ length (now m)) × (form ≡ formOf (byte (now m) q))) ⌝ }
-    ensures { λ r. ⌜ r ≡ header (now (m .entry)) parts q e ⌝ }
+// The header of the field at `q`, whose head is `head`, in surroundings that end at `e`: the parts that may come after it.
+fn header_at(m: &[u8], parts: u64, head: u16, q: usize, e: usize) -> Then
+    requires { ⌜ (q < e) × ((e ≤ length (now m)) × (head ≡ headNumber (formOf (byte (now m) q)))) ⌝ }
+    ensures { λ r. ⌜ thenFrom r ≡ headed (now (m .entry)) (partsFrom parts) q e ⌝ }
 {
     if e - q < 3 {
-        return Next::Wrong;
+        return Then::Wrong;
     }
-    let len = length_at(m, q);
+    let len = two_in(m, q + 1);
     if e - q - 3 < len as usize {
-        return Next::Wrong;
+        return Then::Wrong;
     }
-    if length_right(form, len) {
-        follows(parts, byte_at(m, q))
+    if length_right(head, len) {
+        follows(parts, byte_in(m, q))
     } else {
-        Next::Wrong
+        Then::Wrong
     }
 }
 
 // What is inside the field at `p`, whose header is right, with `levels` left for it.
-fn check_inside(m: &[u8], form: Form, p: usize, levels: u8) -> Verdict
-    requires { ⌜ (endOf (now m) p ≤ length (now m)) × (form ≡ formOf (byte (now m) p)) ⌝ }
+fn check_inside(m: &[u8], head: u16, p: usize, len: u16, levels: u8) -> Verdict
+    requires { ⌜ (endOf (now m) p ≤ length (now m)) × ((head ≡ headNumber (formOf (byte (now m) p))) × (len ≡ two (now m) (p + 1))) ⌝ }
     ensures { λ r. ⌜ r ≡ inside (now (m .entry)) levels p ⌝ }
 {
     if levels == 0 {
         return too_deep(p);
     }
-    let len = length_at(m, p);
-    let head = head_size(form);
-    if len < head {
+    let size = head_size(head);
+    if len < size {
         return malformed(p);
     }
-    if !bytes_right(m, p, form) {
+    if !bytes_right(m, p, head) {
         return malformed(p);
     }
-    let rest = form.rest;
-    match rest {
-        Rest::Only => Verdict::Sound,
-        Rest::Text => Verdict::Sound,
-        Rest::Fields(parts) => {
-            let from = p + 3 + head as usize;
-            let end = p + 3 + len as usize;
-            check_fields(m, p, parts, from, end, levels - 1)
-        }
+    if !has_fields(head) {
+        return Verdict::Sound;
     }
+    let parts = parts_of(byte_in(m, p));
+    let from = p + 3 + size as usize;
+    let end = p + 3 + len as usize;
+    check_fields(m, p, parts, from, end, levels - 1)
 }
 
 // The fields from `from` to `e`, which belong to the field at `p`.
-fn check_fields(m: &[u8], p: usize, parts: Parts, from: usize, e: usize, levels: u8) -> Verdict
+fn check_fields(m: &[u8], p: usize, parts: u64, from: usize, e: usize, levels: u8) -> Verdict
     requires { ⌜ e ≤ length (now m) ⌝ }
-    ensures { λ r. ⌜ r ≡ walk (now (m .entry)) (inside (now (m .entry)) levels) p parts e (fieldsIn (now (m .entry)) from e) ⌝ }
+    ensures { λ r. ⌜ r ≡ walked (now (m .entry)) (inside (now (m .entry)) levels) p (partsFrom parts) e (fieldsIn (now (m .entry)) from e) ⌝ }
 {
     let mut left = parts;
     let mut q = from;
     while q < e {
-        let form = form_of(byte_at(m, q));
-        let Next::Go(then) = header_at(m, left, form, q, e) else {
+        let head = head_of(byte_in(m, q));
+        let Then::Parts(then) = header_at(m, left, head, q, e) else {
             return malformed(q);
         };
-        let found = check_inside(m, form, q, levels);
+        let len = two_in(m, q + 1);
+        let found = check_inside(m, head, q, len, levels);
         match found {
             Verdict::Fault {
                 reason: _,
@@ -110,7 +108,7 @@ fn check_fields(m: &[u8], p: usize, parts: Parts, from: usize, e: usize, levels:
             Verdict::Sound => {}
         }
         left = then;
-        q = q + 3 + length_at(m, q) as usize;
+        q = q + 3 + len as usize;
     }
     if may_end(left) {
         Verdict::Sound
@@ -123,10 +121,5 @@ fn check_fields(m: &[u8], p: usize, parts: Parts, from: usize, e: usize, levels:
 pub fn check_shape(m: &[u8]) -> Verdict
     ensures { λ r. ⌜ r ≡ shape (now (m .entry)) ⌝ }
 {
-    let parts = Parts {
-        first: Part::One(Kind::Table),
-        second: Part::Many(Kind::Item),
-        third: Part::Over,
-    };
-    check_fields(m, 0, parts, 0, m.len(), 32)
+    check_fields(m, 0, MANIFEST, 0, m.len(), 32)
 }

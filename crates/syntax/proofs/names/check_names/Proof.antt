@@ -18,11 +18,14 @@ abbrev μ-loop : tie.MeasureT-loop
 loop-holds : tie.Need-loop-holds Inv-loop μ-loop
 loop-holds c = refl
 
+byte-in-requires : tie.Need-byte-in-requires Inv-loop μ-loop
+byte-in-requires c κs = c .loop-test .taken
+
 names-right-requires : tie.Need-names-right-requires Inv-loop μ-loop
 names-right-requires c κs = omega (arith, c .before .before .loop-test .taken)
 
 returns : tie.Need-returns Inv-loop μ-loop
-returns c = c .wrong-string .ensures ∙ name-past _ _ _ _ (c .before .before .before .before .before .loop-test .taken) (c .before .before .before .before .byte-at .ensures) (c .before .before .before .form-of .ensures) (c .before .before .names-right .ensures) (not-true _ (c .before .if1 .taken)) (c .before .before .before .before .before .before .loop .inv)
+returns c = c .wrong-string .ensures ∙ name-past _ _ _ _ (c .before .before .before .before .before .loop-test .taken) (c .before .before .before .before .byte-in .ensures) (c .before .before .names-right .ensures _ (c .before .before .before .head-of .ensures)) (not-true _ (c .before .if1 .taken)) (c .before .before .before .before .before .before .loop .inv)
 
 add-p : tie.Need-add-p Inv-loop μ-loop
 add-p c = omega (arith, c .before .before .before .before .loop-test .taken)
@@ -31,13 +34,13 @@ cast-p : tie.Need-cast-p Inv-loop μ-loop
 cast-p c = omega arith
 
 add-p-2 : tie.Need-add-p-2 Inv-loop μ-loop
-add-p-2 c = omega (arith, c .before .before .before .before .before .before .before .loop-test .taken, c .stride .ok)
+add-p-2 c = omega (arith, c .before .before .before .before .before .before .loop-test .taken, c .stride .ok)
 
 loop-less : tie.Need-loop-less Inv-loop μ-loop
-loop-less c = omega (arith, c .before .before .before .before .before .before .before .loop-test .taken)
+loop-less c = omega (arith, c .before .before .before .before .before .before .loop-test .taken)
 
 loop-again : tie.Need-loop-again Inv-loop μ-loop
-loop-again c = next-names _ _ _ _ (c .before .before .before .before .before .before .before .loop-test .taken) (c .before .before .before .before .before .before .byte-at .ensures) (c .before .before .before .before .before .form-of .ensures) (c .before .before .before .before .names-right .ensures) (not-false _ (c .before .before .before .if1 .left)) (c .before .before .head-size .ensures) (c .before .length-at .ensures) (c .stride .ensures) (c .before .before .before .before .before .before .before .before .loop .inv)
+loop-again c = next-names _ _ _ _ (c .before .before .before .before .before .before .loop-test .taken) (c .before .before .before .before .before .byte-in .ensures) (c .before .before .before .names-right .ensures _ (c .before .before .before .before .head-of .ensures)) (not-false _ (c .before .before .if1 .left)) (c .before .length-at .ensures) (c .stride .ensures _ (c .before .before .before .before .head-of .ensures)) (c .before .before .before .before .before .before .before .loop .inv)
 
 returns-2 : tie.Need-returns-2 Inv-loop μ-loop
 returns-2 c = names-end _ _ _ _ (c .loop-test .left) (c .before .loop .inv)
@@ -49,13 +52,12 @@ check-names-spec =
     Inv-loop
     μ-loop
     loop-holds
-    (λ c κs. tt)
+    byte-in-requires
     (λ c κs. tt)
     names-right-requires
     (λ c κs. tt)
     returns
     add-p
-    (λ c κs. tt)
     (λ c κs. tt)
     (λ c κs. tt)
     cast-p

@@ -1,0 +1,114 @@
+// Which fields may come next, where some parts of a body are still to come. Parts that are done are dropped.
+ghost use mathlib.Core.Path.{_≡_};
+ghost use Prim.Native.Nat.{_/_};
+ghost use Rattle.format.specs.Numbers.{howMany, partsFrom};
+ghost use Rattle.format.specs.Coming.{comes, complete, takenFrom, thenFrom};
+use crate::kinds::DEVICE;
+use crate::kinds::allows;
+use crate::parts::COUNT;
+use crate::parts::MANY;
+use crate::parts::NAMES;
+use crate::parts::ONE;
+use crate::parts::SECOND;
+use crate::parts::UP_TO;
+
+// What the first of the parts makes of a field: it takes the field, and these parts may come then; or it leaves the field to the others; or it refuses it.
+pub enum Taking {
+    Parts(u64),
+    Passes,
+    Refuses,
+}
+
+// The parts that may come after a field, if it may stand here.
+pub enum Then {
+    Parts(u64),
+    Wrong,
+}
+
+const DEVICES: u64 = MANY + DEVICE;
+
+// How many fields the first part takes: `ONE`, `UP_TO`, `MANY` or `NAMES`.
+fn how_many(parts: u64) -> u64
+    ensures { λ r. ⌜ r ≡ howMany parts ⌝ }
+{
+    parts / 16 % 8 * 16
+}
+
+// What the names of a node make of a field with this tag.
+fn takes_name(parts: u64, tag: u8) -> Taking
+    requires { ⌜ howMany parts ≡ 64 ⌝ }
+    ensures { λ r. ⌜ takenFrom r (comes (partsFrom (parts / 2097152)) tag) ≡ comes (partsFrom parts) tag ⌝ }
+{
+    match tag {
+        0x31 => Taking::Parts(parts / SECOND * SECOND + DEVICES),
+        0x1b => Taking::Parts(parts / SECOND),
+        _ => Taking::Refuses,
+    }
+}
+
+// What the first part makes of a field with this tag.
+fn takes(parts: u64, tag: u8) -> Taking
+    ensures { λ r. ⌜ takenFrom r (comes (partsFrom (parts / 2097152)) tag) ≡ comes (partsFrom parts) tag ⌝ }
+{
+    let fits = allows(parts % 16, tag);
+    match how_many(parts) {
+        ONE => {
+            if fits {
+                Taking::Parts(parts / SECOND)
+            } else {
+                Taking::Refuses
+            }
+        }
+        MANY => {
+            if fits {
+                Taking::Parts(parts)
+            } else {
+                Taking::Passes
+            }
+        }
+        UP_TO => {
+            if parts % SECOND < COUNT {
+                return Taking::Passes;
+            }
+            if fits {
+                Taking::Parts(parts - COUNT)
+            } else {
+                Taking::Passes
+            }
+        }
+        NAMES => takes_name(parts, tag),
+        _ => Taking::Passes,
+    }
+}
+
+// What may come after a field with this tag, where these parts may come.
+pub fn follows(parts: u64, tag: u8) -> Then
+    ensures { λ r. ⌜ thenFrom r ≡ comes (partsFrom parts) tag ⌝ }
+{
+    let mut left = parts;
+    while left != 0 {
+        match takes(left, tag) {
+            Taking::Parts(then) => return Then::Parts(then),
+            Taking::Refuses => return Then::Wrong,
+            Taking::Passes => {}
+        }
+        left = left / SECOND;
+    }
+    Then::Wrong
+}
+
+// Whether a body may end where these parts may still come.
+pub fn may_end(parts: u64) -> bool
+    ensures { λ r. ⌜ r ≡ complete (partsFrom parts) ⌝ }
+{
+    let mut left = parts;
+    while left != 0 {
+        match how_many(left) {
+            ONE => return false,
+            NAMES => return false,
+            _ => {}
+        }
+        left = left / SECOND;
+    }
+    true
+}
