@@ -1,5 +1,4 @@
 pub mod Standing
-pub mod Declares
-pub mod Folds
+pub mod Names
+pub mod Texts
 pub mod Marking
-pub mod AfterTest

@@ -1,2 +1,3 @@
 pub mod Names
+pub mod Texts
 pub mod Marks

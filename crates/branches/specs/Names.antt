@@ -1,33 +1,18 @@
--- The names that the text of a condition's branches assigns.
-use Prim.Native.Nat.{ℕ, _<_}
-use mathlib.Core.Path.{_≡_}
-use mathlib.Core.Bool.{true}
-use mathlib.Core.List.{List, [], _∷_, _++_}
-use Rattle.rules.specs.Tree.{Statement, assignment, conditional, choice, builtInResource, definedResource, classWithAttributes, include, Block, end, next, Branches, noBranch, branch, defaultBranch}
-use Rattle.rules.specs.Tree
-use Rattle.cells.specs.Memory.{listed}
+-- Sets of names: sixteen words, in which name n is bit n % 64 of word n / 64.
+use Prim.Native.Nat.{ℕ, _/_, _%_, _^_}
+use mathlib.Core.Bool.{Bool, _&&_}
+use mathlib.Core.List.{List}
+use lib.Dec.{eqb}
+use lib.ListN.{getD}
 
--- the names of the 21s, in reading order
-unfoldable mutual
-  pub names : Statement → List ℕ
-  names (assignment p x e) = x ∷ []
-  names (conditional p e a b) = namesIn a ++ namesIn b
-  names (choice p e bs) = namesAny bs
-  names (builtInResource p t e ats) = []
-  names (definedResource p t e ats) = []
-  names (classWithAttributes p q ats) = []
-  names (include p q) = []
-  names (Statement.unreadable p) = []
+-- whether the bit of name n is set in its word
+unfoldable pub bitIn : (word n : ℕ) → Bool
+bitIn w n = eqb (w / 2 ^ (n % 64) % 2) 1
 
-  pub namesIn : Block → List ℕ
-  namesIn end = []
-  namesIn (next s b) = names s ++ namesIn b
+-- whether a name is in the set
+unfoldable pub contains : List ℕ → ℕ → Bool
+contains s n = bitIn (getD s (n / 64) 0) n
 
-  pub namesAny : Branches → List ℕ
-  namesAny noBranch = []
-  namesAny (branch v b bs) = namesIn b ++ namesAny bs
-  namesAny (defaultBranch b bs) = namesIn b ++ namesAny bs
-
--- each of them is below 1,024
-pub record Small (ns : List ℕ) : Type 0 where
-  pub each : (n : ℕ) → listed ns n ≡ true → n < 1024
+-- whether a name is in it by word i, which is w
+unfoldable pub inWord : (i w : ℕ) → ℕ → Bool
+inWord i w n = eqb (n / 64) i && bitIn w n

@@ -1,8 +1,8 @@
 -- The names in a field that stands soundly are below 1,024: the manifest's names are known, and it has at most 1,024 strings.
 use Prim.Native.Nat.{ℕ, zero, suc, _+_, _-_, _<_, _≤_}
-use mathlib.Core.Path.{_≡_, refl, sym, ap, _∙_, subst}
+use mathlib.Core.Path.{_≡_, refl, sym, subst}
 use mathlib.Core.Bool.{Bool, true, false, _||_}
-use mathlib.Core.List.{List, [], _∷_, _++_}
+use mathlib.Core.List.{List}
 use native.Mathlib.Omega.{arith}
 use lib.Dec.{eqb}
 use lib.ListN.{length}
@@ -18,11 +18,9 @@ use Rattle.places.proofs.Tags.{IsStatementTag, assignmentTag, conditionalTag, c
 use Rattle.places.proofs.Open.{Line, header-within}
 use Rattle.places.proofs.Statements.{conditional-opens, choice-opens, branch-opens}
 use Rattle.syntax.proofs.NamesKnown.{known-after}
-use Rattle.cells.specs.Memory.{listed}
-use Rattle.branches.specs.Names.{names, namesIn, namesAny, Small}
+use Rattle.branches.specs.Texts.{Text, textOf, textIn, textAny, plain, named, both, Small}
 use Rattle.branches.proofs.Standing.{has-level, block-statements}
-use Rattle.branches.proofs.Folds.{listed-append, small-same}
-use Rattle.branches.proofs.Marking.{assignment-names, conditional-names, choice-names, other-names, block-names, statements-names, no-statement-names, branches-names, no-branch-names}
+use Rattle.branches.proofs.Texts.{assignment-text, conditional-text, choice-text, defined-text, class-text, include-text, other-text, block-text, statements-text, no-statement-text, branches-text, no-branch-text, small-same}
 use Rattle.statements.specs.Cases.{BranchBlock, blockHere, blockLater}
 use Rattle.declarations.specs.Standing.{NamesKnown}
 use Rattle.declarations.proofs.Standing.{inside-known, name-small as begins-small}
@@ -78,35 +76,30 @@ module _ {m : List ℕ} where
 
 -- ---- The names that a statement assigns
 
-small-both : (ns ms : List ℕ) → Small ns → Small ms → Small (ns ++ ms)
-small-both ns ms a b = record { each = λ n h. go n (listed ns n) refl (sym (listed-append ns ms n) ∙ h) }
+small-both : (a b : Text) → Small a → Small b → Small (both a b)
+unfolding both
+small-both a b x y = record { each = λ n h. go n (a .assigns n) refl h }
   where
-    go : (n : ℕ) (t : Bool) → listed ns n ≡ t → (listed ns n || listed ms n) ≡ true → n < 1024
-    go n true e h = a .each n e
-    go n false e h = b .each n (rw e at h)
+    go : (n : ℕ) (t : Bool) → a .assigns n ≡ t → (t || b .assigns n) ≡ true → n < 1024
+    go n true e h = x .each n e
+    go n false e h = y .each n h
 
-small-none : {ns : List ℕ} → ns ≡ [] → Small ns
-unfolding listed
-small-none e = rw e (record { each = λ n h. let z : _≡_ {A = ℕ} 0 1 = cc in absurd (omega arith) })
+small-none : {t : Text} (d : Bool) → t ≡ plain d → Small t
+small-none d e = rw e (record { each = λ n h. let z : _≡_ {A = ℕ} 0 1 = cc in absurd (omega arith) })
 
-small-single : {n : ℕ} {ns : List ℕ} → n < 1024 → ns ≡ n ∷ [] → Small ns
-unfolding listed
-small-single {n} l e = rw e (record { each = λ x h. let same : x ≡ n = eqb-true x n (or-false (eqb x n) h) in omega arith })
-  where
-    or-false : (b : Bool) → (b || false) ≡ true → b ≡ true
-    or-false true h = refl
-    or-false false h = h
+small-single : {n : ℕ} {t : Text} → n < 1024 → t ≡ named n → Small t
+small-single {n} l e = rw e (record { each = λ x h. let same : x ≡ n = eqb-true x n h in omega arith })
 
 abbrev SmallAt : List ℕ → ℕ → Type 0
-SmallAt m d = (p : ℕ) → StandsAs m d StatementKind p → NamesKnown m p → Small (names (statementAt m d p))
+SmallAt m d = (p : ℕ) → StandsAs m d StatementKind p → NamesKnown m p → Small (textOf (statementAt m d p))
 
 abbrev SmallBlockAt : List ℕ → ℕ → Type 0
-SmallBlockAt m d = (p : ℕ) → StandsAs m d BlockKind p → NamesKnown m p → Small (namesIn (blockAt m d p))
+SmallBlockAt m d = (p : ℕ) → StandsAs m d BlockKind p → NamesKnown m p → Small (textIn (blockAt m d p))
 
 module _ {m : List ℕ} (few : length (stringPlaces m) ≤ 1024) where
-  small-statements : {d q e : ℕ} → SmallAt m d → Siblings m d StatementKind q e → NamesKnown m q → Small (namesIn (statementsAt m d (fieldsIn m q e)))
-  small-statements here ended k = small-none (no-statement-names ended (omega arith))
-  small-statements {q = q} here (sibling l s i) k = small-same (small-both _ _ (here q s k) (small-statements here i (known-past (s .stands) refl k))) (sym (statements-names (sibling l s i) l refl))
+  small-statements : {d q e : ℕ} → SmallAt m d → Siblings m d StatementKind q e → NamesKnown m q → Small (textIn (statementsAt m d (fieldsIn m q e)))
+  small-statements here ended k = small-none false (no-statement-text ended (omega arith))
+  small-statements {q = q} here (sibling l s i) k = small-same (small-both _ _ (here q s k) (small-statements here i (known-past (s .stands) refl k))) (sym (statements-text (sibling l s i) l refl))
 
   small-block : (d : ℕ) → ((e : ℕ) → e < d → SmallAt m e) → SmallBlockAt m d
   unfolding allowed formOf formIn forms headSize size
@@ -114,13 +107,13 @@ module _ {m : List ℕ} (few : length (stringPlaces m) ≤ 1024) where
       let lower = has-level s in
       let inner : NamesKnown m (p + 3 + 0) = known-in {h = 0} (s .stands) (eqb-true (byte m p) 0x20 (s .kind)) (record { head = refl; rest = refl }) k in
       let same : p + 3 + 0 ≡ p + 3 = omega arith in
-      small-same (small-statements (below (d - 1) (omega arith)) (block-statements s refl) (subst (NamesKnown m) same inner)) (sym (block-names s refl))
+      small-same (small-statements (below (d - 1) (omega arith)) (block-statements s refl) (subst (NamesKnown m) same inner)) (sym (block-text s refl))
 
-  small-branches : {d q e : ℕ} → SmallBlockAt m (d - 1) → Siblings m d Branch q e → NamesKnown m q → Small (namesAny (branchesAt m d (fieldsIn m q e)))
-  small-branches here ended k = small-none (no-branch-names ended (omega arith))
+  small-branches : {d q e : ℕ} → SmallBlockAt m (d - 1) → Siblings m d Branch q e → NamesKnown m q → Small (textAny (branchesAt m d (fieldsIn m q e)))
+  small-branches here ended k = small-none false (no-branch-text ended (omega arith))
   small-branches {q = q} here (sibling l s i) k =
       let o = branch-opens s (has-level s) in
-      small-same (small-both _ _ (here (endOf m (q + 3)) (o .block) (known-branch s k)) (small-branches here i (known-past (s .stands) refl k))) (sym (branches-names (sibling l s i) l refl refl))
+      small-same (small-both _ _ (here (endOf m (q + 3)) (o .block) (known-branch s k)) (small-branches here i (known-past (s .stands) refl k))) (sym (branches-text (sibling l s i) l refl refl))
 
   small-here : (d : ℕ) → ((e : ℕ) → e < d → SmallAt m e) → SmallAt m d
   unfolding formOf formIn forms
@@ -132,23 +125,23 @@ module _ {m : List ℕ} (few : length (stringPlaces m) ≤ 1024) where
       block : SmallBlockAt m (d - 1)
       block = small-block (d - 1) (λ e l. below e (omega arith))
 
-      go : (t : ℕ) → byte m p ≡ t → IsStatementTag t → Small (names (statementAt m d p))
-      go t e assignmentTag = small-single (name-small (s .stands) e refl few k) (assignment-names s refl e refl)
+      go : (t : ℕ) → byte m p ≡ t → IsStatementTag t → Small (textOf (statementAt m d p))
+      go t e assignmentTag = small-single (name-small (s .stands) e refl few k) (assignment-text s refl e refl)
       go t e conditionalTag =
           let o = conditional-opens (s .stands) lower e in
           let known = known-condition s e k in
-          small-same (small-both _ _ (block (endOf m (p + 3)) (o .ifTrue) (known .0)) (block (endOf m (endOf m (p + 3))) (o .ifFalse) (known .1))) (sym (conditional-names s refl e refl))
+          small-same (small-both _ _ (block (endOf m (p + 3)) (o .ifTrue) (known .0)) (block (endOf m (endOf m (p + 3))) (o .ifFalse) (known .1))) (sym (conditional-text s refl e refl))
       go t e choiceTag =
           let o = choice-opens (s .stands) lower e in
-          small-same (small-branches (small-block (d - 1 - 1) (λ x l. below x (omega arith))) (o .branches) (known-branches s e k)) (sym (choice-names s refl e refl refl))
-      go t e resourceTag = small-none (other-names s refl (λ h. omega arith) (λ h. omega arith) (λ h. omega arith))
-      go t e definedTag = small-none (other-names s refl (λ h. omega arith) (λ h. omega arith) (λ h. omega arith))
-      go t e classTag = small-none (other-names s refl (λ h. omega arith) (λ h. omega arith) (λ h. omega arith))
-      go t e includeTag = small-none (other-names s refl (λ h. omega arith) (λ h. omega arith) (λ h. omega arith))
+          small-same (small-branches (small-block (d - 1 - 1) (λ x l. below x (omega arith))) (o .branches) (known-branches s e k)) (sym (choice-text s refl e refl refl))
+      go t e resourceTag = small-none false (other-text s refl (λ h. omega arith) (λ h. omega arith) (λ h. omega arith) (λ h. omega arith) (λ h. omega arith) (λ h. omega arith))
+      go t e definedTag = small-none true (defined-text s refl e)
+      go t e classTag = small-none true (class-text s refl e)
+      go t e includeTag = small-none true (include-text s refl e)
 
   small-below : (n d : ℕ) → d < n → SmallAt m d
   small-below zero d l = absurd (omega arith)
   small-below (suc n) d l = small-here d (λ e i. small-below n e (omega arith))
 
-  pub small-statement : {d p : ℕ} → StandsAs m d StatementKind p → NamesKnown m p → Small (names (statementAt m d p))
+  pub small-statement : {d p : ℕ} → StandsAs m d StatementKind p → NamesKnown m p → Small (textOf (statementAt m d p))
   small-statement {d} {p} s k = small-below (suc d) d (omega arith) p s k

@@ -27,10 +27,9 @@ use Rattle.evaluator.specs.declared.Evaluated.{Evaluated}
 use Rattle.evaluator.specs.declared.Evaluated.the-variants.{Value as Yields, Refused as Fails}
 use Rattle.evaluator.specs.Answers.{evaluated}
 use Rattle.evaluator.specs.Known.{Ready, Tells}
-use Rattle.branches.specs.Names.{names, namesAny, Small}
+use Rattle.branches.specs.Texts.{textOf, textAny, Small}
 use Rattle.branches.proofs.Standing.{has-level}
-use Rattle.branches.proofs.Folds.{small-same}
-use Rattle.branches.proofs.Marking.{choice-names}
+use Rattle.branches.proofs.Texts.{small-same, choice-text}
 use Rattle.statements.specs.declared.Ran.{Ran}
 use Rattle.statements.specs.declared.Ran.the-variants.{Done as Entered, Refused as Stopped}
 use Rattle.statements.specs.Answers.{ranAs, Does}
@@ -80,7 +79,7 @@ case-runs k declare p e bs c st = go (evaluate k c st e)
 -- ---- The ways of `decide_case`
 
 -- the branches, where the code found them
-pub branches-from : {m : List ℕ} {d f e a b : ℕ} → f ≡ a → e ≡ b → Siblings m d BranchKind a b × Small (namesAny (branchesAt m d (fieldsIn m a b))) → Siblings m d BranchKind f e × Small (namesAny (branchesAt m d (fieldsIn m f e)))
+pub branches-from : {m : List ℕ} {d f e a b : ℕ} → f ≡ a → e ≡ b → Siblings m d BranchKind a b × Small (textAny (branchesAt m d (fieldsIn m a b))) → Siblings m d BranchKind f e × Small (textAny (branchesAt m d (fieldsIn m f e)))
 branches-from found ends i = rw (found, ends) i
 
 module _ (m : List ℕ) (d p : ℕ) {f e : ℕ} (w : List ℕ) (here : Here) (x : Labelled) (found : f ≡ endOf m (p + 3)) (ends : e ≡ endOf m p) where
@@ -135,8 +134,8 @@ module _ (m : List ℕ) (d p : ℕ) {f e : ℕ} (w : List ℕ) (here : Here) (x 
 pub choice-here : {m : List ℕ} {d p : ℕ} → StandsAs m d StatementKind p → byte m p ≡ 0x23 → ChoiceAt m d (d - 1) p
 choice-here s tag = choice-opens (s .stands) (has-level s) tag
 
-pub case-small : {m : List ℕ} {d p : ℕ} → StandsAs m d StatementKind p → byte m p ≡ 0x23 → Small (names (statementAt m d p)) → Small (namesAny (branchesOf m (d - 1) p))
-case-small s tag small = small-same small (choice-names s refl tag refl refl)
+pub case-small : {m : List ℕ} {d p : ℕ} → StandsAs m d StatementKind p → byte m p ≡ 0x23 → Small (textOf (statementAt m d p)) → Small (textAny (branchesOf m (d - 1) p))
+case-small s tag small = small-same small (choice-text s refl tag refl refl)
 
 module _ {m w out : List ℕ} {d p fill : ℕ} (here : Here) (s : StandsAs m d StatementKind p) (tag : byte m p ≡ 0x23) (e : Evaluated) (told : StandsAs m (d - 1) ExpressionKind (p + 3) → Tells m w out fill (here .scope) (evaluated e) (λ k c st. evaluate k c st (expressionAt m (d - 1) (p + 3)))) where
   test-run : {o : Outcome Labelled} (k : Known) (es : List Entry) (n r : ℕ) → evaluated e ≡ o → Ready m w out fill k es → (o >>= λ x. decideCase p (branchesOf m (d - 1) p) x (contextOf here) (stateOf w es n r)) ≡ testCaseAt m (d - 1) p k (contextOf here) (stateOf w es n r)

@@ -35,10 +35,9 @@ use Rattle.evaluator.specs.declared.Evaluated.the-variants.{Value as Yields, Re
 use Rattle.evaluator.proofs.Operators.{not-boolean}
 use Rattle.evaluator.specs.Answers.{evaluated}
 use Rattle.evaluator.specs.Known.{Ready, Tells}
-use Rattle.branches.specs.Names.{names, namesIn, Small}
+use Rattle.branches.specs.Texts.{textOf, textIn, both, Small}
 use Rattle.branches.proofs.Standing.{has-level, has-header}
-use Rattle.branches.proofs.Folds.{small-same}
-use Rattle.branches.proofs.Marking.{conditional-names}
+use Rattle.branches.proofs.Texts.{small-same, conditional-text}
 use Rattle.statements.specs.declared.Ran.{Ran}
 use Rattle.statements.specs.declared.Ran.the-variants.{Done as Entered, Refused as Stopped}
 use Rattle.statements.specs.declared.Tested.{Tested}
@@ -78,7 +77,7 @@ if-runs k declare p e a b c st = go (evaluate k c st e)
 -- ---- The ways of `decide_if`
 
 -- the blocks from the place q on, where the code found it
-pub blocks-from : {m : List ℕ} {b q t : ℕ} → q ≡ t → (StandsAs m b BlockKind t × StandsAs m b BlockKind (endOf m t)) × Small (namesIn (blockAt m b t) ++ namesIn (blockAt m b (endOf m t))) → (StandsAs m b BlockKind q × StandsAs m b BlockKind (endOf m q)) × Small (namesIn (blockAt m b q) ++ namesIn (blockAt m b (endOf m q)))
+pub blocks-from : {m : List ℕ} {b q t : ℕ} → q ≡ t → (StandsAs m b BlockKind t × StandsAs m b BlockKind (endOf m t)) × Small (both (textIn (blockAt m b t)) (textIn (blockAt m b (endOf m t)))) → (StandsAs m b BlockKind q × StandsAs m b BlockKind (endOf m q)) × Small (both (textIn (blockAt m b q)) (textIn (blockAt m b (endOf m q))))
 blocks-from e i = rw e i
 
 module _ (p l : ℕ) (a b : Block) (w : List ℕ) (here : Here) (x : Labelled) where
@@ -120,8 +119,8 @@ conditional-here s tag = conditional-opens (s .stands) (has-level s) tag
 pub condition-place : {m : List ℕ} {d p : ℕ} → StandsAs m d StatementKind p → length m ≤ 65535 → p + 3 ≤ 65535
 condition-place s l = omega (arith, has-header s)
 
-pub if-small : {m : List ℕ} {d p : ℕ} → StandsAs m d StatementKind p → byte m p ≡ 0x22 → Small (names (statementAt m d p)) → Small (namesIn (blockAt m (d - 1) (endOf m (p + 3))) ++ namesIn (blockAt m (d - 1) (endOf m (endOf m (p + 3)))))
-if-small s tag small = small-same small (conditional-names s refl tag refl)
+pub if-small : {m : List ℕ} {d p : ℕ} → StandsAs m d StatementKind p → byte m p ≡ 0x22 → Small (textOf (statementAt m d p)) → Small (both (textIn (blockAt m (d - 1) (endOf m (p + 3)))) (textIn (blockAt m (d - 1) (endOf m (endOf m (p + 3))))))
+if-small s tag small = small-same small (conditional-text s refl tag refl)
 
 module _ {m w out : List ℕ} {d p fill : ℕ} (here : Here) (s : StandsAs m d StatementKind p) (tag : byte m p ≡ 0x22) (e : Evaluated) (told : StandsAs m (d - 1) ExpressionKind (p + 3) → Tells m w out fill (here .scope) (evaluated e) (λ k c st. evaluate k c st (expressionAt m (d - 1) (p + 3)))) where
   test-run : {o : Outcome Labelled} (k : Known) (es : List Entry) (n r : ℕ) → evaluated e ≡ o → Ready m w out fill k es → (o >>= λ x. decideIf p (p + 3) (blockAt m (d - 1) (endOf m (p + 3))) (blockAt m (d - 1) (endOf m (endOf m (p + 3)))) x (contextOf here) (stateOf w es n r)) ≡ testIfAt m (d - 1) p k (contextOf here) (stateOf w es n r)

@@ -1,7 +1,6 @@
 // What statements without declarations do after their step and before any block runs, over the manifest's bytes in place. What an answer means is in specs/.
 ghost use mathlib.Core.Path.{_≡_};
 ghost use Prim.Native.Nat.{_+_, _-_, _≤_, _<_};
-ghost use mathlib.Core.List.{_++_};
 ghost use lib.ListN.{length};
 ghost use Rattle.labels.specs.Sets.{_∪_};
 ghost use Rattle.wire.specs.Bytes.{byte, two, endOf, fieldsIn};
@@ -12,7 +11,8 @@ ghost use Rattle.places.specs.At.{statementAt, blockAt, branchesAt, StandsAs, S
 ghost use Rattle.cells.specs.Layout.{trailOf};
 ghost use Rattle.cells.specs.Memory.{outcome};
 ghost use Rattle.evaluator.specs.Known.{Sized};
-ghost use Rattle.branches.specs.Names.{names, namesIn, namesAny, Small};
+ghost use Rattle.branches.specs.Names.{contains};
+ghost use Rattle.branches.specs.Texts.{textOf, textIn, textAny, both, Small};
 ghost use Rattle.statements.specs.Cases.{branchesOf, Matches, afterCase, decideCase, testCaseAt, caseAs, blockStands};
 ghost use Rattle.statements.specs.Tests.{afterIf, decideIf, testIfAt, testedAs, Tests};
 ghost use Rattle.statements.specs.Answers.{ranAs, Does, Runs};
@@ -76,6 +76,29 @@ fn condition_set(work: &[u8], own: Labels, path: Labels) -> Labels
     memory::path_and_trail(work, path).union(own)
 }
 
+// The marks and the trail after the test of the condition at p, whose branches assign these names and declare or do not.
+fn enter(
+    work: &mut [u8],
+    p: usize,
+    here: Context,
+    set: Labels,
+    names: &[u64; 16],
+    declares: bool,
+) -> Ran
+    requires { ⌜ ((65536 ≤ length (now work)) × (length (now names) ≡ 16)) × (p ≤ 65535) ⌝ }
+    ensures { λ r. ⌜ Does (now (work .entry)) (now (work .exit)) here (ranAs r) (λ c st. rules.afterTest p c (contains (now (names .entry))) «declares» set st) ⌝ }
+{
+    let stored = branches::mark_names(work, here.scope.number, names, set);
+    let Stored::Done = stored else {
+        return store_answer(stored, p);
+    };
+    if !declares {
+        return Ran::Done;
+    }
+    memory::join_trail(work, set);
+    Ran::Done
+}
+
 // ---- Assignments
 
 // Gives a variable the value x, for a statement at p.
@@ -125,23 +148,17 @@ fn enter_if(
     here: Context,
     set: Labels,
 ) -> Ran
-    requires { ⌜ (((length (now m) ≤ 65535) × (65536 ≤ length (now work))) × (p ≤ 65535)) × ((StandsAs (now m) below Block q × StandsAs (now m) below Block (endOf (now m) q)) × Small (namesIn (blockAt (now m) below q) ++ namesIn (blockAt (now m) below (endOf (now m) q)))) ⌝ }
+    requires { ⌜ (((length (now m) ≤ 65535) × (65536 ≤ length (now work))) × (p ≤ 65535)) × ((StandsAs (now m) below Block q × StandsAs (now m) below Block (endOf (now m) q)) × Small (both (textIn (blockAt (now m) below q)) (textIn (blockAt (now m) below (endOf (now m) q))))) ⌝ }
     ensures { λ r. ⌜ Does (now (work .entry)) (now (work .exit)) here (ranAs r) (afterIf p (blockAt (now (m .entry)) below q) (blockAt (now (m .entry)) below (endOf (now (m .entry)) q)) set) ⌝ }
 {
-    let stored = branches::mark_both(m, below, q, work, here.scope.number, set);
-    let Stored::Done = stored else {
-        return store_answer(stored, p);
-    };
-    if !branches::declares_both(m, below, q) {
-        return Ran::Done;
-    }
-    memory::join_trail(work, set);
-    Ran::Done
+    let mut names = [0u64; 16];
+    let declares = branches::collect_both(m, below, q, &mut names);
+    enter(work, p, here, set, &names, declares)
 }
 
 // The if at p, whose condition is x.
 fn decide_if(m: &[u8], below: u8, p: usize, work: &mut [u8], here: Context, x: Labelled) -> Tested
-    requires { ⌜ (((length (now m) ≤ 65535) × (65536 ≤ length (now work))) × (p + 3 ≤ 65535)) × ((StandsAs (now m) below Block (endOf (now m) (p + 3)) × StandsAs (now m) below Block (endOf (now m) (endOf (now m) (p + 3)))) × Small (namesIn (blockAt (now m) below (endOf (now m) (p + 3))) ++ namesIn (blockAt (now m) below (endOf (now m) (endOf (now m) (p + 3)))))) ⌝ }
+    requires { ⌜ (((length (now m) ≤ 65535) × (65536 ≤ length (now work))) × (p + 3 ≤ 65535)) × ((StandsAs (now m) below Block (endOf (now m) (p + 3)) × StandsAs (now m) below Block (endOf (now m) (endOf (now m) (p + 3)))) × Small (both (textIn (blockAt (now m) below (endOf (now m) (p + 3)))) (textIn (blockAt (now m) below (endOf (now m) (endOf (now m) (p + 3))))))) ⌝ }
     ensures { λ r. ⌜ Does (now (work .entry)) (now (work .exit)) here (testedAs r) (decideIf p (p + 3) (blockAt (now (m .entry)) below (endOf (now (m .entry)) (p + 3))) (blockAt (now (m .entry)) below (endOf (now (m .entry)) (endOf (now (m .entry)) (p + 3)))) x) ⌝ }
 {
     let value = x.value;
@@ -169,7 +186,7 @@ pub fn test_if(
     fill: usize,
     here: Context,
 ) -> Tested
-    requires { ⌜ (Sized (now m) (now work) (now out) fill p × StandsAs (now m) depth Statement p) × ((byte (now m) p ≡ 0x22) × Small (names (statementAt (now m) depth p))) ⌝ }
+    requires { ⌜ (Sized (now m) (now work) (now out) fill p × StandsAs (now m) depth Statement p) × ((byte (now m) p ≡ 0x22) × Small (textOf (statementAt (now m) depth p))) ⌝ }
     ensures { λ r. ⌜ Tests (now (m .entry)) (now (work .entry)) (now (work .exit)) (now (out .entry)) fill here (testedAs r) (testIfAt (now (m .entry)) (depth - 1) p) ⌝ }
 {
     let scope = here.scope;
@@ -228,18 +245,12 @@ fn enter_case(
     here: Context,
     set: Labels,
 ) -> Ran
-    requires { ⌜ (((length (now m) ≤ 65535) × (65536 ≤ length (now work))) × (p ≤ 65535)) × (Siblings (now m) below Branch from end × Small (namesAny (branchesAt (now m) below (fieldsIn (now m) from end)))) ⌝ }
+    requires { ⌜ (((length (now m) ≤ 65535) × (65536 ≤ length (now work))) × (p ≤ 65535)) × (Siblings (now m) below Branch from end × Small (textAny (branchesAt (now m) below (fieldsIn (now m) from end)))) ⌝ }
     ensures { λ r. ⌜ Does (now (work .entry)) (now (work .exit)) here (ranAs r) (afterCase p (branchesAt (now (m .entry)) below (fieldsIn (now (m .entry)) from end)) set) ⌝ }
 {
-    let stored = branches::mark_any(m, below, from, end, work, here.scope.number, set);
-    let Stored::Done = stored else {
-        return store_answer(stored, p);
-    };
-    if !branches::declares_any(m, below, from, end) {
-        return Ran::Done;
-    }
-    memory::join_trail(work, set);
-    Ran::Done
+    let mut names = [0u64; 16];
+    let declares = branches::collect_any(m, below, from, end, &mut names);
+    enter(work, p, here, set, &names, declares)
 }
 
 // The case at p, whose value is x.
@@ -251,7 +262,7 @@ fn decide_case(
     here: Context,
     x: Labelled,
 ) -> TestedCase
-    requires { ⌜ (((length (now m) ≤ 65535) × (65536 ≤ length (now work))) × ((p + 3 ≤ 65535) × (endOf (now m) p ≤ 65535))) × (Siblings (now m) below Branch (endOf (now m) (p + 3)) (endOf (now m) p) × Small (namesAny (branchesOf (now m) below p))) ⌝ }
+    requires { ⌜ (((length (now m) ≤ 65535) × (65536 ≤ length (now work))) × ((p + 3 ≤ 65535) × (endOf (now m) p ≤ 65535))) × (Siblings (now m) below Branch (endOf (now m) (p + 3)) (endOf (now m) p) × Small (textAny (branchesOf (now m) below p))) ⌝ }
     ensures { λ r. ⌜ Does (now (work .entry)) (now (work .exit)) here (caseAs (now (m .entry)) (below - 1) r) (decideCase p (branchesOf (now (m .entry)) below p) x) × blockStands (now (m .entry)) (below - 1) p r ⌝ }
 {
     let value = x.value;
@@ -285,7 +296,7 @@ pub fn test_case(
     fill: usize,
     here: Context,
 ) -> TestedCase
-    requires { ⌜ (Sized (now m) (now work) (now out) fill p × StandsAs (now m) depth Statement p) × ((byte (now m) p ≡ 0x23) × Small (names (statementAt (now m) depth p))) ⌝ }
+    requires { ⌜ (Sized (now m) (now work) (now out) fill p × StandsAs (now m) depth Statement p) × ((byte (now m) p ≡ 0x23) × Small (textOf (statementAt (now m) depth p))) ⌝ }
     ensures { λ r. ⌜ Tests (now (m .entry)) (now (work .entry)) (now (work .exit)) (now (out .entry)) fill here (caseAs (now (m .entry)) (depth - 1 - 1) r) (testCaseAt (now (m .entry)) (depth - 1) p) × blockStands (now (m .entry)) (depth - 1 - 1) p r ⌝ }
 {
     let scope = here.scope;
