@@ -186,57 +186,57 @@ module _ (next next′ : ℕ → ℕ) where
 
 -- ---- References that count
 
-module _ (names : ℕ → ℕ) (n p : ℕ) where
-  pub counted-none : counted names n p 0 ≡ 0
+module _ (chains : ℕ → ℕ) (n p : ℕ) where
+  pub counted-none : counted chains n p 0 ≡ 0
   unfolding counted
   counted-none = refl
 
-  pub counted-past : (i : ℕ) → p ≤ i → counted names n p (suc i) ≡ 0
+  pub counted-past : (i : ℕ) → p ≤ i → counted chains n p (suc i) ≡ 0
   unfolding counted
   counted-past i l = rw (le-ltb i p l) refl
 
-  pub counted-other : (i : ℕ) → i < p → (names i ≡ n → ⊥) → counted names n p (suc i) ≡ 0
+  pub counted-other : (i : ℕ) → i < p → (chains i ≡ n → ⊥) → counted chains n p (suc i) ≡ 0
   unfolding counted
-  counted-other i l ne = rw (lt-ltb i p l, ne-eqb (names i) n ne) refl
+  counted-other i l ne = rw (lt-ltb i p l, ne-eqb (chains i) n ne) refl
 
-  pub counted-some : (i : ℕ) → i < p → names i ≡ n → counted names n p (suc i) ≡ suc i
+  pub counted-some : (i : ℕ) → i < p → chains i ≡ n → counted chains n p (suc i) ≡ suc i
   unfolding counted
-  counted-some i l e = rw (lt-ltb i p l, eq-eqb (names i) n e) refl
+  counted-some i l e = rw (lt-ltb i p l, eq-eqb (chains i) n e) refl
 
   -- a reference that is sound counts
-  pub counted-sound : (v : ℕ) → ((i : ℕ) → v ≡ suc i → (i < p) × (names i ≡ n)) → counted names n p v ≡ v
+  pub counted-sound : (v : ℕ) → ((i : ℕ) → v ≡ suc i → (i < p) × (chains i ≡ n)) → counted chains n p v ≡ v
   counted-sound zero sound = counted-none
   counted-sound (suc i) sound = let s = sound i refl in counted-some i (s .0) (s .1)
 
   -- what a reference that counts tells
-  pub counted-is : (r i : ℕ) → counted names n p r ≡ suc i → (r ≡ suc i) × ((i < p) × (names i ≡ n))
+  pub counted-is : (r i : ℕ) → counted chains n p r ≡ suc i → (r ≡ suc i) × ((i < p) × (chains i ≡ n))
   unfolding counted
   counted-is zero i e = absurd (omega arith)
-  counted-is (suc k) i e = go (ltb k p) refl (eqb (names k) n) refl e
+  counted-is (suc k) i e = go (ltb k p) refl (eqb (chains k) n) refl e
     where
-      go : (t : Bool) → ltb k p ≡ t → (u : Bool) → eqb (names k) n ≡ u → pick t (pick u (suc k) 0) 0 ≡ suc i → (suc k ≡ suc i) × ((i < p) × (names i ≡ n))
-      go true f true g q = let z : k ≡ i = omega arith in (q, (omega (arith, ltb-true k p f), rw (sym z) (eqb-true (names k) n g)))
+      go : (t : Bool) → ltb k p ≡ t → (u : Bool) → eqb (chains k) n ≡ u → pick t (pick u (suc k) 0) 0 ≡ suc i → (suc k ≡ suc i) × ((i < p) × (chains i ≡ n))
+      go true f true g q = let z : k ≡ i = omega arith in (q, (omega (arith, ltb-true k p f), rw (sym z) (eqb-true (chains k) n g)))
       go true f false g q = absurd (omega arith)
       go false f u g q = absurd (omega arith)
 
-  pub counted-falls : (r : ℕ) → counted names n p r ≤ p
+  pub counted-falls : (r : ℕ) → counted chains n p r ≤ p
   unfolding counted
   counted-falls zero = omega arith
-  counted-falls (suc k) = go (ltb k p) refl (eqb (names k) n)
+  counted-falls (suc k) = go (ltb k p) refl (eqb (chains k) n)
     where
       go : (t : Bool) → ltb k p ≡ t → (u : Bool) → pick t (pick u (suc k) 0) 0 ≤ p
       go true f true = omega (arith, ltb-true k p f)
       go true f false = omega arith
       go false f u = omega arith
 
--- where the names are the same but that of slot j, and a reference to j counts as it did
-pub counted-same : (names names′ : ℕ → ℕ) (j n p r : ℕ) → ((i : ℕ) → i < p → (i ≡ j → ⊥) → names′ i ≡ names i) → (r ≡ suc j → j < p → eqb (names′ j) n ≡ eqb (names j) n)
-    → counted names′ n p r ≡ counted names n p r
+-- where the chains of slots are the same but that of slot j, and a reference to j counts as it did
+pub counted-same : (chains chains′ : ℕ → ℕ) (j n p r : ℕ) → ((i : ℕ) → i < p → (i ≡ j → ⊥) → chains′ i ≡ chains i) → (r ≡ suc j → j < p → eqb (chains′ j) n ≡ eqb (chains j) n)
+    → counted chains′ n p r ≡ counted chains n p r
 unfolding counted
-counted-same names names′ j n p zero same own = refl
-counted-same names names′ j n p (suc i) same own = go (ltb i p) refl
+counted-same chains chains′ j n p zero same own = refl
+counted-same chains chains′ j n p (suc i) same own = go (ltb i p) refl
   where
-    go : (t : Bool) → ltb i p ≡ t → pick t (pick (eqb (names′ i) n) (suc i) 0) 0 ≡ pick t (pick (eqb (names i) n) (suc i) 0) 0
+    go : (t : Bool) → ltb i p ≡ t → pick t (pick (eqb (chains′ i) n) (suc i) 0) 0 ≡ pick t (pick (eqb (chains i) n) (suc i) 0) 0
     go true e =
         let l : i < p = ltb-true i p e in
         is-or-not i j (λ z. rw z (ap (λ (u : Bool). pick u (suc j) 0) (own (ap suc z) (omega arith)))) (λ ne. rw (same i l ne) refl)

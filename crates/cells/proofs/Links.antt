@@ -11,21 +11,21 @@ use Rattle.wire.specs.Bytes.{pick, byte, two}
 use Rattle.wire.specs.Numbers.{highBytes}
 use Rattle.wire.specs.Runs.{over}
 use Rattle.wire.proofs.Laws.{over-length, byte-outside, high-length, stored-two}
-use Rattle.cells.specs.Chains.{counted, Way, begin, step}
-use Rattle.cells.specs.Layout.{keyAt, recordAt, linkAt, nameIn, placeAt, linkIn, nextIn, chained, besideSlots, trailAt, keyName}
-use Rattle.cells.proofs.Chains.{same-test, on-way, way-small, way-on, gap, same-way, same-back, counted-none, counted-is, counted-falls, counted-same}
+use Rattle.cells.specs.Chains.{Way, begin, step}
+use Rattle.cells.specs.Layout.{keyAt, recordAt, linkAt, chainIn, placeAt, linkIn, nextIn, chained, besideSlots, trailAt, keyName}
+use Rattle.cells.proofs.Chains.{same-test, on-way, way-small, way-on, gap, same-way, same-back, counted-is, counted-falls, counted-same}
 use Rattle.cells.proofs.Regions.{same-two, beside-same}
 
--- ---- The chain of a name
+-- ---- One chain
 
 module _ (w : List ℕ) (n : ℕ) where
   pub next-falls : (p : ℕ) → nextIn w n p ≤ p
   unfolding nextIn
-  next-falls p = counted-falls (nameIn w) n p (linkIn w n p)
+  next-falls p = counted-falls (chainIn w) n p (linkIn w n p)
 
-  pub next-is : (p i : ℕ) → nextIn w n p ≡ suc i → (linkIn w n p ≡ suc i) × ((i < p) × (nameIn w i ≡ n))
+  pub next-is : (p i : ℕ) → nextIn w n p ≡ suc i → (linkIn w n p ≡ suc i) × ((i < p) × (chainIn w i ≡ n))
   unfolding nextIn
-  next-is p i e = counted-is (nameIn w) n p (linkIn w n p) i e
+  next-is p i e = counted-is (chainIn w) n p (linkIn w n p) i e
 
   on-chain : (x : ℕ) → chained w n x ≡ true → Way (nextIn w n) x
   unfolding chained
@@ -49,9 +49,9 @@ module _ (w : List ℕ) (n : ℕ) where
   pub chain-small : (p : ℕ) → Way (nextIn w n) p → p ≤ 512
   chain-small p way = way-small (nextIn w n) next-falls p way
 
-  pub chain-named : (k : ℕ) → Way (nextIn w n) k → k < 512 → nameIn w k ≡ n
-  chain-named k begin l = absurd (omega arith)
-  chain-named k (step {p = p} way e) l = next-is p k e .1 .1
+  pub chain-is : (k : ℕ) → Way (nextIn w n) k → k < 512 → chainIn w k ≡ n
+  chain-is k begin l = absurd (omega arith)
+  chain-is k (step {p = p} way e) l = next-is p k e .1 .1
 
 -- chains by their ways
 pub same-chained : (w w′ : List ℕ) (n x : ℕ) → x < 512 → (Way (nextIn w n) x → Way (nextIn w′ n) x) → (Way (nextIn w′ n) x → Way (nextIn w n) x) → chained w′ n x ≡ chained w n x
@@ -60,10 +60,14 @@ same-chained w w′ n x l to from = same-test (chained w′ n x) (chained w n x)
 pub same-chain : (w w′ : List ℕ) (n x : ℕ) → x < 512 → ((k : ℕ) → Way (nextIn w n) k → nextIn w′ n k ≡ nextIn w n k) → chained w′ n x ≡ chained w n x
 same-chain w w′ n x l same = same-chained w w′ n x l (same-way (nextIn w n) (nextIn w′ n) same x) (same-back (nextIn w n) (nextIn w′ n) same x)
 
--- where the names of all slots are the same, the same reference counts
-pub next-kept : (w w′ : List ℕ) (n p : ℕ) → p ≤ 512 → ((i : ℕ) → i < 512 → nameIn w′ i ≡ nameIn w i) → linkIn w′ n p ≡ linkIn w n p → nextIn w′ n p ≡ nextIn w n p
+-- where the chains of all slots are the same, the same reference counts
+pub next-kept : (w w′ : List ℕ) (n p : ℕ) → p ≤ 512 → ((i : ℕ) → i < 512 → chainIn w′ i ≡ chainIn w i) → linkIn w′ n p ≡ linkIn w n p → nextIn w′ n p ≡ nextIn w n p
 unfolding nextIn
-next-kept w w′ n p small names link = rw link (counted-same (nameIn w) (nameIn w′) p n p (linkIn w n p) (λ i l ne. names i (omega arith)) (λ e l. absurd (omega arith)))
+next-kept w w′ n p small names link = rw link (counted-same (chainIn w) (chainIn w′) p n p (linkIn w n p) (λ i l ne. names i (omega arith)) (λ e l. absurd (omega arith)))
+
+-- where the bytes of the slots are
+pub low-chains : (w w′ : List ℕ) → ((k : ℕ) → k < trailAt → byte w′ k ≡ byte w k) → (i : ℕ) → i < 512 → chainIn w′ i ≡ chainIn w i
+low-chains w w′ low i l = rw (same-two w w′ (keyAt i) (λ j h. low (keyAt i + j) (omega arith)), same-two w w′ (keyAt i + keyName) (λ j h. low (keyAt i + keyName + j) (omega arith))) refl
 
 -- ---- Links
 
@@ -76,8 +80,8 @@ links-same w w′ links heads q p = go (ltb p 512) refl (ltb q 1024) refl
     go false e true f = heads q (ltb-true q 1024 f)
     go false e false f = refl
 
--- where names and links are the same, so are the chains
-pub chains-same : (w w′ : List ℕ) → ((i : ℕ) → i < 512 → nameIn w′ i ≡ nameIn w i) → ((q p : ℕ) → linkIn w′ q p ≡ linkIn w q p) → (n x : ℕ) → x < 512 → chained w′ n x ≡ chained w n x
+-- where the slots' keys and the links are the same, so are the chains
+pub chains-same : (w w′ : List ℕ) → ((i : ℕ) → i < 512 → chainIn w′ i ≡ chainIn w i) → ((q p : ℕ) → linkIn w′ q p ≡ linkIn w q p) → (n x : ℕ) → x < 512 → chained w′ n x ≡ chained w n x
 chains-same w w′ names links n x l = same-chain w w′ n x l (λ k way. next-kept w w′ n k (chain-small w n k way) names (links n k))
 
 pub link-slot : (w : List ℕ) (n p : ℕ) → p < 512 → linkIn w n p ≡ two w (linkAt p)
@@ -92,10 +96,6 @@ link-head w n p l h = rw (le-ltb p 512 l, lt-ltb n 1024 h) refl
 pub no-head : (w : List ℕ) (n p : ℕ) → 512 ≤ p → 1024 ≤ n → linkIn w n p ≡ 0
 unfolding linkIn
 no-head w n p l h = rw (le-ltb p 512 l, le-ltb n 1024 h) refl
-
-pub no-next : (w : List ℕ) (n p : ℕ) → 512 ≤ p → 1024 ≤ n → nextIn w n p ≡ 0
-unfolding nextIn
-no-next w n p l h = ap (counted (nameIn w) n p) (no-head w n p l h) ∙ counted-none (nameIn w) n p
 
 place-slot : (n p : ℕ) → p < 512 → placeAt n p ≡ linkAt p
 unfolding placeAt
@@ -184,6 +184,6 @@ module _ (w : List ℕ) (n p v : ℕ) (small : p ≤ 512) (room : 65536 ≤ leng
       go true f = let l : p < 512 = ltb-true p 512 f in relinked-slot l (e ∙ ap (λ (a : ℕ). over w a (highBytes 2 v)) (place-slot n p l))
       go false f = let l : 512 ≤ p = ltb-false p 512 f in relinked-head l (below l) (e ∙ ap (λ (a : ℕ). over w a (highBytes 2 v)) (place-head n p l))
 
-  -- the names of slots stay
-  pub names-kept : {w′ : List ℕ} → Relinked w w′ n p v → (i : ℕ) → i < 512 → nameIn w′ i ≡ nameIn w i
-  names-kept {w′} r i l = same-two w w′ (keyAt i + keyName) (λ j h. r .low (keyAt i + keyName + j) (omega arith))
+  -- the slots' keys stay
+  pub chain-kept : {w′ : List ℕ} → Relinked w w′ n p v → (i : ℕ) → i < 512 → chainIn w′ i ≡ chainIn w i
+  chain-kept {w′} r = low-chains w w′ (r .low)

@@ -21,12 +21,12 @@ use Rattle.wire.proofs.Laws.{two-in, over-in, run-length, same-run, over-length
 use Rattle.records.specs.Record.{recordSize, kindAt, recordBytes, recordIn}
 use Rattle.records.proofs.Values.{Ranged}
 use Rattle.records.proofs.Laws.{record-in, record-length, record-back, record-outside, record-emptied}
-use Rattle.cells.specs.Layout.{keyAt, bodyAt, recordAt, linkAt, nameIn, linkIn, chained, besideSlots, Slot, slot, blankSlot, slotAt, slotsOf, bodySize, bodyMark, trailAt, hintAt, keyName, keySize}
+use Rattle.cells.specs.Layout.{keyAt, bodyAt, recordAt, linkAt, chainOf, chainIn, linkIn, chained, besideSlots, Slot, slot, blankSlot, slotAt, slotsOf, bodySize, bodyMark, trailAt, hintAt, keyName, keySize}
 use Rattle.cells.specs.Slots.{StoresAt, inUse, neverUsed, isReached, renewed, filled, marked, emptied}
 use Rattle.cells.proofs.Tables.{put-same, put-put, table-in, table-same, table-put}
 use Rattle.cells.proofs.Regions.{same-two, beside-same}
 use Rattle.cells.proofs.Chains.{is-or-not}
-use Rattle.cells.proofs.Links.{links-same, chains-same}
+use Rattle.cells.proofs.Links.{low-chains, links-same, chains-same}
 
 pub slot-in : (w : List ℕ) (i : ℕ) → i < 512 → slotsOf w i ≡ slotAt w i
 unfolding slotsOf
@@ -37,7 +37,7 @@ pub used-read : (w : List ℕ) (i : ℕ) → i < 512 → inUse (slotsOf w i) ≡
 unfolding inUse slotAt
 used-read w i l = rw (slot-in w i l) refl
 
-pub reached-is : (w : List ℕ) (i : ℕ) → i < 512 → isReached (slotsOf w i) ≡ chained w (nameIn w i) i
+pub reached-is : (w : List ℕ) (i : ℕ) → i < 512 → isReached (slotsOf w i) ≡ chained w (chainIn w i) i
 unfolding isReached slotAt
 reached-is w i l = rw (slot-in w i l) refl
 
@@ -60,7 +60,7 @@ bodyOf w i = bytesAt w (bodyAt i) bodySize
 abbrev pub fieldsAt : List ℕ → ℕ → Bool → Slot
 fieldsAt w i r = slotFrom r (byte w i) (keyOf w i) (bodyOf w i)
 
-pub slot-fields : (w : List ℕ) (i : ℕ) → slotAt w i ≡ fieldsAt w i (chained w (nameIn w i) i)
+pub slot-fields : (w : List ℕ) (i : ℕ) → slotAt w i ≡ fieldsAt w i (chained w (chainIn w i) i)
 unfolding slotAt slotFrom
 slot-fields w i =
     let zero-key : keyAt i + 0 ≡ keyAt i = omega arith in
@@ -88,19 +88,19 @@ pub low-fields : (w w′ : List ℕ) → ((k : ℕ) → k < trailAt → byte w�
 low-fields w w′ same i l = same-fields w w′ i (same i (omega arith)) (λ k a b. same k (omega arith)) (λ k a b. same k (omega arith))
 
 -- slots that are reached alike, and have the same bytes
-pub same-slot : (w w′ : List ℕ) (i : ℕ) → nameIn w′ i ≡ nameIn w i → chained w′ (nameIn w i) i ≡ chained w (nameIn w i) i → ((r : Bool) → fieldsAt w′ i r ≡ fieldsAt w i r) → slotAt w′ i ≡ slotAt w i
-same-slot w w′ i name reached fields =
-    slot-fields w′ i ∙ ap (fieldsAt w′ i) (ap (λ (n : ℕ). chained w′ n i) name ∙ reached) ∙ fields (chained w (nameIn w i) i) ∙ sym (slot-fields w i)
+pub same-slot : (w w′ : List ℕ) (i : ℕ) → chainIn w′ i ≡ chainIn w i → chained w′ (chainIn w i) i ≡ chained w (chainIn w i) i → ((r : Bool) → fieldsAt w′ i r ≡ fieldsAt w i r) → slotAt w′ i ≡ slotAt w i
+same-slot w w′ i chain reached fields =
+    slot-fields w′ i ∙ ap (fieldsAt w′ i) (ap (λ (n : ℕ). chained w′ n i) chain ∙ reached) ∙ fields (chained w (chainIn w i) i) ∙ sym (slot-fields w i)
 
 -- where all bytes of the slots, the heads and the links are the same
 pub slots-same : (w w′ : List ℕ) → ((k : ℕ) → k < trailAt → byte w′ k ≡ byte w k) → ((q : ℕ) → q < 1024 → two w′ (recordAt q) ≡ two w (recordAt q)) → ((k : ℕ) → linkAt 0 ≤ k → k < hintAt → byte w′ k ≡ byte w k) → slotsOf w′ ≡ slotsOf w
 unfolding slotsOf
 slots-same w w′ low heads links =
     table-same 512 (slotAt w) (slotAt w′) blankSlot
-    (λ i l. same-slot w w′ i (name i l) (chains-same w w′ name (links-same w w′ (λ p b. same-two w w′ (linkAt p) (λ j h. links (linkAt p + j) (omega arith) (omega arith))) heads) (nameIn w i) i l) (low-fields w w′ low i l))
+    (λ i l. same-slot w w′ i (chain i l) (chains-same w w′ chain (links-same w w′ (λ p b. same-two w w′ (linkAt p) (λ j h. links (linkAt p + j) (omega arith) (omega arith))) heads) (chainIn w i) i l) (low-fields w w′ low i l))
   where
-    name : (i : ℕ) → i < 512 → nameIn w′ i ≡ nameIn w i
-    name i l = same-two w w′ (keyAt i + keyName) (λ j h. low (keyAt i + keyName + j) (omega arith))
+    chain : (i : ℕ) → i < 512 → chainIn w′ i ≡ chainIn w i
+    chain = low-chains w w′ low
 
 -- ---- Stores at slot j
 
@@ -128,6 +128,10 @@ withScope v (slot r t s n c m) = slot r t v n c m
 unfoldable pub withName : ℕ → Slot → Slot
 withName v (slot r t s n c m) = slot r t s v c m
 
+-- a key is stored in two parts
+abbrev pub withKey : (scope name : ℕ) → Slot → Slot
+withKey s n x = withName n (withScope s x)
+
 unfoldable pub withContent : Option Labelled → Slot → Slot
 withContent v (slot r t s n c m) = slot r t s n v m
 
@@ -137,9 +141,15 @@ withMark v (slot r t s n c m) = slot r t s n c v
 unfoldable pub nameOf : Slot → ℕ
 nameOf (slot r t s n c m) = n
 
-pub name-fields : (w : List ℕ) (i : ℕ) (r : Bool) → nameOf (fieldsAt w i r) ≡ nameIn w i
-unfolding nameOf slotFrom
-name-fields w i r = two-in w (keyAt i) keySize keyName (omega arith)
+-- the chain of its key
+unfoldable pub chainFor : Slot → ℕ
+chainFor (slot r t s n c m) = chainOf s n
+
+pub chain-fields : (w : List ℕ) (i : ℕ) (r : Bool) → chainFor (fieldsAt w i r) ≡ chainIn w i
+unfolding chainFor slotFrom
+chain-fields w i r =
+    let zero-key : keyAt i + 0 ≡ keyAt i = omega arith in
+    rw (two-in w (keyAt i) keySize 0 (omega arith), two-in w (keyAt i) keySize keyName (omega arith), zero-key) refl
 
 module _ (w : List ℕ) (j : ℕ) (below : j < 512) (room : 65536 ≤ length w) where
   pub state-step : {w′ : List ℕ} (v : ℕ) → v < 256 → w′ ≡ over w j (highBytes 1 v) → Step j w w′ (withState v)
@@ -249,29 +259,29 @@ module _ (j : ℕ) (w w′ : List ℕ) (g : Slot → Slot) (below : j < 512) (st
       same-fields w w′ i (step .mine i ne (λ a b. omega arith) (λ a b. omega arith)) (λ k p q. step .mine k (λ z. omega arith) (λ a b. ne (omega arith)) (λ a b. omega arith))
       (λ k p q. step .mine k (λ z. omega arith) (λ a b. omega arith) (λ a b. ne (omega arith)))
 
-  pub step-names : (i : ℕ) → i < 512 → (i ≡ j → ⊥) → nameIn w′ i ≡ nameIn w i
-  step-names i l ne = sym (name-fields w′ i false) ∙ ap nameOf (step-fields i l ne false) ∙ name-fields w i false
+  pub step-chains : (i : ℕ) → i < 512 → (i ≡ j → ⊥) → chainIn w′ i ≡ chainIn w i
+  step-chains i l ne = sym (chain-fields w′ i false) ∙ ap chainFor (step-fields i l ne false) ∙ chain-fields w i false
 
-  pub step-name : nameIn w′ j ≡ nameOf (g (fieldsAt w j false))
-  step-name = sym (name-fields w′ j false) ∙ ap nameOf (step .own false)
+  pub step-chain : chainIn w′ j ≡ chainFor (g (fieldsAt w j false))
+  step-chain = sym (chain-fields w′ j false) ∙ ap chainFor (step .own false)
 
--- `same` says that the run of field stores, which keeps the name, is the change that the contract names
-pub changed : (j : ℕ) (w w′ : List ℕ) (g h : Slot → Slot) → j < 512 → Step j w w′ g → ((x : Slot) → nameOf (g x) ≡ nameOf x) → ((x : Slot) → g x ≡ h x) → StoresAt j h w w′
+-- `same` says that the run of field stores, which keeps the chain, is the change that the contract names
+pub changed : (j : ℕ) (w w′ : List ℕ) (g h : Slot → Slot) → j < 512 → Step j w w′ g → ((x : Slot) → chainFor (g x) ≡ chainFor x) → ((x : Slot) → g x ≡ h x) → StoresAt j h w w′
 unfolding slotsOf
 changed j w w′ g h below step keeps same = (
-  table-put 512 (slotAt w) (slotAt w′) blankSlot j (h (slotsOf w j)) below own (λ i l ne. same-slot w w′ i (name i l) (reached i l) (step-fields j w w′ g below step i l ne)),
+  table-put 512 (slotAt w) (slotAt w′) blankSlot j (h (slotsOf w j)) below own (λ i l ne. same-slot w w′ i (chain i l) (reached i l) (step-fields j w w′ g below step i l ne)),
   step-beside j w w′ g below step,
 )
   where
-    name : (i : ℕ) → i < 512 → nameIn w′ i ≡ nameIn w i
-    name i l = is-or-not i j (λ z. rw z (step-name j w w′ g below step ∙ keeps (fieldsAt w j false) ∙ name-fields w j false)) (step-names j w w′ g below step i l)
+    chain : (i : ℕ) → i < 512 → chainIn w′ i ≡ chainIn w i
+    chain i l = is-or-not i j (λ z. rw z (step-chain j w w′ g below step ∙ keeps (fieldsAt w j false) ∙ chain-fields w j false)) (step-chains j w w′ g below step i l)
 
-    reached : (i : ℕ) → i < 512 → chained w′ (nameIn w i) i ≡ chained w (nameIn w i) i
-    reached i l = chains-same w w′ name (step-links j w w′ g below step) (nameIn w i) i l
+    reached : (i : ℕ) → i < 512 → chained w′ (chainIn w i) i ≡ chained w (chainIn w i) i
+    reached i l = chains-same w w′ chain (step-links j w w′ g below step) (chainIn w i) i l
 
     own : slotAt w′ j ≡ h (slotsOf w j)
     own =
-        slot-fields w′ j ∙ ap (fieldsAt w′ j) (ap (λ (n : ℕ). chained w′ n j) (name j below) ∙ reached j below) ∙ step .own (chained w (nameIn w j) j) ∙ same (fieldsAt w j (chained w (nameIn w j) j))
+        slot-fields w′ j ∙ ap (fieldsAt w′ j) (ap (λ (n : ℕ). chained w′ n j) (chain j below) ∙ reached j below) ∙ step .own (chained w (chainIn w j) j) ∙ same (fieldsAt w j (chained w (chainIn w j) j))
         ∙ ap h (sym (slot-fields w j) ∙ sym (slot-in w j below))
 
 -- one store after the other, at the same slot
@@ -283,33 +293,33 @@ filled-by : (x : Labelled) (y : Slot) → withContent (some x) y ≡ filled x y
 unfolding withContent filled
 filled-by x (slot r t s n c m) = refl
 
-filled-name : (x : Labelled) (y : Slot) → nameOf (withContent (some x) y) ≡ nameOf y
-unfolding nameOf withContent
-filled-name x (slot r t s n c m) = refl
+filled-chain : (x : Labelled) (y : Slot) → chainFor (withContent (some x) y) ≡ chainFor y
+unfolding chainFor withContent
+filled-chain x (slot r t s n c m) = refl
 
 marked-by : (k : Labels) (x : Slot) → withMark k x ≡ marked k x
 unfolding withMark marked
 marked-by k (slot r t s n c m) = refl
 
-marked-name : (k : Labels) (x : Slot) → nameOf (withMark k x) ≡ nameOf x
-unfolding nameOf withMark
-marked-name k (slot r t s n c m) = refl
+marked-chain : (k : Labels) (x : Slot) → chainFor (withMark k x) ≡ chainFor x
+unfolding chainFor withMark
+marked-chain k (slot r t s n c m) = refl
 
 emptied-by : (x : Slot) → withState 5 x ≡ emptied x
 unfolding withState emptied
 emptied-by (slot r t s n c m) = refl
 
-emptied-name : (x : Slot) → nameOf (withState 5 x) ≡ nameOf x
-unfolding nameOf withState
-emptied-name (slot r t s n c m) = refl
+emptied-chain : (x : Slot) → chainFor (withState 5 x) ≡ chainFor x
+unfolding chainFor withState
+emptied-chain (slot r t s n c m) = refl
 
 renewed-by : (x : Slot) → withMark noLabels (withContent none (withState 1 x)) ≡ renewed x
 unfolding withState withContent withMark renewed
 renewed-by (slot r t s n c m) = refl
 
-renewed-name : (x : Slot) → nameOf (withMark noLabels (withContent none (withState 1 x))) ≡ nameOf x
-unfolding nameOf withState withContent withMark
-renewed-name (slot r t s n c m) = refl
+renewed-chain : (x : Slot) → chainFor (withMark noLabels (withContent none (withState 1 x))) ≡ chainFor x
+unfolding chainFor withState withContent withMark
+renewed-chain (slot r t s n c m) = refl
 
 pub renew-way : (w : List ℕ) (j : ℕ) {w1 w2 : List ℕ} (w3 : List ℕ) → j < 512 → 65536 ≤ length w → w1 ≡ over w j (highBytes 1 1) → w2 ≡ over w1 (kindAt (bodyAt j)) (highBytes 1 0)
     → w3 ≡ over w2 (bodyAt j + bodyMark) (labelBytes noLabels) → StoresAt j renewed w w3
@@ -317,19 +327,19 @@ renew-way w j {w1} {w2} w3 below room e1 e2 e3 =
     let a : Step j w w1 (withState 1) = state-step w j below room 1 (lit< tt) e1 in
     let b : Step j w w2 (λ x. withContent none (withState 1 x)) = a then empty-step w1 j below (omega (arith, a .size)) e2 in
     let c : Step j w w3 (λ x. withMark noLabels (withContent none (withState 1 x))) = b then mark-step w2 j below (omega (arith, b .size)) noLabels words-none e3 in
-    changed j w w3 (λ x. withMark noLabels (withContent none (withState 1 x))) renewed below c renewed-name renewed-by
+    changed j w w3 (λ x. withMark noLabels (withContent none (withState 1 x))) renewed below c renewed-chain renewed-by
 
 pub value-way : (w : List ℕ) (j : ℕ) (x : Labelled) {w1 : List ℕ} → j < 512 → 65536 ≤ length w → Ranged (x .value) → Words64 (x .labels) → w1 ≡ over w (bodyAt j) (recordBytes x)
     → StoresAt j (filled x) w w1
-value-way w j x {w1} below room value set e = changed j w w1 (withContent (some x)) (filled x) below (content-step w j below room x value set e) (filled-name x) (filled-by x)
+value-way w j x {w1} below room value set e = changed j w w1 (withContent (some x)) (filled x) below (content-step w j below room x value set e) (filled-chain x) (filled-by x)
 
 pub mark-way : (w : List ℕ) (j : ℕ) (k : Labels) {w1 : List ℕ} → j < 512 → 65536 ≤ length w → Words64 k → w1 ≡ over w (bodyAt j + bodyMark) (labelBytes k)
     → StoresAt j (marked k) w w1
-mark-way w j k {w1} below room hk e = changed j w w1 (withMark k) (marked k) below (mark-step w j below room k hk e) (marked-name k) (marked-by k)
+mark-way w j k {w1} below room hk e = changed j w w1 (withMark k) (marked k) below (mark-step w j below room k hk e) (marked-chain k) (marked-by k)
 
 pub empty-way : (w : List ℕ) (j : ℕ) {w1 : List ℕ} → j < 512 → 65536 ≤ length w → w1 ≡ over w j (highBytes 1 5)
     → StoresAt j emptied w w1
-empty-way w j {w1} below room e = changed j w w1 (withState 5) emptied below (state-step w j below room 5 (lit< tt) e) emptied-name emptied-by
+empty-way w j {w1} below room e = changed j w w1 (withState 5) emptied below (state-step w j below room 5 (lit< tt) e) emptied-chain emptied-by
 
 -- the store of the hint
 pub hint-way : (w : List ℕ) (v : ℕ) {w1 : List ℕ} → w1 ≡ over w hintAt (highBytes 2 v) → (slotsOf w1 ≡ slotsOf w) × (besideSlots w1 ≡ besideSlots w)

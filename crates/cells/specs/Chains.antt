@@ -5,10 +5,10 @@ use mathlib.Core.Bool.{Bool, true, false}
 use lib.Dec.{eqb, ltb}
 use Rattle.wire.specs.Bytes.{pick}
 
--- a reference at slot p counts for name n where it leads to a smaller number than p, and to a slot of that name: so every chain ends, whatever the bytes are
-unfoldable pub counted : (names : ℕ → ℕ) → (n p reference : ℕ) → ℕ
-counted names n p zero = 0
-counted names n p (suc i) = pick (ltb i p) (pick (eqb (names i) n) (suc i) 0) 0
+-- a reference at slot p counts in chain c where it leads to a smaller number than p, and to a slot of that chain: so every chain ends, whatever the bytes are
+unfoldable pub counted : (chains : ℕ → ℕ) → (c p reference : ℕ) → ℕ
+counted chains c p zero = 0
+counted chains c p (suc i) = pick (ltb i p) (pick (eqb (chains i) c) (suc i) 0) 0
 
 -- whether x is one of the slots below b that a reference r leads to, if `next` tells what follows each slot
 unfoldable pub leadsTo : (next : ℕ → ℕ) → (b r x : ℕ) → Bool

@@ -1,6 +1,6 @@
 -- Where everything stands in the working memory, and what is read there: 512 slots for cells, the trail, a record for each of 1,024 names, and the
 -- links of the slots.
-use Prim.Native.Nat.{ℕ, _+_, _*_, _≤_, _<_}
+use Prim.Native.Nat.{ℕ, _+_, _*_, _%_, _≤_, _<_}
 use mathlib.Core.Bool.{Bool, false}
 use mathlib.Core.List.{List}
 use mathlib.Core.Option.{Option, none}
@@ -44,7 +44,7 @@ bodyMark = 48
 abbrev pub trailAt : ℕ
 trailAt = 43520
 
--- the record of name k: its chain's head 2 bytes, definition's place 2, class 1, built-in 1, parent's scope number 2
+-- the record of name k: the head of chain k 2 bytes, definition's place 2, class 1, built-in 1, parent's scope number 2
 abbrev pub recordAt : ℕ → ℕ
 recordAt k = 43552 + 8 * k
 
@@ -106,35 +106,42 @@ table n f blank i = pick (ltb i n) (f i) blank
 unfoldable pub putAt : {A : Type 0} → ℕ → A → (ℕ → A) → ℕ → A
 putAt i x f = λ j. pick (eqb j i) x (f j)
 
--- ---- Chains: a slot is found from its name
+-- ---- Chains: a slot is found from its key
 
 abbrev pub nameIn : List ℕ → ℕ → ℕ
 nameIn w i = two w (keyAt i + keyName)
 
--- where the link of slot p stands; that of 512 is the head of the name's chain
-unfoldable pub placeAt : (name p : ℕ) → ℕ
-placeAt n p = pick (ltb p 512) (linkAt p) (recordAt n)
+-- the chain of a key, one of 1,024: in scopes that follow each other, a name is in chains that follow each other
+unfoldable pub chainOf : (scope name : ℕ) → ℕ
+chainOf s n = (s + n) % 1024
 
--- past the names there are no heads
-unfoldable pub linkIn : List ℕ → (name p : ℕ) → ℕ
-linkIn w n p = pick (ltb p 512) (two w (linkAt p)) (pick (ltb n 1024) (two w (recordAt n)) 0)
+abbrev pub chainIn : List ℕ → ℕ → ℕ
+chainIn w i = chainOf (two w (keyAt i)) (nameIn w i)
 
--- what follows slot p in the chain of a name
-unfoldable pub nextIn : List ℕ → (name p : ℕ) → ℕ
-nextIn w n p = counted (nameIn w) n p (linkIn w n p)
+-- where the link of slot p stands; that of 512 is the head of the chain
+unfoldable pub placeAt : (chain p : ℕ) → ℕ
+placeAt c p = pick (ltb p 512) (linkAt p) (recordAt c)
 
-unfoldable pub chained : List ℕ → (name slot : ℕ) → Bool
-chained w n i = leadsTo (nextIn w n) 512 (nextIn w n 512) i
+-- past the chains there are no heads
+unfoldable pub linkIn : List ℕ → (chain p : ℕ) → ℕ
+linkIn w c p = pick (ltb p 512) (two w (linkAt p)) (pick (ltb c 1024) (two w (recordAt c)) 0)
 
--- the last slot of a name's chain whose number is above j, or 512
-pub record LastAbove (w : List ℕ) (name j p : ℕ) : Type 0 where
-  pub way : Way (nextIn w name) p
+-- what follows slot p in a chain
+unfoldable pub nextIn : List ℕ → (chain p : ℕ) → ℕ
+nextIn w c p = counted (chainIn w) c p (linkIn w c p)
+
+unfoldable pub chained : List ℕ → (chain slot : ℕ) → Bool
+chained w c i = leadsTo (nextIn w c) 512 (nextIn w c 512) i
+
+-- the last slot of a chain whose number is above j, or 512
+pub record LastAbove (w : List ℕ) (chain j p : ℕ) : Type 0 where
+  pub way : Way (nextIn w chain) p
   pub above : j < p
-  pub last : nextIn w name p ≤ j + 1
+  pub last : nextIn w chain p ≤ j + 1
 
 -- ---- Slots
 
--- reached: whether the chain of its name has the slot. state: 0 never used, 1 in use, 5 freed
+-- reached: whether the chain of its key has the slot. state: 0 never used, 1 in use, 5 freed
 pub data Slot : Type 0 where
   slot : (reached : Bool) → (state scope name : ℕ) → (content : Option Labelled) → (mark : Labels) → Slot
 
@@ -142,7 +149,7 @@ unfoldable pub blankSlot : Slot
 blankSlot = slot false 0 0 0 none noLabels
 
 unfoldable pub slotAt : List ℕ → ℕ → Slot
-slotAt w i = slot (chained w (nameIn w i) i) (byte w (stateAt i)) (two w (keyAt i)) (nameIn w i) (recordIn w (bodyAt i)) (setAt w (bodyAt i + bodyMark))
+slotAt w i = slot (chained w (chainIn w i) i) (byte w (stateAt i)) (two w (keyAt i)) (nameIn w i) (recordIn w (bodyAt i)) (setAt w (bodyAt i + bodyMark))
 
 unfoldable pub slotsOf : List ℕ → ℕ → Slot
 slotsOf w = table 512 (slotAt w) blankSlot

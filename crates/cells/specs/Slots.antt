@@ -50,12 +50,12 @@ cellIn x = record { exists = inUse x; value = valueIn x; mark = markIn x }
 
 -- ---- What the stores make of a slot
 
--- out of its chain; into the chain of a name
+-- out of its chain; into the chain of a key
 unfoldable pub takenOut : Slot → Slot
 takenOut (slot r t s n c m) = slot false t s n c m
 
-unfoldable pub putIn : (name : ℕ) → Slot → Slot
-putIn n (slot r t s n′ c m) = slot true t s n c m
+unfoldable pub putIn : (scope name : ℕ) → Slot → Slot
+putIn s n (slot r t s′ n′ c m) = slot true t s n c m
 
 -- in use, and holding nothing; so for a scope number and a name
 unfoldable pub renewed : Slot → Slot

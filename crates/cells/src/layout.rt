@@ -20,7 +20,7 @@ pub const BODY_SIZE: usize = 80;
 // The trail: 32 bytes.
 pub const TRAIL: usize = 43520;
 
-// The records of the 1,024 names: chain's head 2 bytes, definition's place 2, class 1, built-in 1, parent's scope number 2.
+// The records of the 1,024 names: head of a chain 2 bytes, definition's place 2, class 1, built-in 1, parent's scope number 2.
 pub const NAMES: usize = 43552;
 
 pub const NAME_DEFINITION: usize = 2;
@@ -32,6 +32,9 @@ pub const NAME_BUILT_IN: usize = 5;
 pub const NAME_PARENT: usize = 6;
 
 pub const NAME_SIZE: usize = 8;
+
+// How many chains of slots there are: their heads stand in the names' records.
+pub const CHAINS: usize = 1024;
 
 // The slots' links: 2 bytes each.
 pub const LINKS: usize = 51744;

@@ -10,13 +10,14 @@ ghost use Rattle.records.specs.Record.{heldOf};
 ghost use Rattle.rules.specs.State.{free, isSome};
 ghost use Rattle.rules.specs.State as state;
 ghost use Rattle.cells.specs.Chains.{counted};
-ghost use Rattle.cells.specs.Layout.{bodyAt, bodyMark, slotsOf, besideSlots, nameIn, placeAt, nextIn, LastAbove};
+ghost use Rattle.cells.specs.Layout.{bodyAt, bodyMark, slotsOf, besideSlots, chainOf, chainIn, placeAt, nextIn, LastAbove};
 ghost use Rattle.cells.specs.Scopes.{scopeOf};
-ghost use Rattle.cells.specs.Slots.{isReached, isFor, hitAs, ofScope, valueIn, takenOut, putIn, renewed, claimed, filled, marked, freedSlot, StoresAt, slotIn, Open, FindsOpen, Claims, Obtains};
+ghost use Rattle.cells.specs.Slots.{isReached, isFor, ofScope, valueIn, takenOut, putIn, renewed, claimed, filled, marked, freedSlot, StoresAt, slotIn, Open, FindsOpen, Claims, Obtains};
 ghost use Rattle.cells.specs.Memory.{seenOf, cellsOf, Fine, Becomes, Answers, markOne};
 use crate::layout::BODIES;
 use crate::layout::BODY_MARK;
 use crate::layout::BODY_SIZE;
+use crate::layout::CHAINS;
 use crate::layout::HINT;
 use crate::layout::KEY_NAME;
 use crate::layout::KEY_SIZE;
@@ -56,12 +57,28 @@ pub enum Stored {
     NoRoom,
 }
 
-// ---- Chains: the slots of one name, by falling numbers. A reference is one more than a slot's number, or 0
+// ---- Chains of slots, by falling numbers. A reference is one more than a slot's number, or 0
 
-// A reference at slot p, if it counts for a name: one that does not fall, or leads to another name, is none.
-fn counted_link(work: &[u8], name: u16, p: usize, next: u16) -> u16
+// The chain of a key: a read that tries a name in one scope after the other meets each cell at most once.
+fn chain_of(scope: u16, name: u16) -> usize
+    ensures { λ r. ⌜ (r ≡ chainOf scope name) × (r < 1024) ⌝ }
+{
+    (scope as usize + name as usize) % CHAINS
+}
+
+fn chain_at(work: &[u8], i: usize) -> usize
+    requires { ⌜ (i < 512) × (65536 ≤ length (now work)) ⌝ }
+    ensures { λ r. ⌜ (r ≡ chainIn (now (work .entry)) i) × (r < 1024) ⌝ }
+{
+    let scope = wire::two_in(work, KEYS + KEY_SIZE * i);
+    let name = wire::two_in(work, KEYS + KEY_SIZE * i + KEY_NAME);
+    chain_of(scope, name)
+}
+
+// A reference at slot p, if it counts: one that does not fall, or leads to another chain, is none.
+fn counted_link(work: &[u8], chain: usize, p: usize, next: u16) -> u16
     requires { ⌜ (p ≤ 512) × (65536 ≤ length (now work)) ⌝ }
-    ensures { λ r. ⌜ r ≡ counted (nameIn (now (work .entry))) name p next ⌝ }
+    ensures { λ r. ⌜ r ≡ counted (chainIn (now (work .entry))) chain p next ⌝ }
 {
     if next == 0 {
         return 0;
@@ -70,63 +87,61 @@ fn counted_link(work: &[u8], name: u16, p: usize, next: u16) -> u16
     if p <= i {
         return 0;
     }
-    if wire::two_in(work, KEYS + KEY_SIZE * i + KEY_NAME) != name {
+    if chain_at(work, i) != chain {
         return 0;
     }
     next
 }
 
-fn first_of(work: &[u8], name: u16) -> u16
-    requires { ⌜ 65536 ≤ length (now work) ⌝ }
-    ensures { λ r. ⌜ r ≡ nextIn (now (work .entry)) name 512 ⌝ }
+fn first_of(work: &[u8], chain: usize) -> u16
+    requires { ⌜ (chain < 1024) × (65536 ≤ length (now work)) ⌝ }
+    ensures { λ r. ⌜ r ≡ nextIn (now (work .entry)) chain 512 ⌝ }
 {
-    if 1024 <= name {
-        return 0;
-    }
-    let head = wire::two_in(work, NAMES + NAME_SIZE * name as usize);
-    counted_link(work, name, SLOTS, head)
+    let head = wire::two_in(work, NAMES + NAME_SIZE * chain);
+    counted_link(work, chain, SLOTS, head)
 }
 
-// What follows slot p in the chain of a name.
-fn after(work: &[u8], name: u16, p: usize) -> u16
+// What follows slot p in a chain.
+fn after(work: &[u8], chain: usize, p: usize) -> u16
     requires { ⌜ (p < 512) × (65536 ≤ length (now work)) ⌝ }
-    ensures { λ r. ⌜ r ≡ nextIn (now (work .entry)) name p ⌝ }
+    ensures { λ r. ⌜ r ≡ nextIn (now (work .entry)) chain p ⌝ }
 {
     let link = wire::two_in(work, LINKS + LINK_SIZE * p);
-    counted_link(work, name, p, link)
+    counted_link(work, chain, p, link)
 }
 
 // The same; at 512, the first of the chain.
-fn next_of(work: &[u8], name: u16, p: usize) -> u16
-    requires { ⌜ (p ≤ 512) × (65536 ≤ length (now work)) ⌝ }
-    ensures { λ r. ⌜ r ≡ nextIn (now (work .entry)) name p ⌝ }
+fn next_of(work: &[u8], chain: usize, p: usize) -> u16
+    requires { ⌜ (p ≤ 512) × ((chain < 1024) × (65536 ≤ length (now work))) ⌝ }
+    ensures { λ r. ⌜ r ≡ nextIn (now (work .entry)) chain p ⌝ }
 {
     if p < SLOTS {
-        return after(work, name, p);
+        return after(work, chain, p);
     }
-    first_of(work, name)
+    first_of(work, chain)
 }
 
-fn put_link(work: &mut [u8], name: u16, p: usize, next: u16)
-    ensures { λ _. ⌜ now (work .exit) ≡ over (now (work .entry)) (placeAt name p) (highBytes 2 next) ⌝ }
+fn put_link(work: &mut [u8], chain: usize, p: usize, next: u16)
+    requires { ⌜ chain < 1024 ⌝ }
+    ensures { λ _. ⌜ now (work .exit) ≡ over (now (work .entry)) (placeAt chain p) (highBytes 2 next) ⌝ }
 {
     if p < SLOTS {
         wire::put_two(work, LINKS + LINK_SIZE * p, next);
         return;
     }
-    wire::put_two(work, NAMES + NAME_SIZE * name as usize, next);
+    wire::put_two(work, NAMES + NAME_SIZE * chain, next);
 }
 
-// The place in a name's chain where slot j stands, or would: after the slot answered.
-fn last_above(work: &[u8], name: u16, j: usize) -> usize
-    requires { ⌜ (j < 512) × (65536 ≤ length (now work)) ⌝ }
-    ensures { λ r. ⌜ LastAbove (now (work .entry)) name j r ⌝ }
+// The place in a chain where slot j stands, or would: after the slot answered.
+fn last_above(work: &[u8], chain: usize, j: usize) -> usize
+    requires { ⌜ (j < 512) × ((chain < 1024) × (65536 ≤ length (now work))) ⌝ }
+    ensures { λ r. ⌜ LastAbove (now (work .entry)) chain j r ⌝ }
 {
     let mut p = SLOTS;
-    let mut next = first_of(work, name);
+    let mut next = first_of(work, chain);
     while j + 1 < next as usize {
         p = next as usize - 1;
-        next = after(work, name, p);
+        next = after(work, chain, p);
     }
     p
 }
@@ -151,13 +166,15 @@ fn find(work: &[u8], scope: u16, name: u16, state: u8) -> Found
     requires { ⌜ 65536 ≤ length (now work) ⌝ }
     ensures { λ r. ⌜ r ≡ slotIn state (slotsOf (now (work .entry))) scope name ⌝ }
 {
-    let mut next = first_of(work, name);
-    while next != 0 {
-        let i = next as usize - 1;
-        if is_for(work, i, scope, name, state) {
-            return Found::At(i);
+    let chain = chain_of(scope, name);
+    let mut p = SLOTS;
+    let mut link = wire::two_in(work, NAMES + NAME_SIZE * chain);
+    while counted_link(work, chain, p, link) != 0 {
+        p = link as usize - 1;
+        if is_for(work, p, scope, name, state) {
+            return Found::At(p);
         }
-        next = after(work, name, i);
+        link = wire::two_in(work, LINKS + LINK_SIZE * p);
     }
     Found::Nothing
 }
@@ -246,29 +263,31 @@ pub fn read_cell(work: &[u8], scope: u16, name: u16) -> Seen
 
 // ---- Stores at a slot
 
-// A slot that was freed is still in the chain of its old name.
+// A slot that was freed is still in the chain of its old key.
 fn take_out(work: &mut [u8], j: usize)
     requires { ⌜ (j < 512) × (65536 ≤ length (now work)) ⌝ }
     ensures { λ _. ⌜ StoresAt j takenOut (now (work .entry)) (now (work .exit)) ⌝ }
 {
-    let name = wire::two_in(work, KEYS + KEY_SIZE * j + KEY_NAME);
-    let p = last_above(work, name, j);
-    if next_of(work, name, p) as usize != j + 1 {
+    let chain = chain_at(work, j);
+    let p = last_above(work, chain, j);
+    if next_of(work, chain, p) as usize != j + 1 {
         return;
     }
-    let next = next_of(work, name, j);
-    put_link(work, name, p, next);
+    let next = after(work, chain, j);
+    put_link(work, chain, p, next);
 }
 
-fn put_in(work: &mut [u8], j: usize, name: u16)
-    requires { ⌜ (j < 512) × ((65536 ≤ length (now work)) × ((name < 1024) × (isReached (slotsOf (now work) j) ≡ false))) ⌝ }
-    ensures { λ _. ⌜ StoresAt j (putIn name) (now (work .entry)) (now (work .exit)) ⌝ }
+fn put_in(work: &mut [u8], j: usize, scope: u16, name: u16)
+    requires { ⌜ (j < 512) × ((65536 ≤ length (now work)) × (isReached (slotsOf (now work) j) ≡ false)) ⌝ }
+    ensures { λ _. ⌜ StoresAt j (putIn scope name) (now (work .entry)) (now (work .exit)) ⌝ }
 {
-    let p = last_above(work, name, j);
-    let next = next_of(work, name, p);
-    put_link(work, name, j, next);
+    let chain = chain_of(scope, name);
+    let p = last_above(work, chain, j);
+    let next = next_of(work, chain, p);
+    put_link(work, chain, j, next);
+    wire::put_two(work, KEYS + KEY_SIZE * j, scope);
     wire::put_two(work, KEYS + KEY_SIZE * j + KEY_NAME, name);
-    put_link(work, name, p, (j + 1) as u16);
+    put_link(work, chain, p, (j + 1) as u16);
 }
 
 // A slot that holds nothing is in use.
@@ -282,13 +301,12 @@ fn renew(work: &mut [u8], j: usize)
 }
 
 fn claim(work: &mut [u8], j: usize, scope: u16, name: u16)
-    requires { ⌜ (j < 512) × ((65536 ≤ length (now work)) × (name < 1024)) ⌝ }
+    requires { ⌜ (j < 512) × (65536 ≤ length (now work)) ⌝ }
     ensures { λ _. ⌜ StoresAt j (claimed scope name) (now (work .entry)) (now (work .exit)) ⌝ }
 {
     take_out(work, j);
-    wire::put_two(work, KEYS + KEY_SIZE * j, scope);
     renew(work, j);
-    put_in(work, j, name);
+    put_in(work, j, scope, name);
 }
 
 fn put_value(work: &mut [u8], i: usize, x: Labelled)
@@ -307,7 +325,7 @@ fn put_mark(work: &mut [u8], i: usize, mark: Labels)
 
 // Claims a slot for a key that none is in use for: one that was freed stands in its chain already. Nothing where all are in use.
 fn claim_open(work: &mut [u8], scope: u16, name: u16) -> Found
-    requires { ⌜ (65536 ≤ length (now work)) × (name < 1024) ⌝ }
+    requires { ⌜ 65536 ≤ length (now work) ⌝ }
     ensures { λ r. ⌜ (Claims (slotsOf (now (work .entry))) scope name r (slotsOf (now (work .exit)))) × (besideSlots (now (work .exit)) ≡ besideSlots (now (work .entry))) ⌝ }
 {
     match find(work, scope, name, FREED) {
@@ -328,7 +346,7 @@ fn claim_open(work: &mut [u8], scope: u16, name: u16) -> Found
 
 // The slot of a key, claimed if there is none; Nothing where all are in use.
 fn obtain(work: &mut [u8], scope: u16, name: u16) -> Found
-    requires { ⌜ (65536 ≤ length (now work)) × (name < 1024) ⌝ }
+    requires { ⌜ 65536 ≤ length (now work) ⌝ }
     ensures { λ r. ⌜ (Obtains (slotsOf (now (work .entry))) scope name r (slotsOf (now (work .exit)))) × (besideSlots (now (work .exit)) ≡ besideSlots (now (work .entry))) ⌝ }
 {
     match find(work, scope, name, USED) {
@@ -369,11 +387,15 @@ pub fn join_mark(work: &mut [u8], scope: u16, name: u16, set: Labels) -> Stored
 
 // ---- Freeing a scope
 
-// The state first: it has been read already, and most slots fail there.
+// The low byte of the scope first: most slots fail there.
 fn in_scope(work: &[u8], i: usize, scope: u16) -> bool
     requires { ⌜ (i < 512) × (65536 ≤ length (now work)) ⌝ }
     ensures { λ r. ⌜ r ≡ ofScope scope (slotsOf (now (work .entry)) i) ⌝ }
 {
+    let low = KEYS + KEY_SIZE * i + 1;
+    if work[low] != (scope % 256) as u8 {
+        return false;
+    }
     if work[i] != USED {
         return false;
     }

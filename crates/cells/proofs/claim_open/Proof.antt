@@ -16,7 +16,7 @@ enum-known-i : tie.Need-enum-known-i
 enum-known-i c = search needs
 
 renew-requires : tie.Need-renew-requires
-renew-requires c κs = (in-slots _ _ _ _ _ (c .before .before .before .before .find .ensures) (c .before .before .i .given .1), c .before .before .before .before .before .before .before .pre .0)
+renew-requires c κs = (in-slots _ _ _ _ _ (c .before .before .before .before .find .ensures) (c .before .before .i .given .1), c .before .before .before .before .before .before .before .pre)
 
 enum-told : tie.Need-enum-told
 enum-told c = search needs

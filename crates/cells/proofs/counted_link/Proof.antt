@@ -1,4 +1,4 @@
--- `counted_link`: there is no reference, it does not fall, it leads to another name, or it counts.
+-- `counted_link`: there is no reference, it does not fall, it leads to another chain, or it counts.
 use borrow.Author.Needs.{needs}
 use Rattle.cells.proofs.SlotReads.{link-none, link-past, link-other, link-some}
 use Rattle.cells.proofs.counted_link.Statement.{statement}
@@ -13,34 +13,15 @@ sub-i c = search needs
 returns-2 : tie.Need-returns-2
 returns-2 c = link-past _ _ _ _ (c .before .if1 .left) (c .if2 .taken)
 
-mul-two-in : tie.Need-mul-two-in
-mul-two-in c = search needs
-
-add-two-in : tie.Need-add-two-in
-add-two-in c = search needs
-
-add-two-in-2 : tie.Need-add-two-in-2
-add-two-in-2 c = search needs
-
-two-in-requires : tie.Need-two-in-requires
-two-in-requires c κs = search needs
+chain-at-requires : tie.Need-chain-at-requires
+chain-at-requires c κs = search needs
 
 returns-3 : tie.Need-returns-3
-returns-3 c = link-other _ _ _ _ (c .before .before .before .if1 .left) (c .before .before .if2 .left) (c .before .two-in .ensures) (c .if3 .taken)
+returns-3 c = link-other _ _ _ _ (c .before .before .before .if1 .left) (c .before .before .if2 .left) (c .before .chain-at .ensures .0) (c .if3 .taken)
 
 returns-4 : tie.Need-returns-4
-returns-4 c = link-some _ _ _ _ (c .before .before .before .if1 .left) (c .before .before .if2 .left) (c .before .two-in .ensures) (c .if3 .left)
+returns-4 c = link-some _ _ _ _ (c .before .before .before .if1 .left) (c .before .before .if2 .left) (c .before .chain-at .ensures .0) (c .if3 .left)
 
 pub counted-link-spec : {M : Type 1} → statement M
 counted-link-spec =
-    tie.close
-    (tie.spec
-    returns
-    sub-i
-    returns-2
-    mul-two-in
-    add-two-in
-    add-two-in-2
-    two-in-requires
-    returns-3
-    returns-4)
+    tie.close (tie.spec returns sub-i returns-2 chain-at-requires returns-3 returns-4)

@@ -1,6 +1,5 @@
 -- `is_next`: past the slots, used, the first, or after one that was used.
 use mathlib.Core.Bool.{false≢true}
-use mathlib.Core.Path.{sym, _∙_}
 use native.Mathlib.Omega.{arith}
 use borrow.Author.Needs.{needs}
 use Rattle.cells.proofs.SlotReads.{next-turn, not-zero}

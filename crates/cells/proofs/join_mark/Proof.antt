@@ -6,7 +6,7 @@ use Rattle.cells.proofs.join_mark.Statement.{statement}
 use Rattle.cells.proofs.join_mark.Tie as tie
 
 obtain-requires : tie.Need-obtain-requires
-obtain-requires c κs = c .before .before .pre
+obtain-requires c κs = c .before .before .pre .0
 
 enum-known-i : tie.Need-enum-known-i
 enum-known-i c = c .match .keys1

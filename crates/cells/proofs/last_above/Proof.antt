@@ -5,10 +5,10 @@ use Rattle.cells.proofs.last_above.Statement.{statement}
 use Rattle.cells.proofs.last_above.Tie as tie
 
 abbrev Inv-loop : tie.InvT-loop
-Inv-loop work name j p₀ next₀ p next = Walked work name j p next
+Inv-loop work chain j p₀ next₀ p next = Walked work chain j p next
 
 abbrev μ-loop : tie.MeasureT-loop
-μ-loop work name j p₀ next₀ p next = next
+μ-loop work chain j p₀ next₀ p next = next
 
 first-of-requires : tie.Need-first-of-requires Inv-loop μ-loop
 first-of-requires c κs = c .before .pre .1
@@ -29,7 +29,7 @@ sub-p : tie.Need-sub-p Inv-loop μ-loop
 sub-p c = omega arith
 
 after-requires : tie.Need-after-requires Inv-loop μ-loop
-after-requires c κs = (omega (arith, c .before .loop .inv .small), c .before .before .before .before .pre .1)
+after-requires c κs = (omega (arith, c .before .loop .inv .small), c .before .before .before .before .pre .1 .1)
 
 loop-less : tie.Need-loop-less Inv-loop μ-loop
 loop-less c = omega (arith, next-low _ _ _ (c .after .ensures))

@@ -1,4 +1,4 @@
--- `put_link`: at the link of a slot, or at the head of a name's chain.
+-- `put_link`: at the link of a slot, or at the head of a chain.
 use borrow.Author.Needs.{needs}
 use Rattle.cells.proofs.Links.{put-slot, put-head}
 use Rattle.cells.proofs.put_link.Statement.{statement}
