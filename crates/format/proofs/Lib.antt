@@ -1,6 +1,5 @@
 pub mod Table
-pub mod Head
-pub mod Tags
+pub mod Line
 pub mod Listed
 pub mod Undone
 pub mod Steps

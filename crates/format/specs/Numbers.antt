@@ -1,12 +1,11 @@
--- The list of fields in numbers, as the code has it: for each tag a number for what its body begins with, one for its parts, and for each
--- kind one for its tags.
+-- The list of fields in numbers, as the code has it: for each tag a number for what it is and what its body begins with, and one for its parts.
 use Prim.Native.Nat.{ℕ, zero, suc, _+_, _*_, _/_, _%_}
 use mathlib.Core.Bool.{Bool, true, false}
 use mathlib.Core.List.{List, [], _∷_}
 use lib.Dec.{eqb}
 use lib.ListN.{getD}
 use Rattle.rules.specs.Bytes.{pick}
-use Rattle.rules.specs.Format.{allowed, size, headSize, three}
+use Rattle.rules.specs.Format.{allowed, formOf, size, headSize}
 use Rattle.rules.specs.declared.Kind.{Kind}
 use Rattle.rules.specs.declared.Kind.the-variants.{Table, Text, Constant, Expression, Pattern, Arm, Statement, Block, Branch, Attribute, Parameter, Parent, Item, Device}
 use Rattle.rules.specs.declared.Part.{Part}
@@ -20,14 +19,22 @@ use Rattle.rules.specs.declared.Form.{Form}
 
 -- ---- What a body begins with
 
--- what is to be checked of a piece
-unfoldable pub checkNumber : Piece → ℕ
-checkNumber Nothing = 0
-checkNumber Label = 0
-checkNumber Integer = 0
-checkNumber Name = 1
-checkNumber Boolean = 2
-checkNumber Operator = 3
+-- what a byte may be
+unfoldable pub byteNumber : Piece → ℕ
+byteNumber Nothing = 0
+byteNumber Label = 0
+byteNumber Integer = 0
+byteNumber Boolean = 1
+byteNumber Operator = 2
+byteNumber Name = 0
+
+unfoldable pub nameNumber : Piece → ℕ
+nameNumber Nothing = 0
+nameNumber Label = 0
+nameNumber Integer = 0
+nameNumber Boolean = 0
+nameNumber Operator = 0
+nameNumber Name = 1
 
 -- what follows the pieces
 unfoldable pub restNumber : Rest → ℕ
@@ -41,7 +48,14 @@ fieldsFollow AnyText = false
 fieldsFollow (Fields ps) = true
 
 unfoldable pub headNumber : Form → ℕ
-headNumber l = headSize l + 32 * restNumber (l .rest) + 128 * checkNumber (l .one) + 512 * checkNumber (l .two) + 2048 * size (l .one)
+headNumber l =
+    headSize l
+    + 32 * restNumber (l .rest)
+    + 128 * byteNumber (l .one)
+    + 512 * byteNumber (l .two)
+    + 2048 * nameNumber (l .one)
+    + 4096 * nameNumber (l .two)
+    + 8192 * size (l .one)
 
 -- ---- Kinds
 
@@ -74,9 +88,13 @@ unfoldable pub bits : (ℕ → Bool) → (n i : ℕ) → ℕ
 bits f zero i = 0
 bits f (suc n) i = bit (f i) + 2 * bits f n (suc i)
 
--- a bit for each tag of the kind
-unfoldable pub tagsNumber : Kind → ℕ
-tagsNumber k = bits (allowed k) 64 0
+-- a bit for each kind that a tag is of
+unfoldable pub kindsNumber : ℕ → ℕ
+kindsNumber t = bits (λ i. allowed (kindFrom i) t) 16 0
+
+-- the line of a tag
+unfoldable pub lineNumber : ℕ → ℕ
+lineNumber t = headNumber (formOf t) + 4294967296 * kindsNumber t
 
 -- ---- Parts
 

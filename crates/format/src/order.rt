@@ -1,10 +1,10 @@
 // Which fields may come next, where some parts of a body are still to come. Parts that are done are dropped.
 ghost use mathlib.Core.Path.{_≡_};
 ghost use Prim.Native.Nat.{_/_};
-ghost use Rattle.format.specs.Numbers.{howMany, partsFrom};
+ghost use Rattle.format.specs.Numbers.{lineNumber, howMany, partsFrom};
 ghost use Rattle.format.specs.Coming.{comes, complete, takenFrom, thenFrom};
 use crate::kinds::DEVICE;
-use crate::kinds::allows;
+use crate::lines::allows;
 use crate::parts::COUNT;
 use crate::parts::MANY;
 use crate::parts::NAMES;
@@ -46,11 +46,12 @@ fn takes_name(parts: u64, tag: u8) -> Taking
     }
 }
 
-// What the first part makes of a field with this tag.
-fn takes(parts: u64, tag: u8) -> Taking
+// What the first part makes of a field with this tag and line.
+fn takes(parts: u64, tag: u8, line: u64) -> Taking
+    requires { ⌜ line ≡ lineNumber tag ⌝ }
     ensures { λ r. ⌜ takenFrom r (comes (partsFrom (parts / 2097152)) tag) ≡ comes (partsFrom parts) tag ⌝ }
 {
-    let fits = allows(parts % 16, tag);
+    let fits = allows(line, parts % 16);
     match how_many(parts) {
         ONE => {
             if fits {
@@ -81,13 +82,14 @@ fn takes(parts: u64, tag: u8) -> Taking
     }
 }
 
-// What may come after a field with this tag, where these parts may come.
-pub fn follows(parts: u64, tag: u8) -> Then
+// What may come after a field with this tag and line, where these parts may come.
+pub fn follows(parts: u64, tag: u8, line: u64) -> Then
+    requires { ⌜ line ≡ lineNumber tag ⌝ }
     ensures { λ r. ⌜ thenFrom r ≡ comes (partsFrom parts) tag ⌝ }
 {
     let mut left = parts;
     while left != 0 {
-        match takes(left, tag) {
+        match takes(left, tag, line) {
             Taking::Parts(then) => return Then::Parts(then),
             Taking::Refuses => return Then::Wrong,
             Taking::Passes => {}

@@ -23,7 +23,7 @@ use Rattle.rules.specs.declared.Next.the-variants.{Go, Wrong}
 use Rattle.rules.specs.declared.Verdict.{Verdict}
 use Rattle.rules.specs.declared.Verdict.the-variants.{Sound, Fault}
 use Rattle.wire.proofs.Fields.{no-fields, field-first}
-use Rattle.format.specs.Numbers.{fieldsFollow, headNumber, undone, partsFrom, partsIn}
+use Rattle.format.specs.Numbers.{fieldsFollow, undone, partsFrom, partsIn}
 use Rattle.format.specs.Coming.{comes, complete, thenFrom}
 use Rattle.format.specs.declared.order.Then.{Then}
 use Rattle.format.specs.declared.order.Then.the-variants.{Parts as Left, Wrong as NoParts}

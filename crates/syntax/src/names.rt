@@ -3,9 +3,9 @@ ghost use mathlib.Core.Path.{_≡_};
 ghost use lib.ListN.{length};
 ghost use Rattle.rules.specs.Check.{namesKnown, placesIn};
 use crate::order::wrong_string;
-use format::heads::head_of;
-use format::heads::names_right;
-use format::heads::stride;
+use format::lines::line_of;
+use format::lines::names_right;
+use format::lines::stride;
 use rules::Verdict;
 use wire::byte_in;
 use wire::length_at;
@@ -16,11 +16,11 @@ pub fn check_names(m: &[u8], from: usize, strings: u16) -> Verdict
 {
     let mut p = from;
     while p < m.len() {
-        let head = head_of(byte_in(m, p));
-        if !names_right(m, strings, p, head) {
+        let line = line_of(byte_in(m, p));
+        if !names_right(m, strings, p, line) {
             return wrong_string(p);
         }
-        p = p + 3 + stride(head, length_at(m, p)) as usize;
+        p = p + 3 + stride(line, length_at(m, p)) as usize;
     }
     Verdict::Sound
 }

@@ -3,18 +3,17 @@ ghost use mathlib.Core.Path.{_≡_};
 ghost use Prim.Native.Nat.{_+_, _≤_, _<_};
 ghost use lib.ListN.{length};
 ghost use Rattle.rules.specs.Bytes.{byte, two, endOf, fieldsIn};
-ghost use Rattle.rules.specs.Format.{formOf};
 ghost use Rattle.rules.specs.Check.{inside, shape};
 ghost use Rattle.values.specs.declared.Reason.the-variants.{Malformed, TooDeep};
 ghost use Rattle.rules.specs.declared.Verdict.the-variants.{Fault};
-ghost use Rattle.format.specs.Numbers.{headNumber, partsFrom};
+ghost use Rattle.format.specs.Numbers.{lineNumber, partsFrom};
 ghost use Rattle.format.specs.Coming.{thenFrom};
 ghost use Rattle.syntax.specs.Walked.{headed, walked};
-use format::heads::bytes_right;
-use format::heads::has_fields;
-use format::heads::head_of;
-use format::heads::head_size;
-use format::heads::length_right;
+use format::lines::bytes_right;
+use format::lines::has_fields;
+use format::lines::head_size;
+use format::lines::length_right;
+use format::lines::line_of;
 use format::order::Then;
 use format::order::follows;
 use format::order::may_end;
@@ -43,9 +42,9 @@ fn too_deep(place: usize) -> Verdict
     }
 }
 
-// The header of the field at `q`, whose head is `head`, in surroundings that end at `e`: the parts that may come after it.
-fn header_at(m: &[u8], parts: u64, head: u16, q: usize, e: usize) -> Then
-    requires { ⌜ (q < e) × ((e ≤ length (now m)) × (head ≡ headNumber (formOf (byte (now m) q)))) ⌝ }
+// The header of the field at `q`, whose line is `line`, in surroundings that end at `e`: the parts that may come after it.
+fn header_at(m: &[u8], parts: u64, line: u64, q: usize, e: usize) -> Then
+    requires { ⌜ (q < e) × ((e ≤ length (now m)) × (line ≡ lineNumber (byte (now m) q))) ⌝ }
     ensures { λ r. ⌜ thenFrom r ≡ headed (now (m .entry)) (partsFrom parts) q e ⌝ }
 {
     if e - q < 3 {
@@ -55,29 +54,29 @@ fn header_at(m: &[u8], parts: u64, head: u16, q: usize, e: usize) -> Then
     if e - q - 3 < len as usize {
         return Then::Wrong;
     }
-    if length_right(head, len) {
-        follows(parts, byte_in(m, q))
+    if length_right(line, len) {
+        follows(parts, byte_in(m, q), line)
     } else {
         Then::Wrong
     }
 }
 
 // What is inside the field at `p`, whose header is right, with `levels` left for it.
-fn check_inside(m: &[u8], head: u16, p: usize, len: u16, levels: u8) -> Verdict
-    requires { ⌜ (endOf (now m) p ≤ length (now m)) × ((head ≡ headNumber (formOf (byte (now m) p))) × (len ≡ two (now m) (p + 1))) ⌝ }
+fn check_inside(m: &[u8], line: u64, p: usize, len: u16, levels: u8) -> Verdict
+    requires { ⌜ (endOf (now m) p ≤ length (now m)) × ((line ≡ lineNumber (byte (now m) p)) × (len ≡ two (now m) (p + 1))) ⌝ }
     ensures { λ r. ⌜ r ≡ inside (now (m .entry)) levels p ⌝ }
 {
     if levels == 0 {
         return too_deep(p);
     }
-    let size = head_size(head);
+    let size = head_size(line);
     if len < size {
         return malformed(p);
     }
-    if !bytes_right(m, p, head) {
+    if !bytes_right(m, p, line) {
         return malformed(p);
     }
-    if !has_fields(head) {
+    if !has_fields(line) {
         return Verdict::Sound;
     }
     let parts = parts_of(byte_in(m, p));
@@ -94,12 +93,12 @@ fn check_fields(m: &[u8], p: usize, parts: u64, from: usize, e: usize, levels: u
     let mut left = parts;
     let mut q = from;
     while q < e {
-        let head = head_of(byte_in(m, q));
-        let Then::Parts(then) = header_at(m, left, head, q, e) else {
+        let line = line_of(byte_in(m, q));
+        let Then::Parts(then) = header_at(m, left, line, q, e) else {
             return malformed(q);
         };
         let len = two_in(m, q + 1);
-        let found = check_inside(m, head, q, len, levels);
+        let found = check_inside(m, line, q, len, levels);
         match found {
             Verdict::Fault {
                 reason: _,

@@ -8,10 +8,10 @@ use Rattle.format.proofs.order.follows.Statement.{statement}
 use Rattle.format.proofs.order.follows.Tie as tie
 
 abbrev Inv-loop : tie.InvT-loop
-Inv-loop parts tag left₀ left = comes (partsFrom left) tag ≡ comes (partsFrom parts) tag
+Inv-loop parts tag line left₀ left = comes (partsFrom left) tag ≡ comes (partsFrom parts) tag
 
 abbrev μ-loop : tie.MeasureT-loop
-μ-loop parts tag left₀ left = left
+μ-loop parts tag line left₀ left = left
 
 loop-holds : tie.Need-loop-holds Inv-loop μ-loop
 loop-holds c = refl
@@ -38,7 +38,7 @@ follows-spec =
     Inv-loop
     μ-loop
     loop-holds
-    (λ c κs. tt)
+    (λ c κs. c .before .before .pre)
     (λ c. c .match .keys1)
     returns
     (λ c. c .match .keys2)

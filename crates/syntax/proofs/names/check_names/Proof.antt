@@ -25,7 +25,7 @@ names-right-requires : tie.Need-names-right-requires Inv-loop μ-loop
 names-right-requires c κs = omega (arith, c .before .before .loop-test .taken)
 
 returns : tie.Need-returns Inv-loop μ-loop
-returns c = c .wrong-string .ensures ∙ name-past _ _ _ _ (c .before .before .before .before .before .loop-test .taken) (c .before .before .before .before .byte-in .ensures) (c .before .before .names-right .ensures _ (c .before .before .before .head-of .ensures)) (not-true _ (c .before .if1 .taken)) (c .before .before .before .before .before .before .loop .inv)
+returns c = c .wrong-string .ensures ∙ name-past _ _ _ _ (c .before .before .before .before .before .loop-test .taken) (c .before .before .before .before .byte-in .ensures) (c .before .before .names-right .ensures _ (c .before .before .before .line-of .ensures)) (not-true _ (c .before .if1 .taken)) (c .before .before .before .before .before .before .loop .inv)
 
 add-p : tie.Need-add-p Inv-loop μ-loop
 add-p c = omega (arith, c .before .before .before .before .loop-test .taken)
@@ -40,7 +40,7 @@ loop-less : tie.Need-loop-less Inv-loop μ-loop
 loop-less c = omega (arith, c .before .before .before .before .before .before .loop-test .taken)
 
 loop-again : tie.Need-loop-again Inv-loop μ-loop
-loop-again c = next-names _ _ _ _ (c .before .before .before .before .before .before .loop-test .taken) (c .before .before .before .before .before .byte-in .ensures) (c .before .before .before .names-right .ensures _ (c .before .before .before .before .head-of .ensures)) (not-false _ (c .before .before .if1 .left)) (c .before .length-at .ensures) (c .stride .ensures _ (c .before .before .before .before .head-of .ensures)) (c .before .before .before .before .before .before .before .loop .inv)
+loop-again c = next-names _ _ _ _ (c .before .before .before .before .before .before .loop-test .taken) (c .before .before .before .before .before .byte-in .ensures) (c .before .before .before .names-right .ensures _ (c .before .before .before .before .line-of .ensures)) (not-false _ (c .before .before .if1 .left)) (c .before .length-at .ensures) (c .stride .ensures _ (c .before .before .before .before .line-of .ensures)) (c .before .before .before .before .before .before .before .loop .inv)
 
 returns-2 : tie.Need-returns-2 Inv-loop μ-loop
 returns-2 c = names-end _ _ _ _ (c .loop-test .left) (c .before .loop .inv)

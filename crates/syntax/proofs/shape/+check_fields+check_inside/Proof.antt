@@ -4,9 +4,8 @@ use mathlib.Core.Path.{_≡_, refl, ap, _∙_}
 use native.Mathlib.Omega.{arith}
 use borrow.Author.Tests.{not-true, not-false}
 use Rattle.rules.specs.Bytes.{fieldsIn}
-use Rattle.rules.specs.Format.{formOf}
 use Rattle.rules.specs.Check.{inside}
-use Rattle.format.specs.Numbers.{headNumber, partsFrom}
+use Rattle.format.specs.Numbers.{lineNumber, partsFrom}
 use Rattle.syntax.specs.Walked.{walked}
 use Rattle.syntax.proofs.Walk.{within, too-deep, no-head, wrong-bytes, no-more, its-fields, all-there, lacking, wrong-header, fault-inside, next-field}
 use Prim.Native.Nat.{ℕ, _<_}
@@ -18,10 +17,10 @@ use Rattle.syntax.proofs.shape.+check_fields+check_inside.Lts-check_fie
 use Rattle.syntax.proofs.shape.check_inside.Reads as check-inside
 use Rattle.syntax.proofs.shape.check_inside.Kinds as check-inside-kinds
 use Rattle.syntax.proofs.shape.+check_fields+check_inside.Lts-check_inside as check-inside-lts
-use Rattle.format.proofs.heads.bytes_right.Reads as bytes-right-reads
-use Rattle.format.proofs.heads.has_fields.Reads as has-fields-reads
-use Rattle.format.proofs.heads.head_of.Reads as head-of-reads
-use Rattle.format.proofs.heads.head_size.Reads as head-size-reads
+use Rattle.format.proofs.lines.bytes_right.Reads as bytes-right-reads
+use Rattle.format.proofs.lines.has_fields.Reads as has-fields-reads
+use Rattle.format.proofs.lines.line_of.Reads as line-of-reads
+use Rattle.format.proofs.lines.head_size.Reads as head-size-reads
 use Rattle.format.proofs.order.may_end.Reads as may-end-reads
 use Rattle.format.proofs.parts.parts_of.Reads as parts-of-reads
 use Rattle.syntax.proofs.shape.header_at.Reads as header-at-reads
@@ -51,7 +50,7 @@ abbrev check-inside-below : ℕ → In 1 check-inside-kinds.ps
 check-inside-below t = and 1 check-inside-kinds.ps (falls 1 check-inside-kinds.ps _<_ μ-check-inside t) check-inside.Pre
 
 abbrev check-fields-calls : ℕ → check-fields-lts.Claims
-check-fields-calls t = (byte-in-reads.Asked, byte-in-reads.Learnt, head-of-reads.Asked, head-of-reads.Learnt, header-at-reads.Asked, header-at-reads.Learnt, malformed-reads.Asked, malformed-reads.Learnt, two-in-reads.Asked, two-in-reads.Learnt, check-inside-below t, check-inside.Post, may-end-reads.Asked, may-end-reads.Learnt)
+check-fields-calls t = (byte-in-reads.Asked, byte-in-reads.Learnt, line-of-reads.Asked, line-of-reads.Learnt, header-at-reads.Asked, header-at-reads.Learnt, malformed-reads.Asked, malformed-reads.Learnt, two-in-reads.Asked, two-in-reads.Learnt, check-inside-below t, check-inside.Post, may-end-reads.Asked, may-end-reads.Learnt)
 
 abbrev check-fields-Inv-loop : check-fields-lts.InvT-loop
 check-fields-Inv-loop m p parts from e levels left₀ q₀ left q = walked m (inside m levels) p (partsFrom left) e (fieldsIn m q e) ≡ walked m (inside m levels) p (partsFrom parts) e (fieldsIn m from e)
@@ -66,7 +65,7 @@ check-fields-byte-in-requires : (t : ℕ) → check-fields-lts.Need-byte-in-requ
 check-fields-byte-in-requires t c κs = omega (arith, c .before .before .before .pre .1, c .loop-test .taken)
 
 check-fields-header-at-requires : (t : ℕ) → check-fields-lts.Need-header-at-requires (check-fields-calls t) (check-fields-at t) check-fields.Post check-fields-Inv-loop check-fields-μ-loop
-check-fields-header-at-requires t c κs = (c .before .before .loop-test .taken, (c .before .before .before .before .before .pre .1, c .head-of .ensures ∙ ap (λ (x : ℕ). headNumber (formOf x)) (c .before .byte-in .ensures)))
+check-fields-header-at-requires t c κs = (c .before .before .loop-test .taken, (c .before .before .before .before .before .pre .1, c .line-of .ensures ∙ ap lineNumber (c .before .byte-in .ensures)))
 
 check-fields-returns : (t : ℕ) → check-fields-lts.Need-returns (check-fields-calls t) (check-fields-at t) check-fields.Post check-fields-Inv-loop check-fields-μ-loop
 check-fields-returns t c = c .malformed .ensures ∙ (wrong-header _ _ _ _ _ _ (c .before .before .before .before .before .before .loop-test .taken) (c .before .before .before .header-at .ensures) (c .before .enum-told .given .1) ∙ c .before .before .before .before .before .before .before .loop .inv)
@@ -78,7 +77,7 @@ check-fields-two-in-requires : (t : ℕ) → check-fields-lts.Need-two-in-requir
 check-fields-two-in-requires t c κs = let w = within _ _ _ _ (c .before .before .before .header-at .ensures) (c .before .then .given .1) in omega (arith, c .before .before .before .before .before .before .before .before .before .pre .1)
 
 check-fields-check-inside-requires : (t : ℕ) → check-fields-lts.Need-check-inside-requires (check-fields-calls t) (check-fields-at t) check-fields.Post check-fields-Inv-loop check-fields-μ-loop
-check-fields-check-inside-requires t c κs = let w = within _ _ _ _ (c .before .before .before .before .header-at .ensures) (c .before .before .then .given .1) in (omega (arith, c .before .before .before .before .before .before .before .before .before .before .pre .0), (omega (arith, c .before .before .before .before .before .before .before .before .before .before .pre .1), (c .before .before .before .before .before .head-of .ensures ∙ ap (λ (x : ℕ). headNumber (formOf x)) (c .before .before .before .before .before .before .byte-in .ensures), c .two-in .ensures)))
+check-fields-check-inside-requires t c κs = let w = within _ _ _ _ (c .before .before .before .before .header-at .ensures) (c .before .before .then .given .1) in (omega (arith, c .before .before .before .before .before .before .before .before .before .before .pre .0), (omega (arith, c .before .before .before .before .before .before .before .before .before .before .pre .1), (c .before .before .before .before .before .line-of .ensures ∙ ap lineNumber (c .before .before .before .before .before .before .byte-in .ensures), c .two-in .ensures)))
 
 check-fields-returns-2 : (t : ℕ) → check-fields-lts.Need-returns-2 (check-fields-calls t) (check-fields-at t) check-fields.Post check-fields-Inv-loop check-fields-μ-loop
 check-fields-returns-2 t c = fault-inside _ _ _ _ _ _ (c .before .before .before .before .before .before .before .before .before .before .loop-test .taken) (c .before .before .before .before .before .before .before .header-at .ensures) (c .before .before .before .before .before .then .given .1) (c .before .before .check-inside .ensures) (c .enum-told2 .given .1) ∙ c .before .before .before .before .before .before .before .before .before .before .before .loop .inv

@@ -1,5 +1,7 @@
 -- `header_at`: one law for each way through it.
+use mathlib.Core.Path.{sym, ap, _∙_}
 use native.Mathlib.Omega.{arith}
+use Rattle.format.specs.Numbers.{lineNumber}
 use Rattle.syntax.proofs.Walk.{cut-short, runs-past, wrong-length, right-length}
 use Rattle.syntax.proofs.shape.header_at.Statement.{statement}
 use Rattle.syntax.proofs.shape.header_at.Tie as tie
@@ -51,6 +53,6 @@ header-at-spec =
     returns-2
     (λ c κs. tt)
     byte-in-requires
-    (λ c κs. tt)
+    (λ c κs. c .before .before .before .before .before .before .before .pre .1 .1 ∙ ap lineNumber (sym (c .byte-in .ensures)))
     returns-3
     returns-4)

@@ -1,7 +1,7 @@
 -- `name_right`: by what is to be checked.
-use Rattle.format.proofs.Head.{a-name, no-name}
-use Rattle.format.proofs.heads.name_right.Statement.{statement}
-use Rattle.format.proofs.heads.name_right.Tie as tie
+use Rattle.format.proofs.Line.{a-name, no-name}
+use Rattle.format.proofs.lines.name_right.Statement.{statement}
+use Rattle.format.proofs.lines.name_right.Tie as tie
 
 returns : tie.Need-returns
 returns c = a-name _ _ _ (c .before .match .keys1) (c .two-at .ensures)
