@@ -8,17 +8,18 @@ use borrow.Author.Tests.{ne-eqb}
 use Rattle.labels.specs.declared.Labels.{Labels}
 use Rattle.labels.specs.Sets.{noLabels, oneLabel, _∪_}
 use Rattle.values.specs.declared.Value.{Value}
-use Rattle.values.specs.declared.Labelled.{Labelled}
 use Rattle.wire.specs.Bytes.{byte, endOf, fieldsIn}
 use Rattle.rules.specs.Arithmetic.{sameValue}
 use Rattle.rules.specs.Tree.{Branches, noBranch, branch, defaultBranch}
-use Rattle.rules.specs.Evaluate.{ofConstant}
 use Rattle.rules.specs.Run.{triedLabels}
-use Rattle.rules.specs.declared.Kind.the-variants.{Branch}
-use Rattle.places.specs.At.{constantAt, blockAt, branchAt, branchesAt, Siblings}
+use Rattle.rules.specs.declared.Kind.the-variants.{Constant, Pattern, Branch}
+use Rattle.places.specs.At.{constantAt, blockAt, branchAt, branchesAt, StandsAs, Siblings}
 use Rattle.places.proofs.Parts.{first-sibling, no-sibling}
+use Rattle.places.proofs.Expressions.{pattern-constant}
+use Rattle.places.proofs.Statements.{branch-opens}
 use Rattle.evaluator.proofs.Outcomes.{union-assoc, union-none}
-use Rattle.branches.proofs.Standing.{sibling-here, siblings-after, branch-block}
+use Rattle.branches.proofs.Standing.{has-level, sibling-here, siblings-after, branch-block}
+use Rattle.statements.specs.declared.Choice.{Choice}
 use Rattle.statements.specs.declared.Choice.the-variants.{At, Nothing}
 use Rattle.statements.specs.Cases.{chosenBlock, blockFor, BranchBlock, blockHere, blockLater, choiceStands, Matches}
 
@@ -43,6 +44,14 @@ module _ {m : List ℕ} {d first e : ℕ} {x : Value} {tried : Labels} {q : ℕ}
       let none : branchesAt m d (fieldsIn m q e) ≡ noBranch = ap (branchesAt m d) (no-sibling (i .siblings) l .places) in
       record { block = sym (ap (λ (bs : Branches). chosenBlock bs x) none) ∙ i .block; labels = sym (union-none-after tried) ∙ sym (ap (λ (bs : Branches). tried ∪ triedLabels bs x) none) ∙ i .labels; stands = tt }
 
+  -- the pattern that is looked at
+  module _ (l : q < e) where
+    pub pattern-here : StandsAs m (d - 1) Pattern (q + 3)
+    pattern-here = let s = sibling-here (i .siblings) l in branch-opens s (has-level s) .pattern
+
+    pub constant-stands : {t : ℕ} → t ≡ byte m (q + 3) → (t ≡ 0x1b → ⊥) → StandsAs m (d - 1) Constant (q + 3)
+    constant-stands read other = pattern-constant pattern-here (ne-eqb (byte m (q + 3)) 0x1b (λ e. other (read ∙ e)))
+
   module _ (l : q < e) {t p : ℕ} (at : p ≡ q + 3) (read : t ≡ byte m p) where
     opened : {bs : Branches} → branchAt m d q (branchesAt m d (fieldsIn m (endOf m q) e)) ≡ bs → branchesAt m d (fieldsIn m q e) ≡ bs
     unfolding branchesAt
@@ -66,14 +75,13 @@ module _ {m : List ℕ} {d first e : ℕ} {x : Value} {tried : Labels} {q : ℕ}
           stands = (branch-block (sibling-here (i .siblings) l) there, i .reaches _ (blockHere l there));
         }
 
-    module _ (h : t ≡ 0x1b → ⊥) {k : Labelled} {u : Labels} {b : Bool} (constant : k ≡ ofConstant (constantAt m p)) (joined : u ≡ tried ∪ k .labels) (same : b ≡ sameValue x (k .value)) where
-      label-here : k .labels ≡ oneLabel (constantAt m (q + 3) .label)
-      unfolding ofConstant
-      label-here = ap (λ (y : Labelled). y .labels) constant ∙ ap (λ (y : ℕ). oneLabel (constantAt m y .label)) at
+    module _ (h : t ≡ 0x1b → ⊥) {label : ℕ} {u : Labels} {b : Bool} (read-label : label ≡ byte m (p + 3)) (joined : u ≡ tried ∪ oneLabel label) (same : b ≡ sameValue x (constantAt m p .value)) where
+      label-here : oneLabel label ≡ oneLabel (constantAt m (q + 3) .label)
+      unfolding constantAt
+      label-here = ap oneLabel (read-label ∙ ap (λ (y : ℕ). byte m (y + 3)) at)
 
       test-here : sameValue x (constantAt m (q + 3) .value) ≡ b
-      unfolding ofConstant
-      test-here = sym (same ∙ ap (λ (y : Labelled). sameValue x (y .value)) constant ∙ ap (λ (y : ℕ). sameValue x (constantAt m y .value)) at)
+      test-here = sym (same ∙ ap (λ (y : ℕ). sameValue x (constantAt m y .value)) at)
 
       pub matching-ends : {y : ℕ} → b ≡ true → y ≡ endOf m p → Matches m d first e x (record { at = At y; labels = u })
       unfolding chosenBlock triedLabels blockFor choiceStands
@@ -93,3 +101,7 @@ module _ {m : List ℕ} {d first e : ℕ} {x : Value} {tried : Labels} {q : ℕ}
         block = sym (ap (λ (bs : Branches). chosenBlock bs x) (constant-here h) ∙ rw (chosenBlock, test-here ∙ g)) ∙ i .block;
         labels = ap (λ (y : Labels). y ∪ triedLabels (branchesAt m d (fieldsIn m (endOf m q) e)) x) (joined ∙ ap (λ (y : Labels). tried ∪ y) label-here) ∙ union-assoc tried (oneLabel (constantAt m (q + 3) .label)) (triedLabels (branchesAt m d (fieldsIn m (endOf m q) e)) x) ∙ sym (ap (λ (bs : Branches). tried ∪ triedLabels bs x) (constant-here h) ∙ rw (triedLabels, test-here ∙ g)) ∙ i .labels;
       })
+
+-- the labels told are those in the words
+pub told : {m : List ℕ} {d first e : ℕ} {x : Value} {at : Choice} {k set : Labels} → k ≡ set → Matches m d first e x (record { at = at; labels = set }) → Matches m d first e x (record { at = at; labels = k })
+told {m} {d} {first} {e} {x} {at} h i = rw h i
