@@ -1,5 +1,5 @@
 -- What the digits of a line say, and one law for each way through the functions that read them.
-use mathlib.Core.Path.{_≡_, refl, sym, ap, _∙_, subst}
+use mathlib.Core.Path.{_≡_, refl, sym, ap, _∙_}
 use mathlib.Core.Bool.{Bool, true, false, _&&_}
 use mathlib.Core.List.{List}
 use Prim.Native.Nat.{ℕ, zero, suc, _+_, _*_, _/_, _%_, _^_, _≤_, _<_}
@@ -7,7 +7,7 @@ use native.Mathlib.Omega.{arith}
 use native.Mathlib.Nat.{div-div-eq-div-mul, pow-succ'}
 use lib.Dec.{eqb, ltb, leb}
 use Rattle.rules.specs.Bytes.{byte, two}
-use Rattle.rules.specs.Format.{formOf, allowed, size, headSize, restRight, lengthRight, pieceRight, bytesRight, nameRight, namesRight}
+use Rattle.rules.specs.Format.{formOf, allowed, size, headSize, restRight, lengthRight, pieceRight, nameRight}
 use Rattle.rules.specs.Check.{stride}
 use Rattle.rules.specs.declared.Piece.{Piece}
 use Rattle.rules.specs.declared.Piece.the-variants.{Nothing, Label, Integer, Boolean, Operator, Name}

@@ -1,8 +1,8 @@
 -- Parts in a number, and one law for each way through `takes_name`, `takes`, `follows` and `may_end`.
 use mathlib.Core.Path.{_≡_, refl, sym, ap, _∙_}
 use mathlib.Core.Bool.{Bool, true, false, _&&_}
-use mathlib.Core.List.{List, []}
-use mathlib.Core.Option.{Option, none, some}
+use mathlib.Core.List.{[]}
+use mathlib.Core.Option.{none, some}
 use Prim.Native.Nat.{ℕ, _+_, _-_, _*_, _/_, _%_, _^_, _<_, _≤_}
 use native.Mathlib.Omega.{arith}
 use lib.Dec.{eqb}
@@ -45,17 +45,9 @@ module _ (p : Part) (t : ℕ) where
   unfolding take
   up-yes e z a h = rw (e, ne-eqb _ _ z, ← a, h)
 
-  up-no : {n : ℕ} {s : Kind} {b : Bool} → p ≡ UpTo n s → (n ≡ 0 → ⊥) → b ≡ allowed s t → b ≡ false → Passes ≡ take p t
-  unfolding take
-  up-no e z a h = rw (e, ne-eqb _ _ z, ← a, h)
-
   many-yes : {s : Kind} {b : Bool} → p ≡ Many s → b ≡ allowed s t → b ≡ true → Takes (Many s) ≡ take p t
   unfolding take
   many-yes e a h = rw (e, ← a, h)
-
-  many-no : {s : Kind} {b : Bool} → p ≡ Many s → b ≡ allowed s t → b ≡ false → Passes ≡ take p t
-  unfolding take
-  many-no e a h = rw (e, ← a, h)
 
 module _ (t : ℕ) where
   a-device : t ≡ 0x31 → Takes (Many Device) ≡ take Names t
@@ -152,22 +144,31 @@ module _ (x t : ℕ) (fits : x < 2 ^ 64) where
     pub many-taken : howMany x ≡ 48 → f ≡ true → some (partsFrom x) ≡ comes (partsFrom x) t
     many-taken h k = takes-it x (many-yes (partFrom x) t (part-many x h) ef k) (first-part x fits ∙ ap (λ (p : Part). push p (partsFrom (x / 2097152))) (part-many x h))
 
-    pub many-passed : howMany x ≡ 48 → f ≡ false → comes (partsFrom (x / 2097152)) t ≡ comes (partsFrom x) t
-    many-passed h k = passes-it (many-no (partFrom x) t (part-many x h) ef k)
-
     pub some-taken : howMany x ≡ 32 → 128 ≤ x % 2097152 → f ≡ true → some (partsFrom (x - 128)) ≡ comes (partsFrom x) t
     some-taken h l k =
         let same : (x - 128) / 2097152 ≡ x / 2097152 = omega arith in
         takes-it (x - 128) (up-yes (partFrom x) t (part-up-to x h) (λ z. absurd (omega arith)) ef k) (first-part (x - 128) (omega arith) ∙ rw (part-less x h l, same))
 
-    pub some-passed : howMany x ≡ 32 → 128 ≤ x % 2097152 → f ≡ false → comes (partsFrom (x / 2097152)) t ≡ comes (partsFrom x) t
-    some-passed h l k = passes-it (up-no (partFrom x) t (part-up-to x h) (λ z. absurd (omega arith)) ef k)
+    -- a part of many, or of up to a number, leaves a field of another kind to the others
+    not-taken : (u v : Bool) (n : ℕ) → f ≡ false → Passes ≡ take (pick u (UpTo n (kindFrom (x % 16))) (pick v (Many (kindFrom (x % 16))) Over)) t
+    unfolding take
+    not-taken true v n k = rw (← ef, k) (either-way (eqb n 0))
+      where
+        either-way : (b : Bool) → Passes ≡ pick b Passes Passes
+        either-way true = refl
+        either-way false = refl
+    not-taken false true n k = rw (← ef, k)
+    not-taken false false n k = refl
+
+    pub others-passed : (howMany x ≡ 64 → ⊥) → (howMany x ≡ 16 → ⊥) → f ≡ false → comes (partsFrom (x / 2097152)) t ≡ comes (partsFrom x) t
+    unfolding partFrom shaped
+    others-passed a b k = passes-it (rw (ne-eqb _ _ b, ne-eqb _ _ a) (not-taken (eqb (howMany x) 32) (eqb (howMany x) 48) (x % 2097152 / 128) k))
 
   pub none-more : howMany x ≡ 32 → x % 2097152 < 128 → comes (partsFrom (x / 2097152)) t ≡ comes (partsFrom x) t
   none-more h l = passes-it (none-left (partFrom x) t (part-up-to x h) (omega arith))
 
-  pub over-passed : (howMany x ≡ 16 → ⊥) → (howMany x ≡ 48 → ⊥) → (howMany x ≡ 32 → ⊥) → (howMany x ≡ 64 → ⊥) → comes (partsFrom (x / 2097152)) t ≡ comes (partsFrom x) t
-  over-passed a b c d = passes-it (over (partFrom x) t (part-over x a c b d))
+  pub over-passed : (howMany x ≡ 64 → ⊥) → (howMany x ≡ 16 → ⊥) → (howMany x ≡ 48 → ⊥) → (howMany x ≡ 32 → ⊥) → comes (partsFrom (x / 2097152)) t ≡ comes (partsFrom x) t
+  over-passed a b c d = passes-it (over (partFrom x) t (part-over x b d c a))
 
   module _ (h : howMany x ≡ 64) where
     name-taken : {y : Part} (n : ℕ) → Takes y ≡ take Names t → partsFrom n ≡ push y (partsFrom (x / 2097152)) → some (partsFrom n) ≡ comes (partsFrom x) t

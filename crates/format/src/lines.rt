@@ -114,13 +114,26 @@ const DEFINED_PARAMETER: u64 = KIND * (1 << PARAMETER) + NAME + FIELDS;
 
 const PARENT_NAME: u64 = KIND * (1 << PARENT) + NAME;
 
-// The line of a tag. Each tag has an arm of its own, so that the back end makes a table of them.
-pub fn line_of(tag: u8) -> u64
+// The lines of the string table and of a string.
+fn string_line(tag: u8) -> u64
+    requires { ⌜ tag < 0x10 ⌝ }
     ensures { λ r. ⌜ r ≡ lineNumber tag ⌝ }
 {
     match tag {
         0x01 => STRING_TABLE,
         0x02 => STRING,
+        _ => NOTHING,
+    }
+}
+
+// The line of a tag. Each tag has an arm of its own, so that the back end makes a table of them, small enough to be read in place.
+pub fn line_of(tag: u8) -> u64
+    ensures { λ r. ⌜ r ≡ lineNumber tag ⌝ }
+{
+    if tag < 0x10 {
+        return string_line(tag);
+    }
+    match tag {
         0x10 => INTEGER_CONSTANT,
         0x11 => STRING_CONSTANT,
         0x12 => BOOLEAN_CONSTANT,

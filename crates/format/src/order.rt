@@ -51,33 +51,26 @@ fn takes(parts: u64, tag: u8, line: u64) -> Taking
     requires { ⌜ line ≡ lineNumber tag ⌝ }
     ensures { λ r. ⌜ takenFrom r (comes (partsFrom (parts / 2097152)) tag) ≡ comes (partsFrom parts) tag ⌝ }
 {
-    let fits = allows(line, parts % 16);
-    match how_many(parts) {
-        ONE => {
-            if fits {
-                Taking::Parts(parts / SECOND)
-            } else {
-                Taking::Refuses
-            }
+    let many = how_many(parts);
+    if many == NAMES {
+        return takes_name(parts, tag);
+    }
+    if !allows(line, parts % 16) {
+        if many == ONE {
+            return Taking::Refuses;
         }
-        MANY => {
-            if fits {
-                Taking::Parts(parts)
-            } else {
-                Taking::Passes
-            }
-        }
+        return Taking::Passes;
+    }
+    match many {
+        ONE => Taking::Parts(parts / SECOND),
+        MANY => Taking::Parts(parts),
         UP_TO => {
             if parts % SECOND < COUNT {
-                return Taking::Passes;
-            }
-            if fits {
-                Taking::Parts(parts - COUNT)
-            } else {
                 Taking::Passes
+            } else {
+                Taking::Parts(parts - COUNT)
             }
         }
-        NAMES => takes_name(parts, tag),
         _ => Taking::Passes,
     }
 }

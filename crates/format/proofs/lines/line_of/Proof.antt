@@ -1,29 +1,20 @@
 -- `line_of`: each arm is the line of its tag; no other tag has one.
-use Prim.Native.Nat.{ℕ, _<_}
-use mathlib.Core.Path.{_≡_, refl, sym, ap}
-use mathlib.Core.List.{List, [], _∷_}
+use mathlib.Core.Path.{refl, sym, ap}
+use mathlib.Core.List.{[], _∷_}
 use native.Mathlib.Omega.{arith}
-use lib.Dec.{eqb}
-use borrow.Author.Tests.{eqb-true}
 use Rattle.rules.specs.Format.{allowed, size, headSize, forms, formIn, formOf}
 use Rattle.format.specs.Numbers.{byteNumber, nameNumber, restNumber, headNumber, kinds, kindFrom, bits, kindsNumber, lineNumber}
-use Rattle.format.proofs.Table.{unlike, elsewhere}
+use Rattle.format.proofs.Listed.{no-line}
 use Rattle.format.proofs.lines.line_of.Statement.{statement}
 use Rattle.format.proofs.lines.line_of.Tie as tie
-
--- the tags of the list, the last first
-abbrev keys : List ℕ
-keys = 0x35 ∷ 0x34 ∷ 0x33 ∷ 0x32 ∷ 0x31 ∷ 0x30 ∷ 0x29 ∷ 0x28 ∷ 0x27 ∷ 0x26 ∷ 0x25 ∷ 0x24 ∷ 0x23 ∷ 0x22 ∷ 0x21 ∷ 0x20 ∷ 0x1b ∷ 0x1a ∷ 0x19 ∷ 0x18 ∷ 0x17 ∷ 0x16 ∷ 0x15 ∷ 0x14 ∷ 0x13 ∷ 0x12 ∷ 0x11 ∷ 0x10 ∷ 0x02 ∷ 0x01 ∷ []
-
-others : (t : ℕ) → t < 256 → unlike t keys → 0 ≡ lineNumber t
-unfolding lineNumber headNumber headSize size formOf formIn forms restNumber byteNumber nameNumber kindsNumber bits kindFrom kinds allowed
-others t h u = sym (eqb-true (lineNumber t) 0 (elsewhere (λ x. eqb (lineNumber x) 0) keys 256 0 refl t (omega arith) (omega arith) u))
 
 pub line-of-spec : {M : Type 1} → statement M
 unfolding lineNumber headNumber headSize size formOf formIn forms restNumber byteNumber nameNumber kindsNumber bits kindFrom kinds allowed
 line-of-spec =
     tie.close
     (tie.spec
+    (λ c κs. c .if1 .taken)
+    (λ c. c .string-line .ensures)
     (λ c. sym (ap lineNumber (c .match .keys1)))
     (λ c. sym (ap lineNumber (c .match .keys2)))
     (λ c. sym (ap lineNumber (c .match .keys3)))
@@ -52,6 +43,4 @@ line-of-spec =
     (λ c. sym (ap lineNumber (c .match .keys26)))
     (λ c. sym (ap lineNumber (c .match .keys27)))
     (λ c. sym (ap lineNumber (c .match .keys28)))
-    (λ c. sym (ap lineNumber (c .match .keys29)))
-    (λ c. sym (ap lineNumber (c .match .keys30)))
-    (λ c. others _ (omega arith) (c .match .rest)))
+    (λ c. no-line (0x35 ∷ 0x34 ∷ 0x33 ∷ 0x32 ∷ 0x31 ∷ 0x30 ∷ 0x29 ∷ 0x28 ∷ 0x27 ∷ 0x26 ∷ 0x25 ∷ 0x24 ∷ 0x23 ∷ 0x22 ∷ 0x21 ∷ 0x20 ∷ 0x1b ∷ 0x1a ∷ 0x19 ∷ 0x18 ∷ 0x17 ∷ 0x16 ∷ 0x15 ∷ 0x14 ∷ 0x13 ∷ 0x12 ∷ 0x11 ∷ 0x10 ∷ []) 240 0x10 refl _ (c .before .if1 .left) (omega arith) (c .match .rest)))

@@ -1,8 +1,8 @@
 -- `follows`: what the parts left make of the field is what they all make of it.
-use mathlib.Core.Path.{_≡_, refl, ap, sym, _∙_}
+use mathlib.Core.Path.{_≡_, refl, _∙_}
 use native.Mathlib.Omega.{arith}
 use Rattle.format.specs.Numbers.{partsFrom}
-use Rattle.format.specs.Coming.{comes, takenFrom}
+use Rattle.format.specs.Coming.{comes}
 use Rattle.format.proofs.Steps.{none-left-over}
 use Rattle.format.proofs.order.follows.Statement.{statement}
 use Rattle.format.proofs.order.follows.Tie as tie
