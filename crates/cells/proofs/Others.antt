@@ -6,7 +6,8 @@ use native.Mathlib.Omega.{arith}
 use lib.ListN.{drop}
 use lib.Seq.{drop-drop}
 use Rattle.wire.specs.Bytes.{byte, two}
-use Rattle.wire.proofs.Laws.{same-rest, two-same}
+use Rattle.wire.specs.Runs.{bytesAt}
+use Rattle.wire.proofs.Laws.{same-byte, same-rest, two-same}
 use Rattle.cells.specs.Layout.{recordAt, wordsAt, slotsOf, trailOf, recordsOf, restOf}
 use Rattle.cells.specs.Memory.{stateOf, Stays}
 use Rattle.cells.proofs.Regions.{same-two, trail-same, records-same, names-by, classes-by, cells-by, used-by}
@@ -25,10 +26,19 @@ module _ (w w′ : List ℕ) where
         fine = λ f. rw slots f;
       }
 
-  -- two bytes from p on
-  pub others-read : restOf w′ ≡ restOf w → (p : ℕ) → wordsAt ≤ p → two w′ p ≡ two w p
+  others-rest : restOf w′ ≡ restOf w → (p : ℕ) → wordsAt ≤ p → drop p w′ ≡ drop p w
   unfolding restOf
-  others-read same p past =
+  others-rest same p past =
       let parts : wordsAt + (p - wordsAt) ≡ p = omega arith in
       let from : (m : List ℕ) → drop p m ≡ drop (p - wordsAt) (drop wordsAt m) = λ m. sym (drop-drop (p - wordsAt) wordsAt m ∙ ap (λ (k : ℕ). drop k m) parts) in
-      two-same w′ w p p (same-rest w′ w p p (from w′ ∙ ap (drop (p - wordsAt)) same ∙ sym (from w)) 2)
+      from w′ ∙ ap (drop (p - wordsAt)) same ∙ sym (from w)
+
+  -- a byte, a run, two bytes
+  pub others-byte : restOf w′ ≡ restOf w → (p : ℕ) → wordsAt ≤ p → byte w′ p ≡ byte w p
+  others-byte same p past = same-byte w′ w p p (others-rest same p past)
+
+  pub others-run : restOf w′ ≡ restOf w → (p : ℕ) → wordsAt ≤ p → (k : ℕ) → bytesAt w′ p k ≡ bytesAt w p k
+  others-run same p past k = same-rest w′ w p p (others-rest same p past) k
+
+  pub others-read : restOf w′ ≡ restOf w → (p : ℕ) → wordsAt ≤ p → two w′ p ≡ two w p
+  others-read same p past = two-same w′ w p p (others-run same p past 2)

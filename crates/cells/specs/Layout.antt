@@ -75,20 +75,36 @@ hintAt = 52768
 abbrev pub wordsAt : ℕ
 wordsAt = 52770
 
+-- summary i: one more than the place of a condition 2 bytes, the levels left for it 1, whether it declares 1, and its names, sixteen numbers of 8 bytes
+abbrev pub summaryAt : ℕ → ℕ
+summaryAt i = 52800 + 132 * i
+
+abbrev pub summaryDepth : ℕ
+summaryDepth = 2
+
+abbrev pub summaryDeclares : ℕ
+summaryDeclares = 3
+
+abbrev pub summaryNames : ℕ
+summaryNames = 4
+
+abbrev pub summarySize : ℕ
+summarySize = 132
+
 -- the index over the catalog: the head of chain b, 2 bytes
 abbrev pub headAt : ℕ → ℕ
-headAt b = 52800 + 2 * b
+headAt b = 54912 + 2 * b
 
 abbrev pub mostChains : ℕ
 mostChains = 1856
 
 -- how many records there are, 2 bytes
 abbrev pub countAt : ℕ
-countAt = 56512
+countAt = 58624
 
 -- record i: a place 2 bytes, and the next record of its chain 2
 abbrev pub indexAt : ℕ → ℕ
-indexAt i = 56514 + 4 * i
+indexAt i = 58626 + 4 * i
 
 abbrev pub indexLink : ℕ
 indexLink = 2

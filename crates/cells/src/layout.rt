@@ -49,15 +49,27 @@ pub const WORDS: usize = 52770;
 
 pub const TITLE: usize = WORDS;
 
+// The summaries of sixteen conditions: one more than its place 2 bytes, or 0 for none; the levels left for it 1; whether it declares 1; and the names that it
+// assigns, sixteen numbers of 8 bytes.
+pub const SUMMARIES: usize = 52800;
+
+pub const SUMMARY_DEPTH: usize = 2;
+
+pub const SUMMARY_DECLARES: usize = 3;
+
+pub const SUMMARY_NAMES: usize = 4;
+
+pub const SUMMARY_SIZE: usize = 132;
+
 // The index over the catalog: the heads of 1,856 chains, 2 bytes each; how many records there are, 2 bytes; and the records, the place of an entry or an
 // attribute 2 bytes, and the next record of its chain 2. A record is told by one more than its number, and 0 is none.
-pub const HEADS: usize = 52800;
+pub const HEADS: usize = 54912;
 
 pub const HEAD_SIZE: usize = 2;
 
-pub const COUNT: usize = 56512;
+pub const COUNT: usize = 58624;
 
-pub const RECORDS: usize = 56514;
+pub const RECORDS: usize = 58626;
 
 pub const RECORD_LINK: usize = 2;
 
@@ -67,4 +79,4 @@ pub const RECORD_SIZE: usize = 4;
 pub const MOST_RECORDS: u16 = 1680;
 
 // From here on nothing is kept.
-pub const FREE: usize = 63234;
+pub const FREE: usize = 65346;

@@ -1,4 +1,4 @@
--- A memory whose first bytes tell the start: no cell, no class, no name, an empty trail, an empty index.
+-- A memory whose first bytes tell the start: no cell, no class, no name, an empty trail, no summary, an empty index.
 use mathlib.Core.Path.{_≡_, refl, ap, _∙_, fun-ext}
 use mathlib.Core.Bool.{Bool, true, false}
 use mathlib.Core.List.{List, []}
@@ -15,7 +15,7 @@ use Rattle.wire.specs.Runs.{over, zeros}
 use Rattle.wire.proofs.Laws.{byte-outside, over-whole, zeros-length, cleared}
 use Rattle.rules.specs.State.{DeclaredClass}
 use Rattle.rules.specs.Compile.{roomIn, start}
-use Rattle.cells.specs.Layout.{table, trailAt, recordAt, wordsAt, headAt, indexAt, trailOf, NameRecord, nameAt, blankRecord, recordsOf}
+use Rattle.cells.specs.Layout.{table, trailAt, recordAt, wordsAt, summaryAt, headAt, indexAt, trailOf, NameRecord, nameAt, blankRecord, recordsOf}
 use Rattle.cells.specs.Memory.{classFrom, classIn, definitionIn, builtInIn, classesOf, definitionOf, builtInOf, namesOf, stateOf}
 use Rattle.cells.proofs.Blank.{blank-cells, blank-used, blank-fine}
 use Rattle.cells.proofs.Regions.{names}
@@ -62,7 +62,7 @@ module _ (w : List ℕ) (states : (i : ℕ) → i < 512 → byte w i ≡ 0) (aft
 
   -- THE LAW: the definition's first state
   pub begun : Begun w
-  begun = record { state = begun-state; names = begun-names; title = no-title w (zero-two wordsAt (omega arith) (omega arith)); fine = blank-fine w states; index = λ p l u. zero-two p (omega arith) u }
+  begun = record { state = begun-state; names = begun-names; title = no-title w (zero-two wordsAt (omega arith) (omega arith)); fine = blank-fine w states; summaries = λ i l. zero-two (summaryAt i) (omega arith) (omega arith); index = λ p l u. zero-two p (omega arith) u }
 
 -- begin
 pub begin-way : (w w₁ w₂ : List ℕ) → 65536 ≤ length w → w₁ ≡ over w 0 (zeros (512 - 0)) → w₂ ≡ over w₁ trailAt (zeros (indexAt 0 - trailAt)) → Begun w₂

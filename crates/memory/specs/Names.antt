@@ -1,5 +1,5 @@
 -- What the functions on names change, and what they tell of a class.
-use Prim.Native.Nat.{ℕ, _+_, _-_, _≤_}
+use Prim.Native.Nat.{ℕ, _+_, _-_, _≤_, _<_}
 use mathlib.Core.Path.{_≡_}
 use mathlib.Core.List.{List, []}
 use lib.Dec.{eqb, ltb}
@@ -8,7 +8,7 @@ use mathlib.Core.Bool.{Bool, true, false}
 use mathlib.Core.Option.{Option, none, some}
 use Rattle.rules.specs.State.{Scope, Base, topBase, nodeBase, DeclaredClass, Entry}
 use Rattle.rules.specs.Compile.{roomIn, start}
-use Rattle.cells.specs.Layout.{headAt, indexAt, putAt, restOf}
+use Rattle.cells.specs.Layout.{summaryAt, headAt, indexAt, putAt, restOf}
 use Rattle.cells.specs.Scopes.{scopeOf}
 use Rattle.cells.specs.Memory.{baseFor, Names, namesOf, stateOf, Fine}
 use Rattle.memory.specs.declared.Above.{Above}
@@ -71,10 +71,12 @@ pub record TitleSet (w w′ : List ℕ) (name : ℕ) : Type 0 where
 
 -- ---- Before the first item
 
--- w stands for the definition's first state: no cell, no class, no name, an empty trail; the index over the catalog has neither heads nor records
+-- w stands for the definition's first state: no cell, no class, no name, an empty trail; there is no summary, and the index over the catalog has neither heads
+-- nor records
 pub record Begun (w : List ℕ) : Type 0 where
   pub state : (limit output : ℕ) → stateOf w [] limit (roomIn output) ≡ start limit output
   pub names : namesOf w ≡ noNames
   pub title : titleOf w ≡ none
   pub fine : Fine w
+  pub summaries : (i : ℕ) → i < 16 → two w (summaryAt i) ≡ 0
   pub index : (p : ℕ) → headAt 0 ≤ p → p + 2 ≤ indexAt 0 → two w p ≡ 0
