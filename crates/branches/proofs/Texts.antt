@@ -127,7 +127,7 @@ or-regroup : (a b c : Bool) → ((a || b) || c) ≡ (a || (b || c))
 or-regroup true b c = refl
 or-regroup false b c = refl
 
-text-same : {t u : Text} → ((n : ℕ) → t .assigns n ≡ u .assigns n) → t .declares ≡ u .declares → t ≡ u
+pub text-same : {t u : Text} → ((n : ℕ) → t .assigns n ≡ u .assigns n) → t .declares ≡ u .declares → t ≡ u
 text-same a d = λ i. record { assigns = fun-ext a i; declares = d i }
 
 pub collects-same : {s s′ : List ℕ} {r : Bool} {t u : Text} → t ≡ u → Collects s s′ r u → Collects s s′ r t

@@ -30,7 +30,7 @@ fn insert(names: &mut [u64; 16], name: u16)
 }
 
 // The statement at `p`.
-fn collect_at(m: &[u8], depth: u8, p: usize, names: &mut [u64; 16]) -> bool
+pub fn collect_at(m: &[u8], depth: u8, p: usize, names: &mut [u64; 16]) -> bool
     requires { ⌜ ((length (now m) ≤ 65535) × (length (now names) ≡ 16)) × (StandsAs (now m) depth Statement p × Small (textOf (statementAt (now m) depth p))) ⌝ }
     ensures { λ r. ⌜ Collects (now (names .entry)) (now (names .exit)) r (textOf (statementAt (now (m .entry)) depth p)) ⌝ }
 {

@@ -1,0 +1,4 @@
+pub mod Joining
+pub mod Lines
+pub mod Summaries
+pub mod Walks
