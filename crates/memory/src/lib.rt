@@ -105,7 +105,7 @@ pub fn definition_at(work: &[u8], name: u16) -> u16
     requires { ⌜ (65536 ≤ length (now work)) × (name < 1024) ⌝ }
     ensures { λ r. ⌜ r ≡ definitionOf (now (work .entry)) name ⌝ }
 {
-    wire::two_at(work, NAMES + NAME_SIZE * name as usize + NAME_DEFINITION)
+    wire::two_in(work, NAMES + NAME_SIZE * name as usize + NAME_DEFINITION)
 }
 
 pub fn set_definition(work: &mut [u8], name: u16, place: u16)
@@ -123,7 +123,7 @@ pub fn built_in(work: &[u8], name: u16) -> bool
     requires { ⌜ (65536 ≤ length (now work)) × (name < 1024) ⌝ }
     ensures { λ r. ⌜ r ≡ builtInOf (now (work .entry)) name ⌝ }
 {
-    wire::byte_at(work, NAMES + NAME_SIZE * name as usize + NAME_BUILT_IN) != 0
+    wire::byte_in(work, NAMES + NAME_SIZE * name as usize + NAME_BUILT_IN) != 0
 }
 
 pub fn set_built_in(work: &mut [u8], name: u16, yes: bool)
@@ -143,7 +143,7 @@ pub fn title(work: &[u8]) -> TitleName
     requires { ⌜ 65536 ≤ length (now work) ⌝ }
     ensures { λ r. ⌜ titleFound r ≡ titleOf (now (work .entry)) ⌝ }
 {
-    let t = wire::two_at(work, TITLE);
+    let t = wire::two_in(work, TITLE);
     if t == 0 {
         return TitleName::Nothing;
     }
@@ -181,7 +181,7 @@ pub fn is_declared(work: &[u8], name: u16) -> bool
     requires { ⌜ (65536 ≤ length (now work)) × (name < 1024) ⌝ }
     ensures { λ b. ⌜ ((es : List Entry) (n r : ℕ) → b ≡ isDeclared name (stateOf (now (work .entry)) es n r)) ⌝ }
 {
-    wire::byte_at(work, NAMES + NAME_SIZE * name as usize + NAME_CLASS) != 0
+    wire::byte_in(work, NAMES + NAME_SIZE * name as usize + NAME_CLASS) != 0
 }
 
 // Whether the base of a declared class is node.
@@ -189,7 +189,7 @@ pub fn base_of(work: &[u8], name: u16) -> bool
     requires { ⌜ (65536 ≤ length (now work)) × (name < 1024) ⌝ }
     ensures { λ r. ⌜ r ≡ atNode (classesOf (now (work .entry)) name) ⌝ }
 {
-    wire::byte_at(work, NAMES + NAME_SIZE * name as usize + NAME_CLASS) == 2
+    wire::byte_in(work, NAMES + NAME_SIZE * name as usize + NAME_CLASS) == 2
 }
 
 fn base_scope(base_is_node: bool) -> u16
@@ -213,8 +213,8 @@ pub fn parent_of(work: &[u8], base_is_node: bool, scope: u16) -> Above
         return Above::At(base_scope(base_is_node));
     }
     let record = NAMES + NAME_SIZE * (scope - 2) as usize;
-    if wire::byte_at(work, record + NAME_CLASS) == 0 {
+    if wire::byte_in(work, record + NAME_CLASS) == 0 {
         return Above::Nothing;
     }
-    Above::At(wire::two_at(work, record + NAME_PARENT))
+    Above::At(wire::two_in(work, record + NAME_PARENT))
 }

@@ -4,20 +4,20 @@ use Rattle.memory.proofs.Records.{built-in-read}
 use Rattle.memory.proofs.built_in.Statement.{statement}
 use Rattle.memory.proofs.built_in.Tie as tie
 
-mul-byte-at : tie.Need-mul-byte-at
-mul-byte-at c = omega arith
+mul-byte-in : tie.Need-mul-byte-in
+mul-byte-in c = omega arith
 
-add-byte-at : tie.Need-add-byte-at
-add-byte-at c = omega arith
+add-byte-in : tie.Need-add-byte-in
+add-byte-in c = omega arith
 
-add-byte-at-2 : tie.Need-add-byte-at-2
-add-byte-at-2 c = omega arith
+add-byte-in-2 : tie.Need-add-byte-in-2
+add-byte-in-2 c = omega arith
 
-byte-at-requires : tie.Need-byte-at-requires
-byte-at-requires c κs = tt
+byte-in-requires : tie.Need-byte-in-requires
+byte-in-requires c κs = omega arith
 
 returns : tie.Need-returns
-returns c = built-in-read _ _ (c .before .before .pre .0) (c .before .before .pre .1) (c .byte-at .ensures)
+returns c = built-in-read _ _ (c .before .before .pre .0) (c .before .before .pre .1) (c .byte-in .ensures)
 
 pub built-in-spec : {M : Type 1} → statement M
-built-in-spec = tie.close (tie.spec mul-byte-at add-byte-at add-byte-at-2 byte-at-requires returns)
+built-in-spec = tie.close (tie.spec mul-byte-in add-byte-in add-byte-in-2 byte-in-requires returns)

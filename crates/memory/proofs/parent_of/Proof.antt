@@ -28,23 +28,23 @@ mul-record c = omega arith
 add-record : tie.Need-add-record
 add-record c = omega arith
 
-add-byte-at : tie.Need-add-byte-at
-add-byte-at c = omega arith
+add-byte-in : tie.Need-add-byte-in
+add-byte-in c = omega arith
 
-byte-at-requires : tie.Need-byte-at-requires
-byte-at-requires c κs = tt
+byte-in-requires : tie.Need-byte-in-requires
+byte-in-requires c κs = omega arith
 
 returns-4 : tie.Need-returns-4
-returns-4 c = above-unknown _ _ _ (c .before .before .before .before .if1 .left) (c .before .before .before .if2 .left) (c .before .before .if3 .left) (c .before .byte-at .ensures) (c .if4 .taken)
+returns-4 c = above-unknown _ _ _ (c .before .before .before .before .if1 .left) (c .before .before .before .if2 .left) (c .before .before .if3 .left) (c .before .byte-in .ensures) (c .if4 .taken)
 
-add-two-at : tie.Need-add-two-at
-add-two-at c = omega arith
+add-two-in : tie.Need-add-two-in
+add-two-in c = omega arith
 
-two-at-requires : tie.Need-two-at-requires
-two-at-requires c κs = tt
+two-in-requires : tie.Need-two-in-requires
+two-in-requires c κs = omega arith
 
 returns-5 : tie.Need-returns-5
-returns-5 c = above-known _ _ _ (c .before .before .before .before .before .if1 .left) (c .before .before .before .before .if2 .left) (c .before .before .before .if3 .left) (c .before .before .byte-at .ensures) (c .before .if4 .left) (c .two-at .ensures)
+returns-5 c = above-known _ _ _ (c .before .before .before .before .before .if1 .left) (c .before .before .before .before .if2 .left) (c .before .before .before .if3 .left) (c .before .before .byte-in .ensures) (c .before .if4 .left) (c .two-in .ensures)
 
 pub parent-of-spec : {M : Type 1} → statement M
 parent-of-spec =
@@ -58,9 +58,9 @@ parent-of-spec =
     cast-record
     mul-record
     add-record
-    add-byte-at
-    byte-at-requires
+    add-byte-in
+    byte-in-requires
     returns-4
-    add-two-at
-    two-at-requires
+    add-two-in
+    two-in-requires
     returns-5)
