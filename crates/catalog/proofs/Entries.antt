@@ -1,10 +1,10 @@
--- The search over entries and over attributes, and what is read of an attribute. Assumes nothing.
+-- Entries and attributes that stand in the output, and what is read of an attribute. Assumes nothing.
 use mathlib.Core.Path.{_≡_, refl, sym, ap, _∙_}
 use mathlib.Core.Bool.{Bool, true, false, _&&_}
 use mathlib.Core.List.{List, [], _∷_, _++_, append-assoc, append-nil}
 use Prim.Native.Nat.{ℕ, _+_, _≤_, _<_}
 use native.Mathlib.Omega.{arith}
-use borrow.Author.Tests.{ltb-true, eq-eqb, ne-eqb}
+use borrow.Author.Tests.{ltb-true, ne-eqb}
 use lib.Dec.{eqb}
 use lib.IntN.{ℤ, pos, negsuc}
 use lib.ListN.{length, drop, take-append-drop}
@@ -27,11 +27,11 @@ use Rattle.catalog.specs.Layout.{entryType, entryTitle, entryLabels, ent
 use Rattle.rules.specs.Catalog.{fieldBytes, booleanByte, valueBytes, attributeBytes, attributesBytes, entryBytes, catalogBytes}
 use Rattle.rules.proofs.ReadBack.{FitsValue, fitsInteger, fitsString, fitsBoolean, FitsAttribute, FitsEntry, field-length, integer-back}
 use Rattle.catalog.specs.declared.Place.{Place}
-use Rattle.catalog.specs.declared.Place.the-variants.{At, Nothing}
-use Rattle.catalog.specs.Finding.{Written, Stands, EntryAt, Listed, placeWith, entryPlace, attributePlace, Below, valueAt, contentAt}
+use Rattle.catalog.specs.declared.Place.the-variants.{At}
+use Rattle.catalog.specs.Finding.{Written, Stands, EntryAt, Listed, entryPlace, attributePlace, Below, valueAt, contentAt}
 use Rattle.catalog.proofs.Making.{entry-size}
 use Rattle.catalog.proofs.Standing.{stands-next, stands-same, stands-byte, stands-two, stands-run, field-end, field-body}
-use Rattle.catalog.proofs.Search.{Left, here, further, gone, Hit, hits, FirstListed, first-listed}
+use Rattle.catalog.proofs.Search.{Hit, hits, FirstListed, first-listed}
 
 -- ---- An entry that stands at p
 
@@ -139,13 +139,6 @@ content-back m p a f s =
 
 -- ---- The ways of the small readers
 
-module _ (m : List ℕ) (p t n : ℕ) {r : ℕ} (is : r ≡ two m (p + entryType)) where
-  pub other-type : (r ≡ t → ⊥) → false ≡ (eqb (two m (p + entryType)) t && eqb (two m (p + entryTitle)) n)
-  other-type differs = rw (ne-eqb (two m (p + entryType)) t (λ e. differs (is ∙ e)))
-
-  pub same-type : {q : ℕ} → r ≡ t → q ≡ two m (p + entryTitle) → eqb q n ≡ (eqb (two m (p + entryType)) t && eqb (two m (p + entryTitle)) n)
-  same-type e title = rw (eq-eqb (two m (p + entryType)) t (sym is ∙ e), title)
-
 module _ (m : List ℕ) (p : ℕ) where
   module _ {tag : ℕ} (is : tag ≡ byte m p) where
     pub integer-read : {y z : ℤ} → tag ≡ 0x42 → y ≡ z → z ≡ signed64 (number (bytesAt m (p + 3) 8) 0) → Integer y ≡ valueAt m p
@@ -160,7 +153,7 @@ module _ (m : List ℕ) (p : ℕ) where
     unfolding valueAt
     boolean-read a b read = rw (ne-eqb (byte m p) 0x42 (λ e. a (is ∙ e)), ne-eqb (byte m p) 0x43 (λ e. b (is ∙ e)), read)
 
--- ---- The loops of `find_entry` and `attribute_between`
+-- ---- The entries from the start of the output
 
 pub entries-listed : (m : List ℕ) (fill : ℕ) (es : List Entry) → fill ≤ 65535 → fill ≤ length m → Written m fill es → Listed FitsEntry catalogBytes m 0 fill es
 entries-listed m fill es small within w =
@@ -172,59 +165,7 @@ entries-listed m fill es small within w =
       fits = w .fits;
     }
 
--- what is left of the entries from p on
-abbrev pub EntriesLeft : List ℕ → ℕ → ℕ → ℕ → ℕ → Type 0
-EntriesLeft m fill t n p = (es : List Entry) → Written m fill es → Left entryBytes FitsEntry catalogBytes (isEntry t n) m p fill (entryPlace t n es)
-
-module _ (m : List ℕ) (fill t n : ℕ) where
-  pub entries-begin : fill ≤ 65535 → fill ≤ length m → EntriesLeft m fill t n 0
-  unfolding entryPlace
-  entries-begin small within es w = record { xs = es; listed = entries-listed m fill es small within w; goes = refl }
-
-  module _ (p : ℕ) (left : EntriesLeft m fill t n p) where
-    pub entry-here : {b : Bool} → p < fill → b ≡ (eqb (two m (p + entryType)) t && eqb (two m (p + entryTitle)) n) → b ≡ true → (es : List Entry) → Written m fill es → At p ≡ entryPlace t n es
-    unfolding catalogBytes
-    entry-here before is true′ es w =
-        here 0x40 entryBody entryBytes catalogBytes FitsEntry (isEntry t n) entry-is refl (λ x xs. refl) m before true′ (λ x f s. is ∙ entry-test m x s t n f) (left es w)
-
-    pub entry-further : {b : Bool} {q : ℕ} → p < fill → b ≡ (eqb (two m (p + entryType)) t && eqb (two m (p + entryTitle)) n) → b ≡ false → q ≡ endOf m p → EntriesLeft m fill t n q
-    unfolding catalogBytes
-    entry-further before is false′ end es w =
-        further 0x40 entryBody entryBytes catalogBytes FitsEntry (isEntry t n) entry-is refl (λ x xs. refl) m before false′ (λ x f s. is ∙ entry-test m x s t n f) end (left es w)
-
-    pub entries-gone : fill ≤ p → (es : List Entry) → Written m fill es → Nothing ≡ entryPlace t n es
-    unfolding catalogBytes
-    entries-gone past es w = gone 0x40 entryBody entryBytes catalogBytes FitsEntry (isEntry t n) entry-is refl (λ x xs. refl) m past (left es w)
-
-abbrev pub AttributesLeft : List ℕ → ℕ → ℕ → ℕ → ℕ → Type 0
-AttributesLeft m from end n p =
-    (ats : List Attribute) → Listed FitsAttribute attributesBytes m from end ats → Left attributeBytes FitsAttribute attributesBytes (isAttribute n) m p end (placeWith attributeBytes (isAttribute n) ats from)
-
-module _ (m : List ℕ) (from end n : ℕ) where
-  pub attributes-begin : AttributesLeft m from end n from
-  attributes-begin ats l = record { xs = ats; listed = l; goes = refl }
-
-  module _ (p : ℕ) (left : AttributesLeft m from end n p) where
-    pub attribute-here : {b : Bool} → p < end → b ≡ eqb (two m (p + 3)) n → b ≡ true → (ats : List Attribute) → Listed FitsAttribute attributesBytes m from end ats → At p ≡ placeWith attributeBytes (isAttribute n) ats from
-    unfolding attributesBytes
-    attribute-here before is true′ ats l =
-        here 0x41 attributeBody attributeBytes attributesBytes FitsAttribute (isAttribute n) attribute-is refl (λ x xs. refl) m before true′ (λ x f s. is ∙ attribute-test m x s n f) (left ats l)
-
-    pub attribute-further : {b : Bool} {q : ℕ} → p < end → b ≡ eqb (two m (p + 3)) n → b ≡ false → q ≡ endOf m p → AttributesLeft m from end n q
-    unfolding attributesBytes
-    attribute-further before is false′ e ats l =
-        further 0x41 attributeBody attributeBytes attributesBytes FitsAttribute (isAttribute n) attribute-is refl (λ x xs. refl) m before false′ (λ x f s. is ∙ attribute-test m x s n f) e (left ats l)
-
-    pub attributes-gone : end ≤ p → (ats : List Attribute) → Listed FitsAttribute attributesBytes m from end ats → Nothing ≡ placeWith attributeBytes (isAttribute n) ats from
-    unfolding attributesBytes
-    attributes-gone past ats l = gone 0x41 attributeBody attributeBytes attributesBytes FitsAttribute (isAttribute n) attribute-is refl (λ x xs. refl) m past (left ats l)
-
 -- ---- What is found, and where
-
-pub below-more : (r : Place) {d e : ℕ} → d ≤ e → Below d r → Below e r
-unfolding Below
-below-more (At p) h b = omega arith
-below-more Nothing h b = tt
 
 pub below-at : {r : Place} {p e : ℕ} → Below e r → r ≡ At p → p < e
 unfolding Below

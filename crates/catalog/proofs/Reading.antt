@@ -1,4 +1,4 @@
--- The three searches together are the definition's: what `read` and `has_entry` answer. Assumes nothing.
+-- Searches for an entry and for an attribute in it are together the definition's. Assumes nothing.
 use mathlib.Core.Path.{_≡_, refl, sym, ap, _∙_}
 use mathlib.Core.Bool.{true, false}
 use mathlib.Core.List.{List}
@@ -41,13 +41,13 @@ module _ (m : List ℕ) (fill t n : ℕ) (small : fill ≤ 65535) (within : fill
     unfolding isSome
     has-none is = sym (any-first (isEntry t n) es ∙ ap isSome (no-entry (sym answer ∙ is)))
 
-    -- the ways of `read`, for an attribute named a
+    -- the ways of a read, of an attribute named a
     module _ (a : ℕ) where
       pub read-nothing : r ≡ Nothing → NotFound ≡ foundIn (lookUp t n a es)
       unfolding lookUp contentIn foundIn
       read-nothing is = rw (no-entry (sym answer ∙ is))
 
-      module _ (p : ℕ) (is : r ≡ At p) {s : Place} (next : (e : Entry) → EntryAt m p e → entryPlace t n es ≡ At p → firstWith (isEntry t n) es ≡ some e → s ≡ attributePlace a e p) where
+      module _ (p : ℕ) (is : r ≡ At p) {s : Place} (next : (e : Entry) → entryPlace t n es ≡ At p → firstWith (isEntry t n) es ≡ some e → s ≡ attributePlace a e p) where
         there : entryPlace t n es ≡ At p
         there = sym answer ∙ is
 
@@ -56,7 +56,7 @@ module _ (m : List ℕ) (fill t n : ℕ) (small : fill ≤ 65535) (within : fill
         read-missing none′ =
             let h = entry-at p there in
             let at = stands-there h in
-            let none″ : firstWith (isAttribute a) (h .x .attributes) ≡ none = hit-nothing (attribute-hits m p (h .x) a at) (sym (next (h .x) at there (h .first)) ∙ none′) in
+            let none″ : firstWith (isAttribute a) (h .x .attributes) ≡ none = hit-nothing (attribute-hits m p (h .x) a at) (sym (next (h .x) there (h .first)) ∙ none′) in
             rw (h .first, none″)
 
         pub read-content : (q : ℕ) {x : Labelled} → s ≡ At q → x ≡ contentAt m q → Content x ≡ foundIn (lookUp t n a es)
@@ -64,7 +64,7 @@ module _ (m : List ℕ) (fill t n : ℕ) (small : fill ≤ 65535) (within : fill
         read-content q {x} is′ content =
             let h = entry-at p there in
             let at = stands-there h in
-            let g = hit-at q (attribute-hits m p (h .x) a at) (sym (next (h .x) at there (h .first)) ∙ is′) in
+            let g = hit-at q (attribute-hits m p (h .x) a at) (sym (next (h .x) there (h .first)) ∙ is′) in
             let same : x ≡ g .x .content = content ∙ content-back m q (g .x) (g .fits) (g .stands) in
             rw (h .first, g .first, same)
 

@@ -1,9 +1,9 @@
--- A search over fields of one kind, written one after the other: stated once, for any element type. Assumes nothing.
+-- The first that passes a test, among fields of one kind written one after the other: stated once, for any element type. Assumes nothing.
 use mathlib.Core.Path.{_≡_, refl, sym, ap, _∙_}
 use mathlib.Core.Bool.{Bool, true, false, _||_}
 use mathlib.Core.List.{List, [], _∷_, _++_}
 use mathlib.Core.Option.{Option, none, some}
-use Prim.Native.Nat.{ℕ, _+_, _≤_, _<_}
+use Prim.Native.Nat.{ℕ, _+_, _≤_}
 use native.Mathlib.Omega.{arith}
 use lib.ListN.{length, length-append}
 use Rattle.wire.specs.Bytes.{pick, endOf}
@@ -16,12 +16,6 @@ use Rattle.catalog.specs.declared.Place.{Place}
 use Rattle.catalog.specs.declared.Place.the-variants.{At, Nothing}
 use Rattle.catalog.specs.Finding.{Stands, Listed, placeWith}
 use Rattle.catalog.proofs.Standing.{stands-first, stands-next, stands-same, field-end}
-
--- what is left of a search from p on: the answer among these is the whole answer
-pub record Left {A : Type 0} (bytesOf : A → List ℕ) (Fits : A → Type 0) (allOf : List A → List ℕ) (test : A → Bool) (m : List ℕ) (p end : ℕ) (whole : Place) : Type 0 where
-  pub xs : List A
-  pub listed : Listed Fits allOf m p end xs
-  pub goes : placeWith bytesOf test xs p ≡ whole
 
 -- where the first that passes stands
 pub data Hit {A : Type 0} (bytesOf : A → List ℕ) (Fits : A → Type 0) (m : List ℕ) : Option A → Place → Type 0 where
@@ -91,37 +85,6 @@ module _ {A : Type 0} (tag : ℕ) (body : A → List ℕ) (bytesOf : A → List 
       let short : length (bytesOf x) ≤ 65535 = omega (arith, size-more x xs, l .short) in
       let ends : endOf m p ≡ p + length (bytesOf x) = first-end x short stands in
       record { stands = stands; short = short; fits = first-fits x xs (l .fits); ends = ends; others = rw ends (others-listed x xs l) }
-
-  -- ---- A turn of the loop at p, with the answer b of its test
-
-  module _ {p end : ℕ} {whole : Place} where
-    here-in : {b : Bool} → p < end → b ≡ true → ((x : A) → Fits x → Stands m p (bytesOf x) → b ≡ test x) → (xs : List A) → Listed Fits allOf m p end xs → placeWith bytesOf test xs p ≡ whole → At p ≡ whole
-    unfolding placeWith
-    here-in before t same [] l g = absurd (omega (arith, size-none, l .ends))
-    here-in before t same (x ∷ xs) l g = let passes : test x ≡ true = sym (same x (first-fits x xs (l .fits)) (first-stands x xs (l .stands))) ∙ t in (rw passes at g)
-
-    pub here : {b : Bool} → p < end → b ≡ true → ((x : A) → Fits x → Stands m p (bytesOf x) → b ≡ test x) → Left bytesOf Fits allOf test m p end whole → At p ≡ whole
-    here before t same left = here-in before t same (left .xs) (left .listed) (left .goes)
-
-    further-in : {b : Bool} {q : ℕ} → p < end → b ≡ false → ((x : A) → Fits x → Stands m p (bytesOf x) → b ≡ test x) → q ≡ endOf m p → (xs : List A) → Listed Fits allOf m p end xs → placeWith bytesOf test xs p ≡ whole → Left bytesOf Fits allOf test m q end whole
-    unfolding placeWith
-    further-in before t same e [] l g = absurd (omega (arith, size-none, l .ends))
-    further-in {q = q} before t same e (x ∷ xs) l g =
-        let stands : Stands m p (bytesOf x) = first-stands x xs (l .stands) in
-        let fails : test x ≡ false = sym (same x (first-fits x xs (l .fits)) stands) ∙ t in
-        let next : q ≡ p + length (bytesOf x) = e ∙ first-end x (omega (arith, size-more x xs, l .short)) stands in
-        rw next (record { xs = xs; listed = others-listed x xs l; goes = rw fails at g })
-
-    pub further : {b : Bool} {q : ℕ} → p < end → b ≡ false → ((x : A) → Fits x → Stands m p (bytesOf x) → b ≡ test x) → q ≡ endOf m p → Left bytesOf Fits allOf test m p end whole → Left bytesOf Fits allOf test m q end whole
-    further before t same e left = further-in before t same e (left .xs) (left .listed) (left .goes)
-
-    gone-in : end ≤ p → (xs : List A) → Listed Fits allOf m p end xs → placeWith bytesOf test xs p ≡ whole → Nothing ≡ whole
-    unfolding placeWith
-    gone-in past [] l g = g
-    gone-in past (x ∷ xs) l g = absurd (omega (arith, size-more x xs, size-field x, l .ends))
-
-    pub gone : end ≤ p → Left bytesOf Fits allOf test m p end whole → Nothing ≡ whole
-    gone past left = gone-in past (left .xs) (left .listed) (left .goes)
 
   -- ---- The place and the first that passes
 

@@ -1,20 +1,15 @@
-// The catalog in the lent output. An entry is made in the rest of the output, from the fill point on; entries and attributes are found
-// in what is written before it.
+// The catalog in the lent output. An entry is made in the rest of the output, from the fill point on; what an
+// attribute holds is read back.
 ghost use mathlib.Core.Path.{_≡_};
-ghost use mathlib.Core.Bool.{_&&_};
 ghost use mathlib.Core.List.{List};
-ghost use Prim.Native.Nat.{_+_, _≤_};
-ghost use lib.Dec.{eqb};
+ghost use Prim.Native.Nat.{_≤_};
 ghost use lib.ListN.{length};
-ghost use Rattle.wire.specs.Bytes.{two};
 ghost use Rattle.wire.specs.Runs.{over};
-ghost use Rattle.rules.specs.State.{Attribute, Entry};
-ghost use Rattle.rules.specs.Evaluate.{any, isEntry, isAttribute};
-ghost use Rattle.rules.specs.Ranges.{FitsAttribute};
-ghost use Rattle.rules.specs.Catalog.{booleanByte, valueBytes, attributeBytes, attributesBytes};
-ghost use Rattle.catalog.specs.Layout.{entryType, entryTitle, entryAttributes, attributeName};
+ghost use Rattle.rules.specs.State.{Attribute};
+ghost use Rattle.rules.specs.Catalog.{booleanByte, valueBytes};
+ghost use Rattle.catalog.specs.Layout.{entryAttributes};
 ghost use Rattle.catalog.specs.Making.{stored, attribute, entry, addAttribute, Holding, putEntry, clearedFrom};
-ghost use Rattle.catalog.specs.Finding.{Written, EntryAt, Listed, placeWith, entryPlace, attributePlace, Below, valueAt, contentAt, lookUp, foundIn};
+ghost use Rattle.catalog.specs.Finding.{valueAt, contentAt};
 use crate::layout::ATTRIBUTE_LABELS;
 use crate::layout::ATTRIBUTE_NAME;
 use crate::layout::ATTRIBUTE_VALUE;
@@ -138,68 +133,7 @@ pub fn clear_rest(out: &mut [u8], from: usize)
     wire::clear(out, from, end);
 }
 
-// ---- Finding
-
-fn is_entry(out: &[u8], at: usize, kind: u16, title: u16) -> bool
-    requires { ⌜ at ≤ 65535 ⌝ }
-    ensures { λ r. ⌜ r ≡ (eqb (two (now (out .entry)) (at + entryType)) kind && eqb (two (now (out .entry)) (at + entryTitle)) title) ⌝ }
-{
-    if wire::two_at(out, at + ENTRY_TYPE) != kind {
-        return false;
-    }
-    wire::two_at(out, at + ENTRY_TITLE) == title
-}
-
-// The place of the first entry of this type and title. Whatever entries the bytes up to `fill` are, the answer is right for those.
-pub fn find_entry(out: &[u8], fill: usize, kind: u16, title: u16) -> Place
-    requires { ⌜ (fill ≤ 65535) × (fill ≤ length (now out)) ⌝ }
-    ensures { λ r. ⌜ ((es : List Entry) → Written (now (out .entry)) fill es → r ≡ entryPlace kind title es) × Below fill r ⌝ }
-{
-    let mut p: usize = 0;
-    while p < fill {
-        if is_entry(out, p, kind, title) {
-            return Place::At(p);
-        }
-        p = wire::end_of(out, p);
-    }
-    Place::Nothing
-}
-
-fn is_attribute(out: &[u8], at: usize, name: u16) -> bool
-    requires { ⌜ at ≤ 4294967296 ⌝ }
-    ensures { λ r. ⌜ r ≡ eqb (two (now (out .entry)) (at + attributeName)) name ⌝ }
-{
-    wire::two_at(out, at + ATTRIBUTE_NAME) == name
-}
-
-// The place of the first attribute of this name among those between two places.
-fn attribute_between(out: &[u8], from: usize, end: usize, name: u16) -> Place
-    requires { ⌜ end ≤ 4294967295 ⌝ }
-    ensures { λ r. ⌜ ((ats : List Attribute) → Listed FitsAttribute attributesBytes (now (out .entry)) from end ats → r ≡ placeWith attributeBytes (isAttribute name) ats from) × Below end r ⌝ }
-{
-    let mut p = from;
-    while p < end {
-        if is_attribute(out, p, name) {
-            return Place::At(p);
-        }
-        p = wire::end_of(out, p);
-    }
-    Place::Nothing
-}
-
-// The place of the first attribute of this name in the entry at a place.
-pub fn find_attribute(out: &[u8], at: usize, name: u16) -> Place
-    requires { ⌜ at ≤ 65535 ⌝ }
-    ensures { λ r. ⌜ ((e : Entry) → EntryAt (now (out .entry)) at e → r ≡ attributePlace name e at) × Below (at + 65539) r ⌝ }
-{
-    let body = wire::length_at(out, at);
-    attribute_between(
-        out,
-        at + ENTRY_ATTRIBUTES,
-        at + HEADER + body as usize,
-        name,
-    )
-}
+// ---- Reading
 
 fn value_at(out: &[u8], at: usize) -> Value
     requires { ⌜ at ≤ 4294967400 ⌝ }
@@ -220,29 +154,4 @@ pub fn read_attribute(out: &[u8], at: usize) -> Labelled
     let value = value_at(out, at + ATTRIBUTE_VALUE);
     let labels = Labels::read_at(out, at + ATTRIBUTE_LABELS);
     Labelled { value, labels }
-}
-
-// What the catalog so far has under this type, title and attribute name.
-pub fn read(out: &[u8], fill: usize, kind: u16, title: u16, name: u16) -> Found
-    requires { ⌜ (fill ≤ 65535) × (fill ≤ length (now out)) ⌝ }
-    ensures { λ r. ⌜ ((es : List Entry) → Written (now (out .entry)) fill es → r ≡ foundIn (lookUp kind title name es)) ⌝ }
-{
-    let Place::At(entry) = find_entry(out, fill, kind, title) else {
-        return Found::Nothing;
-    };
-    let Place::At(at) = find_attribute(out, entry, name) else {
-        return Found::Nothing;
-    };
-    Found::Content(read_attribute(out, at))
-}
-
-// Whether the catalog so far has an entry of this type and title.
-pub fn has_entry(out: &[u8], fill: usize, kind: u16, title: u16) -> bool
-    requires { ⌜ (fill ≤ 65535) × (fill ≤ length (now out)) ⌝ }
-    ensures { λ r. ⌜ ((es : List Entry) → Written (now (out .entry)) fill es → r ≡ any (isEntry kind title) es) ⌝ }
-{
-    match find_entry(out, fill, kind, title) {
-        Place::At(_) => true,
-        Place::Nothing => false,
-    }
 }

@@ -4,3 +4,4 @@ pub mod Postings
 pub mod Searching
 pub mod Storing
 pub mod Extending
+pub mod Keeping

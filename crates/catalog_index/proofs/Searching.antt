@@ -1,14 +1,14 @@
 -- A search in the index of a catalog finds what the definition finds in the catalog. Assumes nothing.
 use mathlib.Core.Path.{_≡_, refl, sym, ap, _∙_}
-use mathlib.Core.Bool.{Bool, true, false, _&&_, true≢false}
+use mathlib.Core.Bool.{Bool, true, false, true≢false}
 use mathlib.Core.List.{List, [], _∷_}
-use mathlib.Core.Option.{Option, none, some}
-use Prim.Native.Nat.{ℕ, _+_, _*_, _%_, _≤_, _<_}
+use mathlib.Core.Option.{some}
+use Prim.Native.Nat.{ℕ, _+_, _*_, _≤_, _<_}
 use native.Mathlib.Omega.{arith}
 use borrow.Author.Tests.{eqb-true, ltb-true, ltb-false, lt-ltb, le-ltb}
 use lib.Dec.{eqb, ltb}
 use lib.ListN.{length}
-use Rattle.wire.specs.Bytes.{pick, byte, two, endOf}
+use Rattle.wire.specs.Bytes.{pick, two, endOf}
 use Rattle.rules.specs.State.{Attribute, Entry}
 use Rattle.rules.specs.Evaluate.{firstWith, isEntry, isAttribute}
 use Rattle.rules.specs.Catalog.{fieldBytes, attributeBytes, attributesBytes, entryBytes, catalogBytes}

@@ -1,7 +1,7 @@
 -- One record more in the index, and one entry more with its attributes. Assumes nothing.
 use mathlib.Core.Path.{_≡_, refl, sym, ap, _∙_}
-use mathlib.Core.List.{List, [], _∷_, _++_}
-use Prim.Native.Nat.{ℕ, suc, _+_, _*_, _≤_, _<_}
+use mathlib.Core.List.{List}
+use Prim.Native.Nat.{ℕ, _+_, _≤_, _<_}
 use native.Mathlib.Omega.{arith}
 use lib.ListN.{length}
 use Rattle.wire.specs.Bytes.{byte, two}
@@ -9,8 +9,7 @@ use Rattle.wire.specs.Numbers.{highBytes}
 use Rattle.wire.specs.Runs.{over}
 use Rattle.wire.proofs.Laws.{over-length, byte-outside, high-length, stored-outside, stored-two, two-same}
 use Rattle.cells.specs.Layout.{mostChains, headAt, countAt, indexAt, indexLink, mostRecords}
-use Rattle.catalog_index.specs.Chains.{Posting, posting, Chained}
-use Rattle.catalog_index.specs.Index.{headsOf, placesOf, linksOf, Holds, InIndex, Recorded}
+use Rattle.catalog_index.specs.Index.{InIndex, Recorded}
 use Rattle.catalog_index.proofs.Chains.{chained-more}
 
 -- ---- Stores of two bytes

@@ -37,7 +37,9 @@ use Rattle.syntax.proofs.NodesRead.{items-for}
 use Rattle.syntax.proofs.NamesKnown.{known-after, items-known}
 use Rattle.wire.proofs.Fields.{no-fields, field-first}
 use Rattle.cells.specs.Memory.{stateOf}
+use Rattle.memory.proofs.Titles.{title-kept}
 use Rattle.catalog.specs.Finding.{Written}
+use Rattle.catalog_index.proofs.Keeping.{index-kept, index-none}
 use Rattle.evaluator.specs.Known.{KnownIn}
 use Rattle.evaluator.proofs.Names.{ready-first}
 use Rattle.resources.specs.declared.Filled.{Filled}
@@ -187,8 +189,8 @@ module _ (m : List ℕ) (p : ℕ) (c : Option ℕ) (w out : List ℕ) (fill left
   -- the stage after a definition
   stage-after : (w′ : List ℕ) (k : Known) (es : List Entry) (d : Definition) → Defines m p w w′ → itemAt m p ≡ definition d → isTaken k (definedName d) ≡ false → Stage m w out fill k es → Stage m w′ out fill (withDefinition d k) es
   stage-after w′ k es d x tree free i = record {
-    ready = record { catalog = i .ready .catalog; unique = i .ready .unique; known = x .known k d tree free (i .ready .known) };
-    title = unfold withDefinition in x .title ∙ i .title;
+    ready = record { catalog = i .ready .catalog; index = index-kept w w′ (onto es []) (x .rest) (i .ready .index); unique = i .ready .unique; known = x .known k d tree free (i .ready .known) };
+    title = unfold withDefinition in title-kept w w′ (x .rest) ∙ i .title;
   }
 
   pub runs-definition : (w′ : List ℕ) {a : Filled} → (t ≡ 0x32) ⊎ (t ≡ 0x34) → DefinedSo m p w w′ fill a → (ps : List ℕ) → RunsTo m w w′ out out fill left left c (p ∷ ps) ps a
@@ -315,7 +317,7 @@ prepared-able p = record { set = p .set; fine = p .fine; filled = omega arith }
 
 module _ (m device w out : List ℕ) (left : ℕ) (sound : check m ≡ Sound) (ready : Prepares m w) where
   first-stage : Stage m w out 0 (knownFirst (manifestOf m .strings)) []
-  first-stage = record { ready = ready-first m w out (ready .known); title = ready .title }
+  first-stage = record { ready = ready-first m w out (ready .known) (index-none w (ready .index)); title = ready .title }
 
   first-state : stateWith w out 0 left [] ≡ start left (length out)
   first-state = let all : roomIn (length out) - 0 ≡ roomIn (length out) = omega arith in ap (stateOf w [] left) all ∙ ready .state left (length out)

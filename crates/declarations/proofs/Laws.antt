@@ -15,7 +15,6 @@ use Rattle.rules.specs.Evaluate.{findType, findClass}
 use Rattle.rules.specs.Run.{Given, namedOnce, parametersKnown, parameterValues, storeTitle, storeAll, Declare, ofType, ofClass, included, runBlock, placedUnder, inClass, inBody, parentFirst, enterClass, declaration}
 use Rattle.cells.specs.Memory.{Names, definitionOf, namesOf}
 use Rattle.evaluator.specs.Known.{DefinedAt, KnownIn}
-use Rattle.statements.specs.Answers.{Keeps}
 use Rattle.parameters.specs.Checked.{checkGiven}
 use Rattle.parameters.proofs.Laws.{check-none}
 use Rattle.declarations.specs.Standing.{Defined, Set}
@@ -126,13 +125,13 @@ class-enters k declare d vs c st = go (storeAll here vs (markDeclared (d .name) 
     go (refused r p) = refl
     go (done st′) = refl
 
--- ---- What a step keeps
+-- ---- What stays with the names
 
-definition-kept : (w w′ : List ℕ) → Keeps w w′ → (n : ℕ) → definitionOf w n ≡ definitionOf w′ n
+definition-kept : (w w′ : List ℕ) → namesOf w′ ≡ namesOf w → (n : ℕ) → definitionOf w n ≡ definitionOf w′ n
 unfolding namesOf
-definition-kept w w′ kept n = ap (λ (ns : Names). ns .definitions n) (sym (kept .names))
+definition-kept w w′ kept n = ap (λ (ns : Names). ns .definitions n) (sym kept)
 
-pub set-kept : {m w w′ : List ℕ} → Keeps w w′ → length w′ ≡ length w → Set m w → Set m w′
+pub set-kept : {m w w′ : List ℕ} → namesOf w′ ≡ namesOf w → length w′ ≡ length w → Set m w → Set m w′
 set-kept {m} {w} {w′} kept size s = record {
   memory = omega (arith, s .memory);
   manifest = s .manifest;
@@ -140,9 +139,9 @@ set-kept {m} {w} {w′} kept size s = record {
   definitions = λ n. subst (Defined m) (definition-kept w w′ kept n) (s .definitions n);
 }
 
-pub known-kept : {m w w′ : List ℕ} {k : Known} → Keeps w w′ → KnownIn m w k → KnownIn m w′ k
+pub known-kept : {m w w′ : List ℕ} {k : Known} → namesOf w′ ≡ namesOf w → KnownIn m w k → KnownIn m w′ k
 unfolding namesOf
 known-kept {m} {w} {w′} {k} kept i = record {
-  builtIns = λ n. i .builtIns n ∙ ap (λ (ns : Names). ns .builtIns n) (sym (kept .names));
+  builtIns = λ n. i .builtIns n ∙ ap (λ (ns : Names). ns .builtIns n) (sym kept);
   definitions = λ n. subst (λ (p : ℕ). DefinedAt m p (findType n (k .definitions)) (findClass n (k .definitions))) (definition-kept w w′ kept n) (i .definitions n);
 }

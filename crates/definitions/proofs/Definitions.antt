@@ -23,7 +23,6 @@ use Rattle.places.proofs.Items.{type-definition-opens, class-definition-opens}
 use Rattle.cells.specs.Layout.{putAt}
 use Rattle.cells.specs.Memory.{definitionOf, builtInOf, Names, namesOf, Becomes}
 use Rattle.memory.specs.Names.{withDefinition as definedAs}
-use Rattle.memory.proofs.Titles.{title-kept}
 use Rattle.evaluator.specs.Known.{DefinedAt, undefined, typeAt, classAt, KnownIn}
 use Rattle.declarations.specs.Standing.{Set, Defined, defined}
 use Rattle.declarations.proofs.Standing.{name-small as begins-small}
@@ -188,4 +187,4 @@ module _ (m w w′ : List ℕ) (p : ℕ) (set : Set m w) (s : ItemStands m p) (i
           rw (definition-kept n h, type-other n (k .definitions) d other, class-other n (k .definitions) d other) (known .definitions n)
 
   pub now-defined : Defines m p w w′
-  now-defined = record { set = still-set; fine = become .fine; title = title-kept w w′ (become .rest); state = become .state; known = now-known }
+  now-defined = record { set = still-set; fine = become .fine; rest = become .rest; state = become .state; known = now-known }

@@ -10,8 +10,8 @@ use Rattle.rules.specs.State.{Entry, Known}
 use Rattle.rules.specs.Run.{definedName, isTaken, withDefinition}
 use Rattle.rules.specs.declared.Kind.the-variants.{Item}
 use Rattle.places.specs.At.{itemAt, StandsAs}
+use Rattle.cells.specs.Layout.{restOf}
 use Rattle.cells.specs.Memory.{stateOf, Fine}
-use Rattle.memory.specs.Names.{titleOf}
 use Rattle.evaluator.specs.Known.{KnownIn}
 use Rattle.declarations.specs.Standing.{NamesKnown, Set}
 
@@ -29,6 +29,6 @@ IsDefinition m p = (byte m p ≡ 0x32) ⊎ (byte m p ≡ 0x34)
 pub record Defines (m : List ℕ) (p : ℕ) (w w′ : List ℕ) : Type 0 where
   pub set : Set m w′
   pub fine : Fine w → Fine w′
-  pub title : titleOf w′ ≡ titleOf w
+  pub rest : restOf w′ ≡ restOf w
   pub state : (es : List Entry) (n r : ℕ) → stateOf w′ es n r ≡ stateOf w es n r
   pub known : (k : Known) (d : Definition) → itemAt m p ≡ definition d → isTaken k (definedName d) ≡ false → KnownIn m w k → KnownIn m w′ (withDefinition d k)

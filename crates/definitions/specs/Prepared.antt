@@ -13,7 +13,7 @@ use Rattle.rules.specs.declared.Kind.the-variants.{Block}
 use Rattle.places.specs.At.{blockAt, itemAt, devicesAt, StandsAs}
 use Rattle.syntax.specs.Strings.{isBuiltInText}
 use Rattle.cells.specs.Memory.{Names, stateOf, Fine}
-use Rattle.memory.specs.Names.{withBuiltIn, titleOf}
+use Rattle.memory.specs.Names.{withBuiltIn, titleOf, NoIndex}
 use Rattle.evaluator.specs.Known.{KnownIn}
 use Rattle.declarations.specs.Standing.{NamesKnown, Set}
 
@@ -33,6 +33,7 @@ pub record Prepares (m w : List ℕ) : Type 0 where
   pub known : KnownIn m w (knownFirst (manifestOf m .strings))
   pub title : titleOf w ≡ knownFirst (manifestOf m .strings) .title
   pub state : (limit output : ℕ) → stateOf w [] limit (roomIn output) ≡ start limit output
+  pub index : NoIndex w
 
 -- a device's name or a default
 unfoldable pub isDeviceAt : List ℕ → (q : ℕ) → Bool

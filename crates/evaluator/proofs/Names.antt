@@ -17,6 +17,7 @@ use Rattle.rules.proofs.Lists.{noneLeft}
 use Rattle.rules.proofs.Unique.{uniqueNone}
 use Rattle.cells.specs.Layout.{table, blankRecord, recordsOf}
 use Rattle.cells.specs.Memory.{definitionIn, builtInIn, definitionOf, builtInOf}
+use Rattle.catalog_index.specs.Index.{Indexed}
 use Rattle.evaluator.specs.Known.{DefinedAt, undefined, typeAt, classAt, KnownIn, Ready, definedTag}
 
 -- ---- A name's record
@@ -89,6 +90,6 @@ unfolding findType findClass
 known-first m w k none-yet builtIns none-there = record { builtIns = builtIns; definitions = λ n. rw none-yet (undefined (none-there n)) }
 
 -- with no entry yet
-pub ready-first : (m w out : List ℕ) {k : Known} → KnownIn m w k → Ready m w out 0 k []
+pub ready-first : (m w out : List ℕ) {k : Known} → KnownIn m w k → Indexed w [] → Ready m w out 0 k []
 unfolding onto catalogBytes
-ready-first m w out h = record { catalog = record { bytes = refl; fits = noneLeft }; unique = uniqueNone; known = h }
+ready-first m w out h i = record { catalog = record { bytes = refl; fits = noneLeft }; index = i; unique = uniqueNone; known = h }

@@ -37,6 +37,7 @@ use Rattle.catalog.specs.declared.Found.the-variants.{Content, Nothing as NotFo
 use Rattle.catalog.specs.Finding.{Written, lookUp, foundIn}
 use Rattle.catalog.proofs.Reading.{read-attribute-is}
 use Rattle.catalog.proofs.Order.{look-in-order}
+use Rattle.catalog_index.specs.Index.{Indexed}
 use Rattle.evaluator.specs.Known.{KnownIn, Ready, classRead, attributeOf}
 use Rattle.evaluator.proofs.Outcomes.{joining-none, joining-both}
 use Rattle.evaluator.proofs.Operators.{not-string}
@@ -162,13 +163,13 @@ module _ (m w out : List ℕ) (fill p l : ℕ) (x : Value) where
     unfolding known refuseIf _>>=_
     type-unknown n e k es r = e ∙ (rw n at (opened k es (r .known)))
 
-    module _ {a : ℕ} {f : Found} (n : not b ≡ false) (name : a ≡ two m (p + 5)) (found : (es : List Entry) → Written out fill es → f ≡ foundIn (lookUp t s a es)) where
+    module _ {a : ℕ} {f : Found} (n : not b ≡ false) (name : a ≡ two m (p + 5)) (found : (es : List Entry) → Written out fill es → Indexed w es → f ≡ foundIn (lookUp t s a es)) where
       looked : (k : Known) (es : List Entry) → Ready m w out fill k es → orRefuse (lookUp t s a es) NotInCatalog p ≡ attribute k es
       unfolding known refuseIf _>>=_
       looked k es r = sym (read-attribute-is p t s a es) ∙ ap (λ (i : ℕ). readAttribute p t s i es) name ∙ (rw n at (opened k es (r .known)))
 
       found-is : (k : Known) (es : List Entry) → Ready m w out fill k es → foundIn (lookUp t s a es) ≡ f
-      found-is k es r = sym (found (onto es []) (r .catalog) ∙ ap foundIn (look-in-order t s a es (r .unique)))
+      found-is k es r = sym (found (onto es []) (r .catalog) (r .index) ∙ ap foundIn (look-in-order t s a es (r .unique)))
 
       pub attribute-there : (y : Labelled) → f ≡ Content y → (k : Known) (es : List Entry) → Ready m w out fill k es → evaluated (Yields y) ≡ attribute k es
       unfolding evaluated orRefuse

@@ -25,6 +25,7 @@ use Rattle.cells.specs.Memory.{definitionOf, builtInOf, stateOf}
 use Rattle.memory.specs.declared.Scope.{Scope}
 use Rattle.memory.specs.Contexts.{contextIn}
 use Rattle.catalog.specs.Finding.{Written}
+use Rattle.catalog_index.specs.Index.{Indexed}
 use Rattle.evaluator.specs.declared.Tried.{Tried}
 
 -- what the definition at a place says of its name: none at 0, and else a type or a class, as read there
@@ -38,9 +39,10 @@ pub record KnownIn (m w : List ℕ) (k : Known) : Type 0 where
   pub builtIns : (n : ℕ) → k .builtIn n ≡ builtInOf w n
   pub definitions : (n : ℕ) → DefinedAt m (definitionOf w n) (findType n (k .definitions)) (findClass n (k .definitions))
 
--- the memory w and the output up to `fill` stand for what is known and the entries es, the latest first
+-- the memory w and the output up to `fill` stand for what is known and the entries es, the latest first; the memory has an index over them
 pub record Ready (m w out : List ℕ) (fill : ℕ) (k : Known) (es : List Entry) : Type 0 where
   pub catalog : Written out fill (onto es [])
+  pub index : Indexed w (onto es [])
   pub unique : UniqueEntries es
   pub known : KnownIn m w k
 

@@ -298,7 +298,8 @@ fn attribute_of(
     if !is_type(m, work, kind) {
         return Evaluated::Refused(Refusal::at(Reason::Unknown, p));
     }
-    let found = catalog::read(out, fill, kind, s, wire::two_at(m, p + 5));
+    let name = wire::two_at(m, p + 5);
+    let found = catalog_index::read(work, out, fill, kind, s, name);
     match found {
         catalog::Found::Content(x) => Evaluated::Value(x),
         catalog::Found::Nothing => Evaluated::Refused(Refusal::at(Reason::NotInCatalog, p)),

@@ -1,21 +1,20 @@
 -- What runs, and then what comes after it: one law for each way in which the code goes on, its premises as the callees ensure them.
 use Prim.Native.Nat.{ℕ, _≤_}
-use mathlib.Core.Path.{_≡_, sym, ap, _∙_, subst}
-use mathlib.Core.List.{List}
+use mathlib.Core.Path.{_≡_, ap, _∙_, subst}
+use mathlib.Core.List.{List, []}
 use native.Mathlib.Omega.{arith}
 use lib.ListN.{length}
 use Rattle.values.specs.declared.Refusal.{Refusal}
 use Rattle.rules.specs.Outcome.{Outcome, done, _>>=_}
 use Rattle.rules.specs.State.{Entry, State, Context, Known}
-use Rattle.rules.specs.Evaluate.{findType, findClass}
-use Rattle.cells.specs.Memory.{Names, namesOf}
+use Rattle.rules.specs.Compile.{onto}
 use Rattle.memory.proofs.Titles.{title-kept}
+use Rattle.catalog_index.proofs.Keeping.{index-kept}
 use Rattle.evaluator.specs.Answers.{refusedBy}
-use Rattle.evaluator.specs.Known.{DefinedAt, KnownIn}
 use Rattle.statements.specs.Answers.{Keeps}
 use Rattle.resources.specs.declared.Filled.{Filled}
 use Rattle.resources.specs.declared.Filled.the-variants.{Done, Refused}
-use Rattle.declarations.proofs.Laws.{set-kept}
+use Rattle.declarations.proofs.Laws.{set-kept, known-kept}
 use Rattle.execution.specs.Executed.{Able, Stage, stateWith, Ends, refusedSo, doneSo, AbleAfter, Executes}
 
 -- ---- What an answer tells
@@ -39,21 +38,14 @@ ends-same e i = rw e i
 -- ---- What stays
 
 module _ {m w w′ : List ℕ} (kept : Keeps w w′) where
-  pub known-kept : {k : Known} → KnownIn m w k → KnownIn m w′ k
-  unfolding namesOf
-  known-kept {k} i = record {
-    builtIns = λ n. i .builtIns n ∙ sym (ap (λ (ns : Names). ns .builtIns n) (kept .names));
-    definitions = λ n. subst (λ (q : ℕ). DefinedAt m q (findType n (k .definitions)) (findClass n (k .definitions))) (sym (ap (λ (ns : Names). ns .definitions n) (kept .names))) (i .definitions n);
-  }
-
   pub stage-kept : {out : List ℕ} {fill : ℕ} {k : Known} {es : List Entry} → Stage m w out fill k es → Stage m w′ out fill k es
-  stage-kept s = record {
-    ready = record { catalog = s .ready .catalog; unique = s .ready .unique; known = known-kept (s .ready .known) };
+  stage-kept {es = es} s = record {
+    ready = record { catalog = s .ready .catalog; index = index-kept w w′ (onto es []) (kept .rest) (s .ready .index); unique = s .ready .unique; known = known-kept (kept .names) (s .ready .known) };
     title = title-kept w w′ (kept .rest) ∙ s .title;
   }
 
   pub able-kept : {out : List ℕ} {fill : ℕ} → length w′ ≡ length w → Able m w out fill → Able m w′ out fill
-  able-kept size a = record { set = set-kept kept size (a .set); fine = kept .fine (a .fine); filled = a .filled }
+  able-kept size a = record { set = set-kept (kept .names) size (a .set); fine = kept .fine (a .fine); filled = a .filled }
 
 -- ---- Ways
 

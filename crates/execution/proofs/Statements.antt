@@ -2,9 +2,10 @@
 use Prim.Native.Nat.{ℕ, suc, _+_, _-_, _<_, _≤_}
 use mathlib.Core.Path.{_≡_, refl, sym, ap, _∙_, subst}
 use mathlib.Core.Bool.{Bool, true, false}
-use mathlib.Core.List.{List, _∷_}
+use mathlib.Core.List.{List, [], _∷_, _++_}
 use native.Mathlib.Omega.{arith}
 use lib.ListN.{length}
+use lib.Seq.{length-take-le}
 use Rattle.labels.specs.declared.Labels.{Labels}
 use Rattle.labels.specs.Sets.{_∪_}
 use Rattle.values.specs.declared.Refusal.{Refusal}
@@ -15,7 +16,8 @@ use Rattle.rules.specs.Outcome.{Outcome, done, _>>=_}
 use Rattle.rules.specs.Tree.{Statement, Block, include}
 use Rattle.rules.specs.State.{Entry, State, Context, Known, takeStep}
 use Rattle.rules.specs.Run.{run, runBlock, inBranch, declaration}
-use Rattle.rules.specs.Compile.{roomIn}
+use Rattle.rules.specs.Catalog.{catalogBytes}
+use Rattle.rules.specs.Compile.{onto, roomIn}
 use Rattle.rules.specs.Format.{forms, formIn, formOf, size, headSize}
 use Rattle.rules.specs.declared.Kind.{Kind}
 use Rattle.rules.specs.declared.Kind.the-variants.{Statement as StatementKind, Block as BlockKind}
@@ -23,9 +25,15 @@ use Rattle.places.specs.At.{expressionAt, statementAt, blockAt, StandsAs}
 use Rattle.places.proofs.Tags.{IsStatementTag, assignmentTag, conditionalTag, choiceTag, resourceTag, definedTag, classTag, includeTag, statement-tag}
 use Rattle.places.proofs.Open.{opened-leaf}
 use Rattle.places.proofs.Statements.{ConditionalAt, conditional-opens, choice-opens, include-opens}
-use Rattle.cells.specs.Memory.{builtInOf, stateOf}
+use Rattle.cells.specs.Layout.{wordsAt}
+use Rattle.cells.specs.Memory.{builtInOf, stateOf, Stays}
 use Rattle.memory.specs.declared.Context.{Context as Here}
 use Rattle.memory.specs.Contexts.{contextIn, contextOf}
+use Rattle.memory.proofs.Titles.{title-same}
+use Rattle.catalog.proofs.Order.{onto-last}
+use Rattle.catalog_index.specs.Index.{Indexed, Extended}
+use Rattle.catalog_index.proofs.Keeping.{index-stays, index-words}
+use Rattle.evaluator.specs.Answers.{refusedBy}
 use Rattle.evaluator.specs.Known.{Sized}
 use Rattle.branches.proofs.Standing.{has-level, has-header}
 use Rattle.statements.specs.declared.Ran as assigned
@@ -44,9 +52,10 @@ use Rattle.resources.specs.declared.Filled.the-variants.{Done, Refused}
 use Rattle.resources.specs.Entries.{Within, Means, refusedSo as refusedThere, doneSo as doneThere}
 use Rattle.resources.specs.Entries as resources
 use Rattle.declarations.specs.Standing.{NamesKnown}
-use Rattle.execution.specs.Executed.{Able, Stage, stateWith, Ends, refusedSo, doneSo, AbleAfter, Executes, begun}
+use Rattle.declarations.proofs.Laws.{set-kept, known-kept}
+use Rattle.execution.specs.Executed.{Able, Stage, stateWith, Executes, begun}
 use Rattle.execution.proofs.Names.{name-small, known-condition, known-branches, known-chosen}
-use Rattle.execution.proofs.Ends.{refuses, stops, goes-on, executes-as, stage-kept, able-kept}
+use Rattle.execution.proofs.Ends.{DoneAs, refuses, stops, goes-on, executes-as, stage-kept, able-kept}
 
 -- ---- Before a part is evaluated
 
@@ -79,26 +88,59 @@ module _ {m w w′ out : List ℕ} {fill : ℕ} {here : Here} (d p : ℕ) (answe
 
 -- ---- Resources
 
-module _ {m w out out′ : List ℕ} {d p fill room : ℕ} {here : Here} {built : Bool} {name : ℕ} (a : Filled) (able : Able m w out fill) (s : StandsAs m d StatementKind p) (tag : byte m p ≡ 0x25) (named : name ≡ two m (p + 3)) (isBuilt : built ≡ builtInOf w name) (isRoom : room ≡ roomIn (length out) - fill) (runs : resources.Runs m w out out′ fill room here d p built a) where
-  means-ends : (k : Known) (es : List Entry) (n : ℕ) (o : Outcome State) (a : Filled) → Stage m w out fill k es → Within fill room a → Means w out′ fill room n es o a → Ends m w out′ n k o a
+module _ {m w out out′ : List ℕ} {d p fill room : ℕ} {here : Here} {built : Bool} {name : ℕ} (able : Able m w out fill) (s : StandsAs m d StatementKind p) (tag : byte m p ≡ 0x25) (named : name ≡ two m (p + 3)) (isBuilt : built ≡ builtInOf w name) (isRoom : room ≡ roomIn (length out) - fill) {a : Filled} (runs : resources.Runs m w out out′ fill room here d p built a) (n levels : ℕ) where
+  abbrev statementRun : Known → Context → State → Outcome State
+  statementRun k = run k (declaration k levels) (statementAt m d p)
+
+  meant : (k : Known) (es : List Entry) → Stage m w out fill k es → Means w out′ fill room n es (statementRun k (contextOf here) (stateWith w out fill n es)) a
+  meant k es stage = rw (sym isRoom) (runs .says (s .stands) tag (rw (sym named) isBuilt) k (declaration k levels) es n (stage .ready))
+
+  pub resource-refused : {why : Refusal} → a ≡ Refused why → Executes m w w out out′ fill n n (contextOf here) a statementRun
+  resource-refused {why} is = rw is (refuses why (omega arith) λ k es stage. refused-so (rw is at (meant k es stage)))
+    where
+      refused-so : {es : List Entry} {o : Outcome State} → Means w out′ fill room n es o (Refused why) → o ≡ refusedBy why
+      refused-so (refusedThere e) = e
+
+  -- the new fill point is within the output
+  pub resource-within : {f : ℕ} → a ≡ Done f → (f ≤ length out′) × (f ≤ 65535)
   unfolding Within
-  means-ends k es n o a s within (refusedThere e) = refusedSo e
-  means-ends k es n o a s within (doneThere {f} x e written once) =
+  resource-within {f} is =
+      let within : Within fill room (Done f) = rw is at (runs .within) in
       let long = runs .kept .long in
-      let left : room - (f - fill) ≡ roomIn (length out′) - f = rw long (omega (arith, within .0, isRoom)) in
-      doneSo (x ∷ es) (e ∙ ap (λ (r : ℕ). done (stateOf w (x ∷ es) n r)) left) (record { ready = record { catalog = written; unique = once; known = s .ready .known }; title = s .title })
+      let room-there = room-within (length out) in
+      let filled = able .filled in
+      (omega (arith, within .1, room-there .0), omega (arith, within .1, room-there .1))
 
-  able-then : (a : Filled) → Within fill room a → AbleAfter m w out′ a
-  unfolding Within AbleAfter
-  able-then (Done f) within = record { set = able .set; fine = able .fine; filled = rw (runs .kept .long) (omega (arith, within .1, isRoom, able .filled)) }
-  able-then (Refused why) within = tt
+  module _ {f : ℕ} (is : a ≡ Done f) {w′ : List ℕ} (indexed : Extended out′ fill f w w′) where
+    stays : Stays w w′
+    stays = index-stays w w′ (indexed .kept)
 
-  pub resource-runs : (n levels : ℕ) → Executes m w w out out′ fill n n (contextOf here) a (λ k. run k (declaration k levels) (statementAt m d p))
-  resource-runs n levels = record {
-    able = able-then a (runs .within);
-    steps = omega arith;
-    says = λ k es stage. means-ends k es n (run k (declaration k levels) (statementAt m d p) (contextOf here) (stateWith w out fill n es)) a stage (runs .within) (rw (sym isRoom) (runs .says (s .stands) tag (rw (sym named) isBuilt) k (declaration k levels) es n (stage .ready)));
-  }
+    able-then : Able m w′ out′ f
+    unfolding Within
+    able-then =
+        let within : Within fill room (Done f) = rw is at (runs .within) in
+        record { set = set-kept (stays .names) (indexed .kept .size) (able .set); fine = stays .fine (able .fine); filled = rw (runs .kept .long) (omega (arith, within .1, isRoom, able .filled)) }
+
+    done-so : (k : Known) (es : List Entry) {o : Outcome State} → Stage m w out fill k es → Means w out′ fill room n es o (Done f) → DoneAs m w′ out′ f n k o
+    unfolding Within
+    done-so k es stage (doneThere x e written once) =
+        let within : Within fill room (Done f) = rw is at (runs .within) in
+        let long = runs .kept .long in
+        let left : room - (f - fill) ≡ roomIn (length out′) - f = rw long (omega (arith, within .0, isRoom)) in
+        let filled : fill ≡ length (catalogBytes (onto es [])) = sym (ap length (sym (stage .ready .catalog .bytes)) ∙ length-take-le fill out (omega (arith, able .filled, room-within (length out) .0))) in
+        let after : onto (x ∷ es) [] ≡ onto es [] ++ (x ∷ []) = onto-last x es in
+        let more : Indexed w′ (onto es [] ++ (x ∷ [])) = indexed .more (onto es []) x filled (rw after at written) (stage .ready .index) in
+        record {
+          entries = x ∷ es;
+          same = e ∙ ap (λ (r : ℕ). done (stateOf w (x ∷ es) n r)) left ∙ ap done (sym (stays .state (x ∷ es) n (roomIn (length out′) - f)));
+          stage = record {
+            ready = record { catalog = written; index = rw after more; unique = once; known = known-kept (stays .names) (stage .ready .known) };
+            title = title-same w w′ (index-words w w′ (indexed .kept) wordsAt (omega arith)) ∙ stage .title;
+          };
+        }
+
+    pub resource-done : Executes m w w′ out out′ fill n n (contextOf here) (Done f) statementRun
+    resource-done = stops able-then (omega arith) λ k es stage. done-so k es stage (rw is at (meant k es stage))
 
 -- ---- Steps
 

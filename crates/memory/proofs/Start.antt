@@ -15,7 +15,7 @@ use Rattle.wire.specs.Runs.{over, zeros}
 use Rattle.wire.proofs.Laws.{byte-outside, over-whole, zeros-length, cleared}
 use Rattle.rules.specs.State.{DeclaredClass}
 use Rattle.rules.specs.Compile.{roomIn, start}
-use Rattle.cells.specs.Layout.{table, trailAt, recordAt, wordsAt, summaryAt, headAt, indexAt, trailOf, NameRecord, nameAt, blankRecord, recordsOf}
+use Rattle.cells.specs.Layout.{table, trailAt, recordAt, wordsAt, summaryAt, indexAt, trailOf, NameRecord, nameAt, blankRecord, recordsOf}
 use Rattle.cells.specs.Memory.{classFrom, classIn, definitionIn, builtInIn, classesOf, definitionOf, builtInOf, namesOf, stateOf}
 use Rattle.cells.proofs.Blank.{blank-cells, blank-used, blank-fine}
 use Rattle.cells.proofs.Regions.{names}

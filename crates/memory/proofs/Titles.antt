@@ -11,7 +11,7 @@ use borrow.Author.Tests.{ne-eqb, lt-ltb, le-ltb, eqb-false, ltb-false}
 use Rattle.wire.specs.Bytes.{pick, two}
 use Rattle.wire.specs.Numbers.{highBytes}
 use Rattle.wire.specs.Runs.{over}
-use Rattle.wire.proofs.Laws.{same-rest, two-same, byte-outside, high-length, stored-two}
+use Rattle.wire.proofs.Laws.{same-rest, two-same, byte-outside, high-length, stored-outside, stored-two}
 use Rattle.cells.specs.Layout.{wordsAt, restOf}
 use Rattle.cells.specs.Memory.{Stays}
 use Rattle.cells.proofs.Others.{others-stored}
@@ -74,4 +74,5 @@ title-way w n w′ room below e =
       state = stays .state;
       names = stays .names;
       fine = stays .fine;
+      index = λ p l. ap (λ (m : List ℕ). two m p) e ∙ two-same (over w wordsAt (highBytes 2 (n + 1))) w p p (stored-outside w wordsAt 2 (n + 1) p 2 (λ i a b c d. omega arith));
     }

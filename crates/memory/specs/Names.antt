@@ -68,15 +68,19 @@ pub record TitleSet (w w′ : List ℕ) (name : ℕ) : Type 0 where
   pub state : (es : List Entry) (n r : ℕ) → stateOf w′ es n r ≡ stateOf w es n r
   pub names : namesOf w′ ≡ namesOf w
   pub fine : Fine w → Fine w′
+  pub index : (p : ℕ) → headAt 0 ≤ p → two w′ p ≡ two w p
 
 -- ---- Before the first item
 
--- w stands for the definition's first state: no cell, no class, no name, an empty trail; there is no summary, and the index over the catalog has neither heads
--- nor records
+-- the index over the catalog has neither heads nor records
+abbrev pub NoIndex : List ℕ → Type 0
+NoIndex w = (p : ℕ) → headAt 0 ≤ p → p + 2 ≤ indexAt 0 → two w p ≡ 0
+
+-- w stands for the definition's first state: no cell, no class, no name, an empty trail; there is no summary, and the index is empty
 pub record Begun (w : List ℕ) : Type 0 where
   pub state : (limit output : ℕ) → stateOf w [] limit (roomIn output) ≡ start limit output
   pub names : namesOf w ≡ noNames
   pub title : titleOf w ≡ none
   pub fine : Fine w
   pub summaries : (i : ℕ) → i < 16 → two w (summaryAt i) ≡ 0
-  pub index : (p : ℕ) → headAt 0 ≤ p → p + 2 ≤ indexAt 0 → two w p ≡ 0
+  pub index : NoIndex w

@@ -25,6 +25,7 @@ use Rattle.catalog.specs.declared.Place.the-variants.{At, Nothing}
 use Rattle.catalog.specs.Making.{entry, Holding}
 use Rattle.catalog.specs.Finding.{Written}
 use Rattle.catalog.proofs.Order.{onto-last, any-in-order}
+use Rattle.catalog_index.specs.Index.{Indexed}
 use Rattle.attributes.specs.Names.{repeatedIn}
 use Rattle.attributes.proofs.Repeats.{repeatedOutcome, named-places}
 use Rattle.resources.specs.declared.Filled.{Filled}
@@ -74,63 +75,66 @@ not-false false e = sym e
 
 -- ---- The ways
 
-module _ (m out : List ℕ) (fill size room p first end : ℕ) (built : Bool) (title : ℕ) (own : Labels) where
-  pub check-unknown : {r : Filled} → not built ≡ true → r ≡ Refused (refusalAt Unknown p) → Checks m out out fill size room p first end built title own r
+module _ (m w out : List ℕ) (fill size room p first end : ℕ) (built : Bool) (title : ℕ) (own : Labels) where
+  pub check-unknown : {r : Filled} → not built ≡ true → r ≡ Refused (refusalAt Unknown p) → Checks m w out out fill size room p first end built title own r
   check-unknown {r} is answer = record {
     kept = kept-all out fill;
     within = within-refused fill room answer;
-    says = λ w k c es n gs labels outer b written u o1 o2 h fits a.
+    says = λ k c es n gs labels outer b written i u o1 o2 h fits a.
         subst (λ (v : Filled). Means w out fill room n es (addResource k p (two m (p + 3)) title labels gs c (stateOf w es n room)) v) (sym answer)
         (refusedSo (not-known k p (two m (p + 3)) title labels gs c (stateOf w es n room) (b ∙ not-true built is)));
   }
 
-  module _ (known : not built ≡ false) {kind : ℕ} (read : kind ≡ two m (p + 3)) {has : Bool} (looked : (es : List Entry) → Written out fill es → has ≡ any (isEntry kind title) es) where
+  pub check-built : {out′ : List ℕ} {r : Filled} → not built ≡ false → Checks m w out out′ fill size room p first end true title own r → Checks m w out out′ fill size room p first end built title own r
+  check-built known checks = rw (not-false built known) checks
+
+  module _ (known : not built ≡ false) {kind : ℕ} (read : kind ≡ two m (p + 3)) {has : Bool} (looked : (es : List Entry) → Written out fill es → Indexed w es → has ≡ any (isEntry kind title) es) where
     is : built ≡ true
     is = not-false built known
 
-    found : (es : List Entry) → Written out fill (onto es []) → UniqueEntries es → has ≡ any (isEntry (two m (p + 3)) title) es
-    found es written u = looked (onto es []) written ∙ any-in-order kind title es u ∙ ap (λ (t : ℕ). any (isEntry t title) es) read
+    found : (es : List Entry) → Written out fill (onto es []) → Indexed w (onto es []) → UniqueEntries es → has ≡ any (isEntry (two m (p + 3)) title) es
+    found es written i u = looked (onto es []) written i ∙ any-in-order kind title es u ∙ ap (λ (t : ℕ). any (isEntry t title) es) read
 
-    pub check-again : {r : Filled} → has ≡ true → r ≡ Refused (refusalAt ResourceAgain p) → Checks m out out fill size room p first end built title own r
+    pub check-again : {r : Filled} → has ≡ true → r ≡ Refused (refusalAt ResourceAgain p) → Checks m w out out fill size room p first end built title own r
     unfolding stateOf
     check-again {r} there answer = record {
       kept = kept-all out fill;
       within = within-refused fill room answer;
-      says = λ w k c es n gs labels outer b written u o1 o2 h fits a.
+      says = λ k c es n gs labels outer b written i u o1 o2 h fits a.
           subst (λ (v : Filled). Means w out fill room n es (addResource k p (two m (p + 3)) title labels gs c (stateOf w es n room)) v) (sym answer)
-          (refusedSo (there-already k p (two m (p + 3)) title labels gs c (stateOf w es n room) (b ∙ is) (sym (found es written u) ∙ there)));
+          (refusedSo (there-already k p (two m (p + 3)) title labels gs c (stateOf w es n room) (b ∙ is) (sym (found es written i u) ∙ there)));
     }
 
     module _ (no : has ≡ false) {f : Place} (repeated : f ≡ repeatedIn m [] (fieldsIn m first end)) where
-      pub check-twice : {q : ℕ} {r : Filled} → f ≡ At q → r ≡ Refused (refusalAt AttributeAgain q) → Checks m out out fill size room p first end built title own r
+      pub check-twice : {q : ℕ} {r : Filled} → f ≡ At q → r ≡ Refused (refusalAt AttributeAgain q) → Checks m w out out fill size room p first end built title own r
       unfolding stateOf repeatedOutcome
       check-twice {q} {r} at answer = record {
         kept = kept-all out fill;
         within = within-refused fill room answer;
-        says = λ w k c es n gs labels outer b written u o1 o2 h fits a.
+        says = λ k c es n gs labels outer b written i u o1 o2 h fits a.
             subst (λ (v : Filled). Means w out fill room n es (addResource k p (two m (p + 3)) title labels gs c (stateOf w es n room)) v) (sym answer)
-            (refusedSo (named-twice k p (two m (p + 3)) title labels gs c (stateOf w es n room) (b ∙ is) (sym (found es written u) ∙ no) (named-places m repeated a ∙ ap repeatedOutcome at)));
+            (refusedSo (named-twice k p (two m (p + 3)) title labels gs c (stateOf w es n room) (b ∙ is) (sym (found es written i u) ∙ no) (named-places m repeated a ∙ ap repeatedOutcome at)));
       }
 
-      means-entered : {out′ : List ℕ} {r : Filled} (w : List ℕ) (n : ℕ) (es : List Entry) (ats : List Attribute) → UniqueEntries es → any (isEntry kind title) es ≡ false → Entered out′ fill room p (onto es []) (entry kind title own ats) r → Means w out′ fill room n es (addEntry p (entry kind title own ats) (stateOf w es n room)) r
+      means-entered : {out′ : List ℕ} {r : Filled} (n : ℕ) (es : List Entry) (ats : List Attribute) → UniqueEntries es → any (isEntry kind title) es ≡ false → Entered out′ fill room p (onto es []) (entry kind title own ats) r → Means w out′ fill room n es (addEntry p (entry kind title own ats) (stateOf w es n room)) r
       unfolding addEntry stateOf withEntry refuseIf _>>=_
-      means-entered w n es ats u new (full e) = refusedSo {why = refusalAt OutputFull p} (rw e)
-      means-entered {out′} w n es ats u new (entered {f = g} size-is e written) =
+      means-entered n es ats u new (full e) = refusedSo {why = refusalAt OutputFull p} (rw e)
+      means-entered {out′} n es ats u new (entered {f = g} size-is e written) =
           let left : room - length (entryBytes (entry kind title own ats)) ≡ room - (g - fill) = omega arith in
           doneSo {f = g} (entry kind title own ats) (rw (e, left)) (subst (λ (l : List Entry). Written out′ g l) (sym (onto-last (entry kind title own ats) es)) written) (unique new u)
 
       pub check-rest : {out′ : List ℕ} {r : Filled} → f ≡ Nothing → Kept out out′ fill → Within fill room r → ((ats : List Attribute) (es : List Entry) → Holding (drop fill out) size ats → Each FitsAttribute ats → Written out fill es → Entered out′ fill room p es (entry kind title own ats) r)
-          → Checks m out out′ fill size room p first end built title own r
+          → Checks m w out out′ fill size room p first end built title own r
       unfolding stateOf repeatedOutcome
       check-rest {out′} {r} none kept within finished = record {
         kept = kept;
         within = within;
-        says = λ w k c es n gs labels outer b written u o1 o2 h fits a.
+        says = λ k c es n gs labels outer b written i u o1 o2 h fits a.
             let st = stateOf w es n room in
-            let new : any (isEntry kind title) es ≡ false = sym (any-in-order kind title es u) ∙ sym (looked (onto es []) written) ∙ no in
+            let new : any (isEntry kind title) es ≡ false = sym (any-in-order kind title es u) ∙ sym (looked (onto es []) written i) ∙ no in
             let same : addResource k p (two m (p + 3)) title labels gs c (stateOf w es n room) ≡ addEntry p (entry kind title own (attributesFor outer own gs)) (stateOf w es n room) =
-            all-right k p (two m (p + 3)) title labels gs c (stateOf w es n room) (b ∙ is) (sym (found es written u) ∙ no) (named-places m repeated a ∙ ap repeatedOutcome none)
+            all-right k p (two m (p + 3)) title labels gs c (stateOf w es n room) (b ∙ is) (sym (found es written i u) ∙ no) (named-places m repeated a ∙ ap repeatedOutcome none)
             ∙ ap (λ (e : Entry). addEntry p e (stateOf w es n room)) (entry-for (two m (p + 3)) title labels outer own c (stateOf w es n room) gs o1 o2)
             ∙ ap (λ (t : ℕ). addEntry p (entry t title own (attributesFor outer own gs)) (stateOf w es n room)) (sym read) in
-            subst (λ (o : Outcome State). Means w out′ fill room n es o r) (sym same) (means-entered w n es (attributesFor outer own gs) u new (finished (attributesFor outer own gs) (onto es []) h fits written));
+            subst (λ (o : Outcome State). Means w out′ fill room n es o r) (sym same) (means-entered n es (attributesFor outer own gs) u new (finished (attributesFor outer own gs) (onto es []) h fits written));
       }

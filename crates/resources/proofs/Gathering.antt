@@ -85,7 +85,7 @@ module _ (m w out : List ℕ) (fill size : ℕ) (scope : Scope) (d q : ℕ) (out
 -- ---- The ways of `gather`
 
 ready-kept : {m w out out′ : List ℕ} {fill : ℕ} {k : Known} {es : List Entry} → take fill out′ ≡ take fill out → Ready m w out fill k es → Ready m w out′ fill k es
-ready-kept same r = record { catalog = written-kept same (r .catalog); unique = r .unique; known = r .known }
+ready-kept same r = record { catalog = written-kept same (r .catalog); index = r .index; unique = r .unique; known = r .known }
 
 tells-kept : {m w out out′ : List ℕ} {fill : ℕ} {scope : Scope} {a : Outcome Labelled} {f : Known → Context → State → Outcome Labelled} → take fill out′ ≡ take fill out → Tells m w out′ fill scope a f → Tells m w out fill scope a f
 tells-kept same t = record { says = λ k path es n r h. t .says k path es n r (ready-kept same h) }

@@ -113,7 +113,7 @@ module _ (m w out : List ℕ) (fill room : ℕ) (here : Here) (inner p : ℕ) (x
             → refusedBy why ≡ evaluateAll k (contextOf here) (stateOf w es n room) (attributesAt m (suc inner) (fieldsIn m (endOf m (p + 5)) (endOf m p)))
         told (notGathered kept t) s k es n h = t s .says k (here .path) es n room h
 
-    pub titled-goes-on : {size : ℕ} {out2 : List ℕ} {r : Filled} → g ≡ Done size → Checks m out1 out2 fill size room p first end built title own r → RunsTitled m w out out2 fill room here inner p x built r
+    pub titled-goes-on : {size : ℕ} {out2 : List ℕ} {r : Filled} → g ≡ Done size → Checks m w out1 out2 fill size room p first end built title own r → RunsTitled m w out out2 fill room here inner p x built r
     unfolding _>>=_
     titled-goes-on {size} {out2} {r} went checks = record {
       kept = record { front = checks .kept .front ∙ gathered-kept .front; long = checks .kept .long ∙ gathered-kept .long };
@@ -129,7 +129,7 @@ module _ (m w out : List ℕ) (fill room : ℕ) (here : Here) (inner p : ℕ) (x
             let places : fieldsIn m (endOf m (p + 5)) (endOf m p) ≡ fieldsIn m first end = ap₂ (λ (a z : ℕ). fieldsIn m a z) (sym first-is) (sym same) in
             let alikes : Alike m gs (fieldsIn m first end) = subst (λ (qs : List ℕ). Alike m gs qs) places (allGet (all-alike m (suc inner) k (contextOf here) (stateOf w es n room) (fieldsIn m (endOf m (p + 5)) (endOf m p))) (sym told)) in
             subst (λ (o : Outcome State). Means w out2 fill room n es o r) (string-run k es n told)
-            (checks .says w k (contextOf here) es n gs (x .labels) outer (h .known .builtIns (two m (p + 3)) ∙ sym b) (written-kept (kept .front) (h .catalog)) (h .unique) o1 o2 holding fits alikes)
+            (checks .says k (contextOf here) es n gs (x .labels) outer (h .known .builtIns (two m (p + 3)) ∙ sym b) (written-kept (kept .front) (h .catalog)) (h .index) (h .unique) o1 o2 holding fits alikes)
 
 -- ---- The ways of `add_resource`
 

@@ -28,6 +28,7 @@ use Rattle.memory.specs.declared.Context.{Context as Here}
 use Rattle.memory.specs.Contexts.{contextOf}
 use Rattle.catalog.specs.Making.{Holding}
 use Rattle.catalog.specs.Finding.{Written}
+use Rattle.catalog_index.specs.Index.{Indexed}
 use Rattle.evaluator.specs.Answers.{refusedBy}
 use Rattle.evaluator.specs.Known.{Ready}
 use Rattle.resources.specs.declared.Filled.{Filled}
@@ -51,10 +52,10 @@ pub data Means (w out′ : List ℕ) (fill room n : ℕ) (es : List Entry) (o : 
   doneSo : {f : ℕ} (e : Entry) → o ≡ done (stateOf w (e ∷ es) n (room - (f - fill))) → Written out′ f (onto (e ∷ es) []) → UniqueEntries (e ∷ es) → Means w out′ fill room n es o (Done f)
 
 -- 9, 20, 21 and 23, for the resource at p whose 26s stand from `first` to `end`: `outer` is path and trail, `own` with the title's set
-pub record Checks (m out out′ : List ℕ) (fill size room p first end : ℕ) (built : Bool) (title : ℕ) (own : Labels) (r : Filled) : Type 0 where
+pub record Checks (m w out out′ : List ℕ) (fill size room p first end : ℕ) (built : Bool) (title : ℕ) (own : Labels) (r : Filled) : Type 0 where
   pub kept : Kept out out′ fill
   pub within : Within fill room r
-  pub says : (w : List ℕ) (k : Known) (c : Context) (es : List Entry) (n : ℕ) (gs : List Given) (labels outer : Labels) → k .builtIn (two m (p + 3)) ≡ built → Written out fill (onto es []) → UniqueEntries es
+  pub says : (k : Known) (c : Context) (es : List Entry) (n : ℕ) (gs : List Given) (labels outer : Labels) → k .builtIn (two m (p + 3)) ≡ built → Written out fill (onto es []) → Indexed w (onto es []) → UniqueEntries es
       → outer ≡ c .path ∪ trailOf w → own ≡ outer ∪ labels → Holding (drop fill out) size (attributesFor outer own gs) → Each FitsAttribute (attributesFor outer own gs) → Alike m gs (fieldsIn m first end)
       → Means w out′ fill room n es (addResource k p (two m (p + 3)) title labels gs c (stateOf w es n room)) r
 

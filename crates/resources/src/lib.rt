@@ -1,5 +1,6 @@
 // A resource of a built-in type, after its step: its parts evaluated over the manifest's bytes in place, and its entry written to the output.
 ghost use mathlib.Core.Path.{_≡_};
+ghost use mathlib.Core.Bool.{true};
 ghost use mathlib.Core.List.{List};
 ghost use Prim.Native.Nat.{ℕ, suc, _+_, _-_, _≤_, _<_};
 ghost use lib.ListN.{length, drop};
@@ -128,27 +129,24 @@ fn finish(
     }
 }
 
-// The checks of the resource at p, whose attributes are those of the span, by rising number, and its entry.
+// The checks of the resource at p, whose type is built in and whose attributes are those of the span, by rising number, and its entry.
 fn check(
     m: &[u8],
     p: usize,
     span: Span,
+    work: &[u8],
     out: &mut [u8],
     fill: usize,
     size: usize,
     room: usize,
-    built_in: bool,
     title: u16,
     own: Labels,
 ) -> Filled
-    requires { ⌜ (fill ≤ length (now out)) × ((fill ≤ 65535) × ((entryAttributes ≤ size) × ((room ≤ 65535) × ((room ≤ length (now out) - fill) × ((p ≤ 65535) × (span .end ≤ 65535)))))) ⌝ }
-    ensures { λ r. ⌜ Checks (now (m .entry)) (now (out .entry)) (now (out .exit)) fill size room p (span .first) (span .end) «built_in» title own r ⌝ }
+    requires { ⌜ (65536 ≤ length (now work)) × ((fill ≤ length (now out)) × ((fill ≤ 65535) × ((entryAttributes ≤ size) × ((room ≤ 65535) × ((room ≤ length (now out) - fill) × ((p ≤ 65535) × (span .end ≤ 65535))))))) ⌝ }
+    ensures { λ r. ⌜ Checks (now (m .entry)) (now (work .entry)) (now (out .entry)) (now (out .exit)) fill size room p (span .first) (span .end) true title own r ⌝ }
 {
-    if !built_in {
-        return Filled::Refused(Refusal::at(Reason::Unknown, p));
-    }
     let kind = wire::two_at(m, p + 3);
-    if catalog::has_entry(out, fill, kind, title) {
+    if catalog_index::has_entry(work, out, fill, kind, title) {
         return Filled::Refused(Refusal::at(Reason::ResourceAgain, p));
     }
     let again = attributes::find_repeated(m, span.first, span.end);
@@ -193,7 +191,10 @@ fn add_titled(
     let Filled::Done(size) = g else {
         return g;
     };
-    check(m, p, span, out, fill, size, room, built_in, title, own)
+    if !built_in {
+        return Filled::Refused(Refusal::at(Reason::Unknown, p));
+    }
+    check(m, p, span, work, out, fill, size, room, title, own)
 }
 
 // The resource at p, with `depth` levels left for it. `built_in` says whether its type is, `room` how much of the output is left.

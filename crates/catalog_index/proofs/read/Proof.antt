@@ -37,7 +37,7 @@ returns-2 : tie.Need-returns-2
 returns-2 c = λ es w i.
     let s = c .before .before .before .before .before .before .before .before .before in
     let a = s .args in
-    read-missing (a .out .now) (a .fill) (a .kind) (a .title) (s .pre .1 .1) (s .pre .1 .0) es w (c .before .before .before .before .before .before .find-entry .ensures .0 es w i) (a .name) (c .before .before .before .before .entry .given .0 .0) (c .before .before .before .before .entry .given .1) (λ e at place is. c .before .before .find-attribute .ensures .0 es (a .kind) (a .title) e w i place is) (c .enum-told2 .given .1)
+    read-missing (a .out .now) (a .fill) (a .kind) (a .title) (s .pre .1 .1) (s .pre .1 .0) es w (c .before .before .before .before .before .before .find-entry .ensures .0 es w i) (a .name) (c .before .before .before .before .entry .given .0 .0) (c .before .before .before .before .entry .given .1) (λ e place is. c .before .before .find-attribute .ensures .0 es (a .kind) (a .title) e w i place is) (c .enum-told2 .given .1)
 
 read-attribute-requires : tie.Need-read-attribute-requires
 read-attribute-requires c κs = omega (arith, below-at (c .before .before .before .find-attribute .ensures .1) (c .before .at .given .1))
@@ -46,7 +46,7 @@ returns-3 : tie.Need-returns-3
 returns-3 c = λ es w i.
     let s = c .before .before .before .before .before .before .before .before .before .before .before in
     let a = s .args in
-    read-content (a .out .now) (a .fill) (a .kind) (a .title) (s .pre .1 .1) (s .pre .1 .0) es w (c .before .before .before .before .before .before .before .before .find-entry .ensures .0 es w i) (a .name) (c .before .before .before .before .before .before .entry .given .0 .0) (c .before .before .before .before .before .before .entry .given .1) (λ e at place is. c .before .before .before .before .find-attribute .ensures .0 es (a .kind) (a .title) e w i place is) (c .before .before .at .given .0 .0) (c .before .before .at .given .1) (c .read-attribute .ensures)
+    read-content (a .out .now) (a .fill) (a .kind) (a .title) (s .pre .1 .1) (s .pre .1 .0) es w (c .before .before .before .before .before .before .before .before .find-entry .ensures .0 es w i) (a .name) (c .before .before .before .before .before .before .entry .given .0 .0) (c .before .before .before .before .before .before .entry .given .1) (λ e place is. c .before .before .before .before .find-attribute .ensures .0 es (a .kind) (a .title) e w i place is) (c .before .before .at .given .0 .0) (c .before .before .at .given .1) (c .read-attribute .ensures)
 
 pub read-spec : {M : Type 1} → statement M
 read-spec =

@@ -160,7 +160,7 @@ pub +declare-class+declare-parent+declare-type+enter-class+run-begun+run-block+r
     (run-begun-answers.same-length-5 t)
     (run-begun-answers.same-length-6 t)
     (run-begun-answers.returns-3 t)
-    (λ c. refl)
+    (run-begun-answers.same-length-7 t)
     (run-begun-answers.same-length-8 t)
     (run-begun-answers.returns-4 t)
     (run-begun-answers.same-length-9 t)

@@ -66,11 +66,14 @@ same-length-6 t c = c .before .before .before .before .run-case .kept .1 .1 .1 .
 pub returns-3 : (t : ℕ) → run-begun-lts.Need-returns-3 (run-begun-calls t) (run-begun-at t) run-begun.Post
 returns-3 t c = c .before .before .before .before .run-case .ensures
 
+pub same-length-7 : (t : ℕ) → run-begun-lts.Need-same-length-7 (run-begun-calls t) (run-begun-at t) run-begun.Post
+same-length-7 t c = c .before .before .before .before .run-resource .kept .1 .1 .1 .0
+
 pub same-length-8 : (t : ℕ) → run-begun-lts.Need-same-length-8 (run-begun-calls t) (run-begun-at t) run-begun.Post
-same-length-8 t c = c .before .before .run-resource .kept .1 .1 .1 .1 .0
+same-length-8 t c = c .before .before .before .before .run-resource .kept .1 .1 .1 .1 .0
 
 pub returns-4 : (t : ℕ) → run-begun-lts.Need-returns-4 (run-begun-calls t) (run-begun-at t) run-begun.Post
-returns-4 t c = c .before .before .run-resource .ensures _ _
+returns-4 t c = c .before .before .before .before .run-resource .ensures _ _
 
 pub same-length-9 : (t : ℕ) → run-begun-lts.Need-same-length-9 (run-begun-calls t) (run-begun-at t) run-begun.Post
 same-length-9 t c = c .before .before .before .before .run-given .kept .1 .1 .1 .1 .0
