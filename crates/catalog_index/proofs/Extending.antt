@@ -16,7 +16,7 @@ use Rattle.catalog.proofs.Entries.{entries-listed, after-type, attribute-body, 
 use Rattle.catalog_index.specs.Chains.{Posting, posting, gather}
 use Rattle.catalog_index.specs.Index.{entryBucket, attributeBucket, postAttribute, postEntry, postings, Holds, Indexed, InIndex, Recorded}
 use Rattle.catalog_index.proofs.Postings.{others, one-first, gather-last, gather-grows}
-use Rattle.catalog_index.proofs.Searching.{OneEntry, next, own-attributes, postings-few}
+use Rattle.catalog_index.proofs.Searching.{OneEntry, own-end, next, own-attributes, postings-few}
 use Rattle.catalog_index.proofs.Storing.{in-index-both}
 
 -- the last of those listed
