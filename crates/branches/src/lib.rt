@@ -74,7 +74,7 @@ fn collect_in(m: &[u8], depth: u8, p: usize, end: usize, names: &mut [u64; 16]) 
 }
 
 // The block at `p` and the one after it: the branches of an if.
-pub fn collect_both(m: &[u8], depth: u8, p: usize, names: &mut [u64; 16]) -> bool
+fn collect_both(m: &[u8], depth: u8, p: usize, names: &mut [u64; 16]) -> bool
     requires { ⌜ ((length (now m) ≤ 65535) × (length (now names) ≡ 16)) × ((StandsAs (now m) depth Block p × StandsAs (now m) depth Block (endOf (now m) p)) × Small (both (textIn (blockAt (now m) depth p)) (textIn (blockAt (now m) depth (endOf (now m) p))))) ⌝ }
     ensures { λ r. ⌜ Collects (now (names .entry)) (now (names .exit)) r (both (textIn (blockAt (now (m .entry)) depth p)) (textIn (blockAt (now (m .entry)) depth (endOf (now (m .entry)) p)))) ⌝ }
 {
@@ -84,7 +84,7 @@ pub fn collect_both(m: &[u8], depth: u8, p: usize, names: &mut [u64; 16]) -> boo
 }
 
 // The 24s from `from` to `end`: the branches of a case.
-pub fn collect_any(m: &[u8], depth: u8, from: usize, end: usize, names: &mut [u64; 16]) -> bool
+fn collect_any(m: &[u8], depth: u8, from: usize, end: usize, names: &mut [u64; 16]) -> bool
     requires { ⌜ ((length (now m) ≤ 65535) × (length (now names) ≡ 16)) × (Siblings (now m) depth Branch from end × Small (textAny (branchesAt (now m) depth (fieldsIn (now m) from end)))) ⌝ }
     ensures { λ r. ⌜ Collects (now (names .entry)) (now (names .exit)) r (textAny (branchesAt (now (m .entry)) depth (fieldsIn (now (m .entry)) from end))) ⌝ }
 {

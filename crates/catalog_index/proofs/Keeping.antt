@@ -1,4 +1,4 @@
--- The index depends on the bytes of others alone; it is empty before a run, and stores in it leave the state, the names and the title. Assumes nothing.
+-- The index depends on its own bytes alone, which are among those of others; it is empty before a run, and stores in it leave the state, the names and the title. Assumes nothing.
 use mathlib.Core.Path.{_≡_, _∙_, fun-ext}
 use mathlib.Core.List.{List, []}
 use Prim.Native.Nat.{ℕ, _+_, _≤_}
@@ -13,13 +13,16 @@ use Rattle.catalog_index.specs.Chains.{gather, Chained}
 use Rattle.catalog_index.specs.Index.{postings, headsOf, placesOf, linksOf, Indexed, InIndex}
 use Rattle.catalog_index.proofs.Chains.{chained-none}
 
-pub index-kept : (w w′ : List ℕ) (es : List Entry) → restOf w′ ≡ restOf w → Indexed w es → Indexed w′ es
-index-kept w w′ es same i =
-    let heads : headsOf w′ ≡ headsOf w = fun-ext (λ b. others-read w w′ same (headAt b) (omega arith)) in
-    let places : placesOf w′ ≡ placesOf w = fun-ext (λ k. others-read w w′ same (indexAt k) (omega arith)) in
-    let links : linksOf w′ ≡ linksOf w = fun-ext (λ k. others-read w w′ same (indexAt k + indexLink) (omega arith)) in
+pub index-same : (w w′ : List ℕ) (es : List Entry) → ((p : ℕ) → headAt 0 ≤ p → two w′ p ≡ two w p) → Indexed w es → Indexed w′ es
+index-same w w′ es same i =
+    let heads : headsOf w′ ≡ headsOf w = fun-ext (λ b. same (headAt b) (omega arith)) in
+    let places : placesOf w′ ≡ placesOf w = fun-ext (λ k. same (indexAt k) (omega arith)) in
+    let links : linksOf w′ ≡ linksOf w = fun-ext (λ k. same (indexAt k + indexLink) (omega arith)) in
     let chains : Chained (headsOf w′) (placesOf w′) (linksOf w′) (postings es) = rw (heads, places, links) (i .chains) in
-    record { count = others-read w w′ same countAt (omega arith) ∙ i .count; chains = chains }
+    record { count = same countAt (omega arith) ∙ i .count; chains = chains }
+
+pub index-kept : (w w′ : List ℕ) (es : List Entry) → restOf w′ ≡ restOf w → Indexed w es → Indexed w′ es
+index-kept w w′ es same = index-same w w′ es (λ p l. others-read w w′ same p (omega arith))
 
 pub index-none : (w : List ℕ) → ((p : ℕ) → headAt 0 ≤ p → p + 2 ≤ indexAt 0 → two w p ≡ 0) → Indexed w []
 unfolding postings gather

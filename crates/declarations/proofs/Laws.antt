@@ -15,6 +15,7 @@ use Rattle.rules.specs.Evaluate.{findType, findClass}
 use Rattle.rules.specs.Run.{Given, namedOnce, parametersKnown, parameterValues, storeTitle, storeAll, Declare, ofType, ofClass, included, runBlock, placedUnder, inClass, inBody, parentFirst, enterClass, declaration}
 use Rattle.cells.specs.Memory.{Names, definitionOf, namesOf}
 use Rattle.evaluator.specs.Known.{DefinedAt, KnownIn}
+use Rattle.summaries.specs.Summaries.{Summarized}
 use Rattle.parameters.specs.Checked.{checkGiven}
 use Rattle.parameters.proofs.Laws.{check-none}
 use Rattle.declarations.specs.Standing.{Defined, Set}
@@ -131,12 +132,13 @@ definition-kept : (w w′ : List ℕ) → namesOf w′ ≡ namesOf w → (n : �
 unfolding namesOf
 definition-kept w w′ kept n = ap (λ (ns : Names). ns .definitions n) (sym kept)
 
-pub set-kept : {m w w′ : List ℕ} → namesOf w′ ≡ namesOf w → length w′ ≡ length w → Set m w → Set m w′
-set-kept {m} {w} {w′} kept size s = record {
+pub set-kept : {m w w′ : List ℕ} → namesOf w′ ≡ namesOf w → length w′ ≡ length w → (Summarized m w → Summarized m w′) → Set m w → Set m w′
+set-kept {m} {w} {w′} kept size right s = record {
   memory = omega (arith, s .memory);
   manifest = s .manifest;
   strings = s .strings;
   definitions = λ n. subst (Defined m) (definition-kept w w′ kept n) (s .definitions n);
+  summaries = right (s .summaries);
 }
 
 pub known-kept : {m w w′ : List ℕ} {k : Known} → namesOf w′ ≡ namesOf w → KnownIn m w k → KnownIn m w′ k

@@ -10,6 +10,7 @@ use Rattle.rules.specs.declared.Kind.the-variants.{Item}
 use Rattle.places.specs.At.{StandsAs}
 use Rattle.syntax.specs.Names.{NamesFrom}
 use Rattle.cells.specs.Memory.{definitionOf}
+use Rattle.summaries.specs.Summaries.{Summarized}
 use Rattle.declarations.specs.declared.Found.{Found}
 use Rattle.declarations.specs.declared.Found.the-variants.{At, Nothing}
 
@@ -28,6 +29,7 @@ pub record Set (m w : List ℕ) : Type 0 where
   pub manifest : length m ≤ 65535
   pub strings : length (stringPlaces m) ≤ 1024
   pub definitions : (n : ℕ) → Defined m (definitionOf w n)
+  pub summaries : Summarized m w
 
 -- where the definition of the name n is, if its tag is t
 unfoldable pub definitionWith : (m w : List ℕ) → (n t : ℕ) → Found

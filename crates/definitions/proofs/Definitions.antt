@@ -23,6 +23,7 @@ use Rattle.places.proofs.Items.{type-definition-opens, class-definition-opens}
 use Rattle.cells.specs.Layout.{putAt}
 use Rattle.cells.specs.Memory.{definitionOf, builtInOf, Names, namesOf, Becomes}
 use Rattle.memory.specs.Names.{withDefinition as definedAs}
+use Rattle.summaries.proofs.Summaries.{summarized-still}
 use Rattle.evaluator.specs.Known.{DefinedAt, undefined, typeAt, classAt, KnownIn}
 use Rattle.declarations.specs.Standing.{Set, Defined, defined}
 use Rattle.declarations.proofs.Standing.{name-small as begins-small}
@@ -164,7 +165,7 @@ module _ (m w w′ : List ℕ) (p : ℕ) (set : Set m w) (s : ItemStands m p) (i
   definition-kept n h = definition-put n ∙ ap (λ (b : Bool). pick b y (definitionOf w n)) h
 
   still-set : Set m w′
-  still-set = record { memory = let room = set .memory in omega arith; manifest = set .manifest; strings = set .strings; definitions = λ n. go n (eqb n x) refl }
+  still-set = record { memory = let room = set .memory in omega arith; manifest = set .manifest; strings = set .strings; definitions = λ n. go n (eqb n x) refl; summaries = summarized-still (become .rest) (set .summaries) }
     where
       go : (n : ℕ) (b : Bool) → eqb n x ≡ b → Defined m (definitionOf w′ n)
       go n true h = rw (definition-here n h) (defined (s .after) (s .stands) (s .names))

@@ -9,7 +9,7 @@ use native.Mathlib.Numerals.{add-one}
 use lib.Dec.{ltb}
 use lib.ListN.{length, getD, List·getD-eq-default}
 use borrow.Author.Tests.{eq-eqb, ne-eqb, ltb-true, ltb-false}
-use Rattle.wire.specs.Bytes.{pick, endOf, fieldsIn, two}
+use Rattle.wire.specs.Bytes.{pick, two, endOf, fieldsIn}
 use Rattle.wire.proofs.Fields.{no-fields, field-first}
 use Rattle.rules.specs.Check.{text, stringPlaces, check}
 use Rattle.rules.specs.State.{Entry}
@@ -21,12 +21,12 @@ use Rattle.syntax.specs.declared.Found.{Found}
 use Rattle.syntax.specs.declared.Found.the-variants.{At, Nothing}
 use Rattle.syntax.specs.Strings.{textsAt, stringTexts, isBuiltInText, indexed, Indexed, foundOf}
 use Rattle.syntax.proofs.StringsRead.{few-strings, strings-read, built-in-read, title-read, table-holds}
-use Rattle.cells.specs.Layout.{putAt, restOf}
+use Rattle.cells.specs.Layout.{wordsAt, summaryAt, putAt, restOf}
 use Rattle.cells.specs.Memory.{definitionOf, builtInOf, Names, namesOf, stateOf, Fine, Becomes}
-use Rattle.cells.specs.Layout.{headAt}
 use Rattle.cells.proofs.Others.{others-read}
 use Rattle.memory.specs.Names.{withBuiltIn, noNames, titleOf, TitleSet, Begun}
 use Rattle.memory.proofs.Titles.{title-kept}
+use Rattle.summaries.proofs.Summaries.{none-summarized}
 use Rattle.evaluator.proofs.Names.{known-first}
 use Rattle.declarations.specs.Standing.{undefined}
 use Rattle.definitions.specs.Prepared.{markString, markStrings, Prepares}
@@ -206,19 +206,19 @@ module _ (m w₀ w : List ℕ) (sound : check m ≡ Sound) (first : Begun w₀) 
     no-title-yet = title-kept w₀ w (marked .rest) ∙ first .title
 
     -- THE LAWS: what is known before the first item runs, where the memory became w′ by its title alone
-    ready : (w′ : List ℕ) → length w′ ≡ length w → namesOf w′ ≡ namesOf w → ((es : List Entry) (n r : ℕ) → stateOf w′ es n r ≡ stateOf w es n r) → (Fine w → Fine w′) → titleOf w′ ≡ stringNumber titleText (stringTexts m) 0 → ((p : ℕ) → headAt 0 ≤ p → two w′ p ≡ two w p) → Prepares m w′
+    ready : (w′ : List ℕ) → length w′ ≡ length w → namesOf w′ ≡ namesOf w → ((es : List Entry) (n r : ℕ) → stateOf w′ es n r ≡ stateOf w es n r) → (Fine w → Fine w′) → titleOf w′ ≡ stringNumber titleText (stringTexts m) 0 → ((p : ℕ) → wordsAt + 2 ≤ p → two w′ p ≡ two w p) → Prepares m w′
     unfolding namesOf knownFirst
-    ready w′ same names state fine title index = record {
-      set = record { memory = omega arith; manifest = short; strings = few-strings m sound; definitions = λ n. undefined (ap (λ (ns : Names). ns .definitions n) names ∙ no-definition n) };
+    ready w′ same names state fine title after = record {
+      set = record { memory = omega arith; manifest = short; strings = few-strings m sound; definitions = λ n. undefined (ap (λ (ns : Names). ns .definitions n) names ∙ no-definition n); summaries = none-summarized w′ (λ i l. after (summaryAt i) (omega arith) ∙ others-read w₀ w (marked .rest) (summaryAt i) (omega arith) ∙ first .summaries i l) };
       fine = fine (marked .fine (first .fine));
       known = known-first m w′ (knownFirst (manifestOf m .strings)) refl (λ n. built-ins n ∙ sym (ap (λ (ns : Names). ns .builtIns n) names)) (λ n. ap (λ (ns : Names). ns .definitions n) names ∙ no-definition n);
       title = title ∙ sym (title-read m sound);
       state = λ limit output. state [] limit (roomIn output) ∙ marked .state [] limit (roomIn output) ∙ first .state limit output;
-      index = λ p l u. index p l ∙ others-read w₀ w (marked .rest) p (omega arith) ∙ first .index p l u;
+      index = λ p l u. after p (omega arith) ∙ others-read w₀ w (marked .rest) p (omega arith) ∙ first .index p l u;
     }
 
     pub titled : {r : Found} (w′ : List ℕ) {n : ℕ} → r ≡ foundOf (stringNumber titleText (stringTexts m) 0) → r ≡ At n → TitleSet w w′ n → length w′ ≡ length w → Prepares m w′
-    titled w′ told h s same = ready w′ same (s .names) (s .state) (s .fine) (s .title ∙ sym (found-back _ (sym told ∙ h))) (s .index)
+    titled w′ told h s same = ready w′ same (s .names) (s .state) (s .fine) (s .title ∙ sym (found-back _ (sym told ∙ h))) (s .after)
 
     pub untitled : {r : Found} → r ≡ foundOf (stringNumber titleText (stringTexts m) 0) → r ≡ Nothing → Prepares m w
     untitled told h = ready w refl refl (λ es n r. refl) (λ f. f) (no-title-yet ∙ sym (found-nothing _ (sym told ∙ h))) (λ p l. refl)

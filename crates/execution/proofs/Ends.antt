@@ -1,17 +1,21 @@
 -- What runs, and then what comes after it: one law for each way in which the code goes on, its premises as the callees ensure them.
-use Prim.Native.Nat.{ℕ, _≤_}
+use Prim.Native.Nat.{ℕ, _+_, _≤_}
 use mathlib.Core.Path.{_≡_, ap, _∙_, subst}
 use mathlib.Core.List.{List, []}
 use native.Mathlib.Omega.{arith}
 use lib.ListN.{length}
 use Rattle.values.specs.declared.Refusal.{Refusal}
+use Rattle.wire.specs.Bytes.{two}
 use Rattle.rules.specs.Outcome.{Outcome, done, _>>=_}
 use Rattle.rules.specs.State.{Entry, State, Context, Known}
 use Rattle.rules.specs.Compile.{onto}
-use Rattle.memory.proofs.Titles.{title-kept}
-use Rattle.catalog_index.proofs.Keeping.{index-kept}
+use Rattle.cells.specs.Layout.{wordsAt, headAt}
+use Rattle.cells.proofs.Regions.{same-two}
+use Rattle.memory.proofs.Titles.{title-same}
+use Rattle.catalog_index.proofs.Keeping.{index-same}
 use Rattle.evaluator.specs.Answers.{refusedBy}
-use Rattle.statements.specs.Answers.{Keeps}
+use Rattle.statements.specs.Answers.{Keeps, Preserves}
+use Rattle.statements.proofs.Entering.{preserved}
 use Rattle.resources.specs.declared.Filled.{Filled}
 use Rattle.resources.specs.declared.Filled.the-variants.{Done, Refused}
 use Rattle.declarations.proofs.Laws.{set-kept, known-kept}
@@ -37,15 +41,24 @@ ends-same e i = rw e i
 
 -- ---- What stays
 
+module _ {m w w′ : List ℕ} (kept : Preserves m w w′) where
+  pub stage-preserved : {out : List ℕ} {fill : ℕ} {k : Known} {es : List Entry} → Stage m w out fill k es → Stage m w′ out fill k es
+  stage-preserved {es = es} s =
+      let index : (p : ℕ) → headAt 0 ≤ p → two w′ p ≡ two w p = λ p l. same-two w w′ p (λ j h. kept .rest (p + j) (omega arith) (λ a b. omega arith)) in
+      record {
+        ready = record { catalog = s .ready .catalog; index = index-same w w′ (onto es []) index (s .ready .index); unique = s .ready .unique; known = known-kept (kept .names) (s .ready .known) };
+        title = title-same w w′ (same-two w w′ wordsAt (λ j l. kept .rest (wordsAt + j) (omega arith) (λ a b. omega arith))) ∙ s .title;
+      }
+
+  pub able-preserved : {out : List ℕ} {fill : ℕ} → length w′ ≡ length w → Able m w out fill → Able m w′ out fill
+  able-preserved size a = record { set = set-kept (kept .names) size (kept .summarized) (a .set); fine = kept .fine (a .fine); filled = a .filled }
+
 module _ {m w w′ : List ℕ} (kept : Keeps w w′) where
   pub stage-kept : {out : List ℕ} {fill : ℕ} {k : Known} {es : List Entry} → Stage m w out fill k es → Stage m w′ out fill k es
-  stage-kept {es = es} s = record {
-    ready = record { catalog = s .ready .catalog; index = index-kept w w′ (onto es []) (kept .rest) (s .ready .index); unique = s .ready .unique; known = known-kept (kept .names) (s .ready .known) };
-    title = title-kept w w′ (kept .rest) ∙ s .title;
-  }
+  stage-kept = stage-preserved (preserved kept)
 
   pub able-kept : {out : List ℕ} {fill : ℕ} → length w′ ≡ length w → Able m w out fill → Able m w′ out fill
-  able-kept size a = record { set = set-kept (kept .names) size (a .set); fine = kept .fine (a .fine); filled = a .filled }
+  able-kept = able-preserved (preserved kept)
 
 -- ---- Ways
 

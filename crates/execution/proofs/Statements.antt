@@ -33,6 +33,7 @@ use Rattle.memory.proofs.Titles.{title-same}
 use Rattle.catalog.proofs.Order.{onto-last}
 use Rattle.catalog_index.specs.Index.{Indexed, Extended}
 use Rattle.catalog_index.proofs.Keeping.{index-stays, index-words}
+use Rattle.summaries.proofs.Summaries.{summarized-before}
 use Rattle.evaluator.specs.Answers.{refusedBy}
 use Rattle.evaluator.specs.Known.{Sized}
 use Rattle.branches.proofs.Standing.{has-level, has-header}
@@ -43,7 +44,7 @@ use Rattle.statements.specs.declared.Tested.the-variants.{Branch, Refused as No
 use Rattle.statements.specs.declared.TestedCase.{TestedCase}
 use Rattle.statements.specs.declared.TestedCase.the-variants.{Branch as Chosen, Nothing, Refused as NotMatched}
 use Rattle.statements.specs.Answers.{ranAs, Runs}
-use Rattle.statements.specs.Tests.{Passed, testIfAt, testedAs, Tests}
+use Rattle.statements.specs.Tests.{Passed, testIfAt, testedAs, Testable, Tests}
 use Rattle.statements.specs.Cases.{testCaseAt, caseAs, blockStands}
 use Rattle.statements.proofs.Conditions.{if-runs}
 use Rattle.statements.proofs.Cases.{case-refuses, case-goes-on, case-ends}
@@ -54,8 +55,8 @@ use Rattle.resources.specs.Entries as resources
 use Rattle.declarations.specs.Standing.{NamesKnown}
 use Rattle.declarations.proofs.Laws.{set-kept, known-kept}
 use Rattle.execution.specs.Executed.{Able, Stage, stateWith, Executes, begun}
-use Rattle.execution.proofs.Names.{name-small, known-condition, known-branches, known-chosen}
-use Rattle.execution.proofs.Ends.{DoneAs, refuses, stops, goes-on, executes-as, stage-kept, able-kept}
+use Rattle.execution.proofs.Names.{name-small, small-statement, known-condition, known-branches, known-chosen}
+use Rattle.execution.proofs.Ends.{DoneAs, refuses, stops, goes-on, executes-as, stage-preserved, able-preserved, stage-kept, able-kept}
 
 -- ---- Before a part is evaluated
 
@@ -119,7 +120,7 @@ module _ {m w out out′ : List ℕ} {d p fill room : ℕ} {here : Here} {built 
     unfolding Within
     able-then =
         let within : Within fill room (Done f) = rw is at (runs .within) in
-        record { set = set-kept (stays .names) (indexed .kept .size) (able .set); fine = stays .fine (able .fine); filled = rw (runs .kept .long) (omega (arith, within .1, isRoom, able .filled)) }
+        record { set = set-kept (stays .names) (indexed .kept .size) (summarized-before (indexed .kept .before)) (able .set); fine = stays .fine (able .fine); filled = rw (runs .kept .long) (omega (arith, within .1, isRoom, able .filled)) }
 
     done-so : (k : Known) (es : List Entry) {o : Outcome State} → Stage m w out fill k es → Means w out′ fill room n es o (Done f) → DoneAs m w′ out′ f n k o
     unfolding Within
@@ -180,6 +181,11 @@ include-known {m} {p = p} able s k tag =
 pub include-runs-here : {m w w′ out out′ : List ℕ} {fill left left′ d p : ℕ} {c : Context} {a : Filled} (levels : ℕ) → StandsAs m d StatementKind p → byte m p ≡ 0x29 → Executes m w w′ out out′ fill left left′ c a (λ k. run k (declaration k levels) (include p (two m (p + 3)))) → Executes m w w′ out out′ fill left left′ c a (λ k. run k (declaration k levels) (statementAt m d p))
 include-runs-here {c = c} levels s tag e = executes-as (λ k st. ap (λ (x : Statement). run k (declaration k levels) x c st) (include-opens (s .stands) tag)) e
 
+-- ---- Conditions
+
+pub testable : {m w out : List ℕ} {fill d p : ℕ} → Able m w out fill → StandsAs m d StatementKind p → NamesKnown m p → Testable m w d p
+testable able s k = record { manifest = able .set .manifest; memory = able .set .memory; summarized = able .set .summaries; stands = s; small = small-statement (able .set .strings) s k }
+
 -- ---- Ifs
 
 -- the context of a branch
@@ -214,7 +220,7 @@ module _ {m w w′ out : List ℕ} {d p fill : ℕ} {here : Here} (levels : ℕ)
   unfolding testedAs _>>=_ into
   if-goes-on {b} {set} {q = q} {n = n} e at joined runs = goes-on (omega arith) (λ k es stage. record {
     entries = es;
-    stage = stage-kept (tests .keeps) stage;
+    stage = stage-preserved (tests .keeps) stage;
     same = if-tested k es n e stage ∙ ap (λ (x : Block). runBlock k (declaration k levels) x (inBranch set (contextOf here)) (stateWith w′ out fill n es)) (pick-block b ∙ ap (blockAt m (d - 1)) (sym at)) ∙ ap (λ (h : Context). runBlock k (declaration k levels) (blockAt m (d - 1) q) h (stateWith w′ out fill n es)) (sym joined);
   }) runs
 
@@ -249,10 +255,10 @@ module _ {m w w′ out : List ℕ} {d p fill : ℕ} {here : Here} (levels : ℕ)
   case-refused why n e = refuses why (omega arith) λ k es stage. case-refuses s tag k (declaration k levels) t tests es n _ (stage .ready) why e
 
   pub case-passed : (set : Labels) (n : ℕ) → Able m w out fill → length w′ ≡ length w → t ≡ Nothing set → Executes m w w′ out out fill n n (contextOf here) (Done fill) (λ k. run k (declaration k levels) (statementAt m d p))
-  case-passed set n able size e = stops (able-kept (tests .keeps) size able) (omega arith) λ k es stage. record {
+  case-passed set n able size e = stops (able-preserved (tests .keeps) size able) (omega arith) λ k es stage. record {
     entries = es;
     same = case-ends s tag k (declaration k levels) t tests es n _ (stage .ready) set e;
-    stage = stage-kept (tests .keeps) stage;
+    stage = stage-preserved (tests .keeps) stage;
   }
 
   pub case-chosen : {set : Labels} {inside : Context} {q b n n′ : ℕ} {w″ out′ : List ℕ} {a : Filled} → t ≡ Chosen q set → b ≡ d - 2 → inside ≡ inBranch set (contextOf here) → Executes m w′ w″ out out′ fill n n′ inside a (λ k. runBlock k (declaration k levels) (blockAt m b q)) → Executes m w w″ out out′ fill n n′ (contextOf here) a (λ k. run k (declaration k levels) (statementAt m d p))
@@ -260,6 +266,6 @@ module _ {m w w′ out : List ℕ} {d p fill : ℕ} {here : Here} (levels : ℕ)
       let same : d - 1 - 1 ≡ b = omega arith in
       goes-on (omega arith) (λ k es stage. record {
         entries = es;
-        stage = stage-kept (tests .keeps) stage;
+        stage = stage-preserved (tests .keeps) stage;
         same = case-goes-on s tag k (declaration k levels) t tests es n _ (stage .ready) q set e ∙ ap (λ (x : ℕ). runBlock k (declaration k levels) (blockAt m x q) (inBranch set (contextOf here)) (stateWith w′ out fill n es)) same ∙ ap (λ (h : Context). runBlock k (declaration k levels) (blockAt m b q) h (stateWith w′ out fill n es)) (sym joined);
       }) runs

@@ -74,5 +74,5 @@ title-way w n w′ room below e =
       state = stays .state;
       names = stays .names;
       fine = stays .fine;
-      index = λ p l. ap (λ (m : List ℕ). two m p) e ∙ two-same (over w wordsAt (highBytes 2 (n + 1))) w p p (stored-outside w wordsAt 2 (n + 1) p 2 (λ i a b c d. omega arith));
+      after = λ p l. ap (λ (m : List ℕ). two m p) e ∙ two-same (over w wordsAt (highBytes 2 (n + 1))) w p p (stored-outside w wordsAt 2 (n + 1) p 2 (λ i a b c d. omega arith));
     }

@@ -8,7 +8,7 @@ use mathlib.Core.Bool.{Bool, true, false}
 use mathlib.Core.Option.{Option, none, some}
 use Rattle.rules.specs.State.{Scope, Base, topBase, nodeBase, DeclaredClass, Entry}
 use Rattle.rules.specs.Compile.{roomIn, start}
-use Rattle.cells.specs.Layout.{summaryAt, headAt, indexAt, putAt, restOf}
+use Rattle.cells.specs.Layout.{wordsAt, summaryAt, headAt, indexAt, putAt, restOf}
 use Rattle.cells.specs.Scopes.{scopeOf}
 use Rattle.cells.specs.Memory.{baseFor, Names, namesOf, stateOf, Fine}
 use Rattle.memory.specs.declared.Above.{Above}
@@ -68,7 +68,7 @@ pub record TitleSet (w w′ : List ℕ) (name : ℕ) : Type 0 where
   pub state : (es : List Entry) (n r : ℕ) → stateOf w′ es n r ≡ stateOf w es n r
   pub names : namesOf w′ ≡ namesOf w
   pub fine : Fine w → Fine w′
-  pub index : (p : ℕ) → headAt 0 ≤ p → two w′ p ≡ two w p
+  pub after : (p : ℕ) → wordsAt + 2 ≤ p → two w′ p ≡ two w p
 
 -- ---- Before the first item
 

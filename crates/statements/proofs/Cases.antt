@@ -27,19 +27,19 @@ use Rattle.evaluator.specs.declared.Evaluated.{Evaluated}
 use Rattle.evaluator.specs.declared.Evaluated.the-variants.{Value as Yields, Refused as Fails}
 use Rattle.evaluator.specs.Answers.{evaluated}
 use Rattle.evaluator.specs.Known.{Ready, Tells}
-use Rattle.branches.specs.Texts.{textOf, textAny, Small}
+use Rattle.branches.specs.Texts.{textOf}
 use Rattle.branches.proofs.Standing.{has-level}
-use Rattle.branches.proofs.Texts.{small-same, choice-text}
+use Rattle.branches.proofs.Texts.{choice-text}
 use Rattle.statements.specs.declared.Ran.{Ran}
 use Rattle.statements.specs.declared.Ran.the-variants.{Done as Entered, Refused as Stopped}
-use Rattle.statements.specs.Answers.{ranAs, Does}
-use Rattle.statements.proofs.Assigning.{keeps-same}
+use Rattle.statements.specs.Answers.{ranAs}
+use Rattle.statements.proofs.Entering.{preserves-same}
 use Rattle.statements.specs.declared.Choice.{Choice}
 use Rattle.statements.specs.declared.Choice.the-variants.{At, Nothing}
 use Rattle.statements.specs.declared.Matched.{Matched}
 use Rattle.statements.specs.declared.TestedCase.{TestedCase}
 use Rattle.statements.specs.declared.TestedCase.the-variants.{Branch, Nothing as NoBlock, Refused}
-use Rattle.statements.specs.Tests.{Passed, passed, Tests}
+use Rattle.statements.specs.Tests.{Passed, passed, afterText, Decides, Tests}
 use Rattle.statements.specs.Cases.{branchesOf, chosenBlock, blockFor, choiceStands, Matches, afterCase, decideCase, testCase, testCaseAt, caseAs, blockStands}
 
 -- ---- The law
@@ -79,11 +79,16 @@ case-runs k declare p e bs c st = go (evaluate k c st e)
 -- ---- The ways of `decide_case`
 
 -- the branches, where the code found them
-pub branches-from : {m : List ℕ} {d f e a b : ℕ} → f ≡ a → e ≡ b → Siblings m d BranchKind a b × Small (textAny (branchesAt m d (fieldsIn m a b))) → Siblings m d BranchKind f e × Small (textAny (branchesAt m d (fieldsIn m f e)))
+pub branches-from : {m : List ℕ} {d f e a b : ℕ} → f ≡ a → e ≡ b → Siblings m d BranchKind a b → Siblings m d BranchKind f e
 branches-from found ends i = rw (found, ends) i
 
+-- what the marks and the trail come to, by its branches
+pub case-after : {m w w′ : List ℕ} {d p f e : ℕ} {here : Here} {answer : State → Outcome State} (set : Labels) → StandsAs m d StatementKind p → byte m p ≡ 0x23 → f ≡ endOf m (p + 3) → e ≡ endOf m p → Decides m w w′ here answer (afterText p (textOf (statementAt m d p)) set) → Decides m w w′ here answer (afterCase p (branchesAt m (d - 1) (fieldsIn m f e)) set)
+unfolding afterText afterCase
+case-after set s tag found ends i = rw (choice-text s refl tag found ends) at i
+
 module _ (m : List ℕ) (d p : ℕ) {f e : ℕ} (w : List ℕ) (here : Here) (x : Labelled) (found : f ≡ endOf m (p + 3)) (ends : e ≡ endOf m p) where
-  module _ {w′ : List ℕ} {r : Matched} {own set : Labels} (entered : Ran) (matches : Matches m d f e (x .value) r) (both : own ≡ x .labels ∪ r .labels) (joined : set ≡ (here .path ∪ trailOf w) ∪ own) (enter : Does w w′ here (ranAs entered) (afterCase p (branchesAt m d (fieldsIn m f e)) set)) where
+  module _ {w′ : List ℕ} {r : Matched} {own set : Labels} (entered : Ran) (matches : Matches m d f e (x .value) r) (both : own ≡ x .labels ∪ r .labels) (joined : set ≡ (here .path ∪ trailOf w) ∪ own) (enter : Decides m w w′ here (ranAs entered) (afterCase p (branchesAt m d (fieldsIn m f e)) set)) where
     same-set : (es : List Entry) (n i : ℕ) → set ≡ withPathAndTrail (contextOf here) (stateOf w es n i) (x .labels ∪ triedLabels (branchesAt m d (fieldsIn m f e)) (x .value))
     unfolding withPathAndTrail stateOf
     same-set es n i = joined ∙ ap (λ (k : Labels). (here .path ∪ trailOf w) ∪ k) (both ∙ ap (λ (k : Labels). x .labels ∪ k) (matches .labels))
@@ -99,7 +104,7 @@ module _ (m : List ℕ) (d p : ℕ) {f e : ℕ} (w : List ℕ) (here : Here) (x 
         ∙ ap (λ (k : Labels). afterCase p (branchesAt m d (fieldsIn m f e)) k (contextOf here) (stateOf w es n i) >>= λ st′. done (passed (chosenBlock (branchesAt m d (fieldsIn m f e)) (x .value)) k st′)) (same-set es n i)
         ∙ ap₂ (λ (a b : ℕ). decideCase p (branchesAt m d (fieldsIn m a b)) x (contextOf here) (stateOf w es n i)) found ends
 
-    pub case-stopped : (why : Refusal) → entered ≡ Stopped why → Does w w′ here (caseAs m (d - 1) (Refused why)) (decideCase p (branchesOf m d p) x) × blockStands m (d - 1) p (Refused why)
+    pub case-stopped : (why : Refusal) → entered ≡ Stopped why → Decides m w w′ here (caseAs m (d - 1) (Refused why)) (decideCase p (branchesOf m d p) x) × blockStands m (d - 1) p (Refused why)
     unfolding caseAs ranAs _>>=_ blockStands
     case-stopped why h = (
       record {
@@ -109,7 +114,7 @@ module _ (m : List ℕ) (d p : ℕ) {f e : ℕ} (w : List ℕ) (here : Here) (x 
       tt,
     )
 
-    pub case-entered : (q : ℕ) → entered ≡ Entered → r .at ≡ At q → Does w w′ here (caseAs m (d - 1) (Branch q set)) (decideCase p (branchesOf m d p) x) × blockStands m (d - 1) p (Branch q set)
+    pub case-entered : (q : ℕ) → entered ≡ Entered → r .at ≡ At q → Decides m w w′ here (caseAs m (d - 1) (Branch q set)) (decideCase p (branchesOf m d p) x) × blockStands m (d - 1) p (Branch q set)
     unfolding caseAs ranAs _>>=_ blockStands blockFor choiceStands
     case-entered q h g = (
       record {
@@ -119,7 +124,7 @@ module _ (m : List ℕ) (d p : ℕ) {f e : ℕ} (w : List ℕ) (here : Here) (x 
       rw (sym found, sym ends) (subst (choiceStands m (d - 1) f e) g (matches .stands)),
     )
 
-    pub case-unmatched : entered ≡ Entered → r .at ≡ Nothing → Does w w′ here (caseAs m (d - 1) (NoBlock set)) (decideCase p (branchesOf m d p) x) × blockStands m (d - 1) p (NoBlock set)
+    pub case-unmatched : entered ≡ Entered → r .at ≡ Nothing → Decides m w w′ here (caseAs m (d - 1) (NoBlock set)) (decideCase p (branchesOf m d p) x) × blockStands m (d - 1) p (NoBlock set)
     unfolding caseAs ranAs _>>=_ blockStands blockFor
     case-unmatched h g = (
       record {
@@ -134,9 +139,6 @@ module _ (m : List ℕ) (d p : ℕ) {f e : ℕ} (w : List ℕ) (here : Here) (x 
 pub choice-here : {m : List ℕ} {d p : ℕ} → StandsAs m d StatementKind p → byte m p ≡ 0x23 → ChoiceAt m d (d - 1) p
 choice-here s tag = choice-opens (s .stands) (has-level s) tag
 
-pub case-small : {m : List ℕ} {d p : ℕ} → StandsAs m d StatementKind p → byte m p ≡ 0x23 → Small (textOf (statementAt m d p)) → Small (textAny (branchesOf m (d - 1) p))
-case-small s tag small = small-same small (choice-text s refl tag refl refl)
-
 module _ {m w out : List ℕ} {d p fill : ℕ} (here : Here) (s : StandsAs m d StatementKind p) (tag : byte m p ≡ 0x23) (e : Evaluated) (told : StandsAs m (d - 1) ExpressionKind (p + 3) → Tells m w out fill (here .scope) (evaluated e) (λ k c st. evaluate k c st (expressionAt m (d - 1) (p + 3)))) where
   test-run : {o : Outcome Labelled} (k : Known) (es : List Entry) (n r : ℕ) → evaluated e ≡ o → Ready m w out fill k es → (o >>= λ x. decideCase p (branchesOf m (d - 1) p) x (contextOf here) (stateOf w es n r)) ≡ testCaseAt m (d - 1) p k (contextOf here) (stateOf w es n r)
   unfolding testCaseAt testCase
@@ -148,12 +150,12 @@ module _ {m w out : List ℕ} {d p fill : ℕ} (here : Here) (s : StandsAs m d S
   test-refused why h = (
     record {
       says = λ k es n r ready. test-run k es n r (ap evaluated h) ready;
-      keeps = keeps-same w;
+      keeps = preserves-same w;
     },
     tt,
   )
 
-  pub test-decided : {w′ : List ℕ} (answer : TestedCase) (x : Labelled) → e ≡ Yields x → Does w w′ here (caseAs m (d - 1 - 1) answer) (decideCase p (branchesOf m (d - 1) p) x) × blockStands m (d - 1 - 1) p answer → Tests m w w′ out fill here (caseAs m (d - 1 - 1) answer) (testCaseAt m (d - 1) p) × blockStands m (d - 1 - 1) p answer
+  pub test-decided : {w′ : List ℕ} (answer : TestedCase) (x : Labelled) → e ≡ Yields x → Decides m w w′ here (caseAs m (d - 1 - 1) answer) (decideCase p (branchesOf m (d - 1) p) x) × blockStands m (d - 1 - 1) p answer → Tests m w w′ out fill here (caseAs m (d - 1 - 1) answer) (testCaseAt m (d - 1) p) × blockStands m (d - 1 - 1) p answer
   unfolding evaluated _>>=_
   test-decided answer x h i = (
     record {

@@ -2,7 +2,7 @@
 use Prim.Native.Nat.{ℕ, _+_, _-_, _≤_}
 use mathlib.Core.Path.{_≡_, refl, sym, ap, ap₂, _∙_}
 use mathlib.Core.Bool.{Bool, true, false, _||_}
-use mathlib.Core.List.{List, _++_}
+use mathlib.Core.List.{List}
 use native.Mathlib.Omega.{arith}
 use lib.ListN.{length}
 use denote.Enum.Declared.{tagOf}
@@ -22,7 +22,7 @@ use Rattle.rules.specs.Tree.{Expression, placeOf, Block, conditional}
 use Rattle.rules.specs.State.{Entry, State, Context, Known}
 use Rattle.rules.specs.Evaluate.{evaluate}
 use Rattle.rules.specs.Run.{Declare, run, runBlock, inBranch, withPathAndTrail, afterTest, assignsIn, declaresIn}
-use Rattle.rules.specs.declared.Kind.the-variants.{Statement as StatementKind, Expression as ExpressionKind, Block as BlockKind}
+use Rattle.rules.specs.declared.Kind.the-variants.{Statement as StatementKind, Expression as ExpressionKind}
 use Rattle.places.specs.At.{expressionAt, statementAt, blockAt, StandsAs}
 use Rattle.places.proofs.Expressions.{expression-place}
 use Rattle.places.proofs.Statements.{ConditionalAt, conditional-opens}
@@ -35,16 +35,16 @@ use Rattle.evaluator.specs.declared.Evaluated.the-variants.{Value as Yields, Re
 use Rattle.evaluator.proofs.Operators.{not-boolean}
 use Rattle.evaluator.specs.Answers.{evaluated}
 use Rattle.evaluator.specs.Known.{Ready, Tells}
-use Rattle.branches.specs.Texts.{textOf, textIn, both, Small}
+use Rattle.branches.specs.Texts.{textOf, both}
 use Rattle.branches.proofs.Standing.{has-level, has-header}
-use Rattle.branches.proofs.Texts.{small-same, conditional-text}
+use Rattle.branches.proofs.Texts.{conditional-text}
 use Rattle.statements.specs.declared.Ran.{Ran}
 use Rattle.statements.specs.declared.Ran.the-variants.{Done as Entered, Refused as Stopped}
 use Rattle.statements.specs.declared.Tested.{Tested}
 use Rattle.statements.specs.declared.Tested.the-variants.{Branch, Refused}
-use Rattle.statements.specs.Answers.{ranAs, Does}
-use Rattle.statements.specs.Tests.{Passed, passed, afterIf, decideIf, testIf, testIfAt, testedAs, Tests}
-use Rattle.statements.proofs.Assigning.{keeps-same}
+use Rattle.statements.specs.Answers.{ranAs}
+use Rattle.statements.specs.Tests.{Passed, passed, afterText, afterIf, decideIf, testIf, testIfAt, testedAs, Decides, Tests}
+use Rattle.statements.proofs.Entering.{preserves-same}
 
 -- ---- The law
 
@@ -76,16 +76,17 @@ if-runs k declare p e a b c st = go (evaluate k c st e)
 
 -- ---- The ways of `decide_if`
 
--- the blocks from the place q on, where the code found it
-pub blocks-from : {m : List ℕ} {b q t : ℕ} → q ≡ t → (StandsAs m b BlockKind t × StandsAs m b BlockKind (endOf m t)) × Small (both (textIn (blockAt m b t)) (textIn (blockAt m b (endOf m t)))) → (StandsAs m b BlockKind q × StandsAs m b BlockKind (endOf m q)) × Small (both (textIn (blockAt m b q)) (textIn (blockAt m b (endOf m q))))
-blocks-from e i = rw e i
+-- what the marks and the trail come to, by its blocks
+pub if-after : {m w w′ : List ℕ} {d p : ℕ} {here : Here} {answer : State → Outcome State} (set : Labels) → StandsAs m d StatementKind p → byte m p ≡ 0x22 → Decides m w w′ here answer (afterText p (textOf (statementAt m d p)) set) → Decides m w w′ here answer (afterIf p (blockAt m (d - 1) (endOf m (p + 3))) (blockAt m (d - 1) (endOf m (endOf m (p + 3)))) set)
+unfolding afterText afterIf both
+if-after set s tag i = rw (conditional-text s refl tag refl) at i
 
-module _ (p l : ℕ) (a b : Block) (w : List ℕ) (here : Here) (x : Labelled) where
-  pub if-unlike : {why : Refusal} → (tagOf the-type (x .value) ≡ 2 → ⊥) → why ≡ refusalAt WrongKind l → Does w w here (testedAs (Refused why)) (decideIf p l a b x)
+module _ (m : List ℕ) (p l : ℕ) (a b : Block) (w : List ℕ) (here : Here) (x : Labelled) where
+  pub if-unlike : {why : Refusal} → (tagOf the-type (x .value) ≡ 2 → ⊥) → why ≡ refusalAt WrongKind l → Decides m w w here (testedAs (Refused why)) (decideIf p l a b x)
   unfolding decideIf testedAs at _>>=_
-  if-unlike h is = record { says = λ es n r. rw (is, not-boolean (x .value) h); keeps = keeps-same w }
+  if-unlike h is = record { says = λ es n r. rw (is, not-boolean (x .value) h); keeps = preserves-same w }
 
-  module _ {w′ : List ℕ} {chose : Bool} {set : Labels} (entered : Ran) (is : x .value ≡ Boolean chose) (joined : set ≡ (here .path ∪ trailOf w) ∪ x .labels) (enter : Does w w′ here (ranAs entered) (afterIf p a b set)) where
+  module _ {w′ : List ℕ} {chose : Bool} {set : Labels} (entered : Ran) (is : x .value ≡ Boolean chose) (joined : set ≡ (here .path ∪ trailOf w) ∪ x .labels) (enter : Decides m w w′ here (ranAs entered) (afterIf p a b set)) where
     same-set : (es : List Entry) (n r : ℕ) → set ≡ withPathAndTrail (contextOf here) (stateOf w es n r) (x .labels)
     unfolding withPathAndTrail stateOf
     same-set es n r = joined
@@ -97,14 +98,14 @@ module _ (p l : ℕ) (a b : Block) (w : List ℕ) (here : Here) (x : Labelled) w
         ∙ ap (λ (k : Labels). afterIf p a b k (contextOf here) (stateOf w es n r) >>= λ st′. done (passed chose k st′)) (same-set es n r)
         ∙ sym (ap (λ (v : Value). at l (booleanIn v) >>= λ t. afterIf p a b (withPathAndTrail (contextOf here) (stateOf w es n r) (x .labels)) (contextOf here) (stateOf w es n r) >>= λ st′. done (passed t (withPathAndTrail (contextOf here) (stateOf w es n r) (x .labels)) st′)) is)
 
-    pub if-stopped : (why : Refusal) → entered ≡ Stopped why → Does w w′ here (testedAs (Refused why)) (decideIf p l a b x)
+    pub if-stopped : (why : Refusal) → entered ≡ Stopped why → Decides m w w′ here (testedAs (Refused why)) (decideIf p l a b x)
     unfolding testedAs ranAs _>>=_
     if-stopped why h = record {
       says = λ es n r. sym (ap (λ (e : Ran). ranAs e (stateOf w′ es n r) >>= λ st′. done (passed chose set st′)) h) ∙ if-decided es n r;
       keeps = enter .keeps;
     }
 
-    pub if-entered : entered ≡ Entered → Does w w′ here (testedAs (Branch chose set)) (decideIf p l a b x)
+    pub if-entered : entered ≡ Entered → Decides m w w′ here (testedAs (Branch chose set)) (decideIf p l a b x)
     unfolding testedAs ranAs _>>=_
     if-entered h = record {
       says = λ es n r. sym (ap (λ (e : Ran). ranAs e (stateOf w′ es n r) >>= λ st′. done (passed chose set st′)) h) ∙ if-decided es n r;
@@ -119,9 +120,6 @@ conditional-here s tag = conditional-opens (s .stands) (has-level s) tag
 pub condition-place : {m : List ℕ} {d p : ℕ} → StandsAs m d StatementKind p → length m ≤ 65535 → p + 3 ≤ 65535
 condition-place s l = omega (arith, has-header s)
 
-pub if-small : {m : List ℕ} {d p : ℕ} → StandsAs m d StatementKind p → byte m p ≡ 0x22 → Small (textOf (statementAt m d p)) → Small (both (textIn (blockAt m (d - 1) (endOf m (p + 3)))) (textIn (blockAt m (d - 1) (endOf m (endOf m (p + 3))))))
-if-small s tag small = small-same small (conditional-text s refl tag refl)
-
 module _ {m w out : List ℕ} {d p fill : ℕ} (here : Here) (s : StandsAs m d StatementKind p) (tag : byte m p ≡ 0x22) (e : Evaluated) (told : StandsAs m (d - 1) ExpressionKind (p + 3) → Tells m w out fill (here .scope) (evaluated e) (λ k c st. evaluate k c st (expressionAt m (d - 1) (p + 3)))) where
   test-run : {o : Outcome Labelled} (k : Known) (es : List Entry) (n r : ℕ) → evaluated e ≡ o → Ready m w out fill k es → (o >>= λ x. decideIf p (p + 3) (blockAt m (d - 1) (endOf m (p + 3))) (blockAt m (d - 1) (endOf m (endOf m (p + 3)))) x (contextOf here) (stateOf w es n r)) ≡ testIfAt m (d - 1) p k (contextOf here) (stateOf w es n r)
   unfolding testIfAt testIf
@@ -132,10 +130,10 @@ module _ {m w out : List ℕ} {d p fill : ℕ} (here : Here) (s : StandsAs m d S
   unfolding testedAs evaluated _>>=_
   test-refused why h = record {
     says = λ k es n r ready. test-run k es n r (ap evaluated h) ready;
-    keeps = keeps-same w;
+    keeps = preserves-same w;
   }
 
-  pub test-decided : {w′ : List ℕ} (answer : Tested) (x : Labelled) → e ≡ Yields x → Does w w′ here (testedAs answer) (decideIf p (p + 3) (blockAt m (d - 1) (endOf m (p + 3))) (blockAt m (d - 1) (endOf m (endOf m (p + 3)))) x) → Tests m w w′ out fill here (testedAs answer) (testIfAt m (d - 1) p)
+  pub test-decided : {w′ : List ℕ} (answer : Tested) (x : Labelled) → e ≡ Yields x → Decides m w w′ here (testedAs answer) (decideIf p (p + 3) (blockAt m (d - 1) (endOf m (p + 3))) (blockAt m (d - 1) (endOf m (endOf m (p + 3)))) x) → Tests m w w′ out fill here (testedAs answer) (testIfAt m (d - 1) p)
   unfolding evaluated _>>=_
   test-decided answer x h i = record {
     says = λ k es n r ready. i .says es n r ∙ test-run k es n r (ap evaluated h) ready;

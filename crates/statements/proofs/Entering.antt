@@ -1,6 +1,6 @@
--- One law for each way through `enter`: the marks, and the trail if a branch declares. And what `enter_if` and `enter_case` make of it.
+-- One law for each way through `enter`: the marks, and the trail if a branch declares. And what `enter_condition` makes of it.
 use Prim.Native.Nat.{ℕ}
-use mathlib.Core.Path.{_≡_, refl, sym, ap, _∙_, fun-ext}
+use mathlib.Core.Path.{_≡_, refl, sym, ap, _∙_}
 use mathlib.Core.Bool.{Bool, true, false, not}
 use mathlib.Core.List.{List}
 use lib.ListN.{replicate}
@@ -15,12 +15,18 @@ use Rattle.memory.specs.Contexts.{contextOf}
 use Rattle.cells.specs.declared.Stored.{Stored}
 use Rattle.cells.specs.declared.Stored.the-variants.{Done as Held, HasValue, NoRoom}
 use Rattle.branches.specs.Names.{contains}
-use Rattle.branches.specs.Texts.{Text, Collects}
+use Rattle.places.specs.At.{statementAt}
+use Rattle.cells.proofs.Others.{others-byte}
+use Rattle.branches.specs.Texts.{Text, textOf}
 use Rattle.branches.specs.Marks.{Marks}
-use Rattle.branches.proofs.Names.{contains-none}
+use Rattle.summaries.specs.Lines.{textWith}
+use Rattle.summaries.specs.Summaries.{Notes, Summarizes}
+use Rattle.summaries.proofs.Summaries.{summarized-still, notes-stay}
+use Rattle.summaries.proofs.Walks.{own-text}
 use Rattle.statements.specs.declared.Ran.{Ran}
 use Rattle.statements.specs.declared.Ran.the-variants.{Done}
-use Rattle.statements.specs.Answers.{ranAs, Keeps, Does}
+use Rattle.statements.specs.Answers.{ranAs, Keeps, Preserves, Does}
+use Rattle.statements.specs.Tests.{afterText, Decides}
 
 -- ---- The trail comes after the marks
 
@@ -80,9 +86,37 @@ module _ (p : ℕ) (f : ℕ → Bool) (d : Bool) {w w₁ : List ℕ} (here : Her
   unfolding ranAs trailIf
   marks-trail e l t = record { says = λ es n r. ap done (t .state es n r) ∙ ap (λ (x : Bool). done (trailIf x k (stateOf w₁ es n r))) (sym (turned d l)) ∙ marked-all e es n r; keeps = keeps-trail k (keeps-marks marks) t }
 
--- ---- The names and declarations of a text, once they are collected
+-- ---- The ways of `enter_condition`: the names and declarations of a text, once they are collected
 
-pub entered-text : {w w′ s : List ℕ} {here : Here} {answer : State → Outcome State} {d : Bool} {t : Text} (k p : ℕ) (set : Labels) → Collects (replicate k 0) s d t → Does w w′ here answer (λ c st. afterTest p c (contains s) d set st) → Does w w′ here answer (λ c st. afterTest p c (t .assigns) (t .declares) set st)
-entered-text {s = s} {t = t} k p set collects i =
-    let names : contains s ≡ t .assigns = fun-ext (λ n. collects .members n ∙ rw (contains-none k n) refl) in
-    rw (names, collects .declares) at i
+-- what is kept, where something was noted first, or nothing at all
+pub preserves-same : {m : List ℕ} (w : List ℕ) → Preserves m w w
+preserves-same w = record { names = refl; rest = λ k l out. refl; summarized = λ s. s; fine = λ f. f }
+
+pub preserved : {m w w′ : List ℕ} → Keeps w w′ → Preserves m w w′
+preserved {w = w} {w′ = w′} kept = record {
+  names = kept .names;
+  rest = λ k l out. others-byte w w′ (kept .rest) k l;
+  summarized = summarized-still (kept .rest);
+  fine = kept .fine;
+}
+
+noted-first : {m w w₁ w₂ : List ℕ} → Notes m w w₁ → Keeps w₁ w₂ → Preserves m w w₂
+noted-first {m} {w} {w₁} {w₂} notes kept =
+    let stays = notes-stay notes in
+    let then : Preserves m w₁ w₂ = preserved kept in
+    record {
+      names = kept .names ∙ stays .names;
+      rest = λ k l out. then .rest k l out ∙ notes .outside k out;
+      summarized = λ s. then .summarized (notes .summarized);
+      fine = λ f. kept .fine (stays .fine f);
+    }
+
+pub condition-entered : {m w w₁ w₂ s : List ℕ} {here : Here} {answer : State → Outcome State} {declares : Bool} (d p : ℕ) (set : Labels) → Summarizes m w w₁ (replicate 16 0) s declares (textOf (statementAt m d p)) → Does w₁ w₂ here answer (λ c st. afterTest p c (contains s) declares set st) → Decides m w w₂ here answer (afterText p (textOf (statementAt m d p)) set)
+unfolding afterText
+condition-entered {m} {w} {w₁} {w₂} {s} {here} {answer} {declares} d p set sums i =
+    let stays = notes-stay (sums .notes) in
+    let text : textWith s declares ≡ textOf (statementAt m d p) = own-text (sums .collects) in
+    record {
+      says = λ es n r. i .says es n r ∙ ap (afterTest p (contextOf here) (contains s) declares set) (stays .state es n r) ∙ ap (λ (t : Text). afterTest p (contextOf here) (t .assigns) (t .declares) set (stateOf w es n r)) text;
+      keeps = noted-first (sums .notes) (i .keeps);
+    }

@@ -1,8 +1,9 @@
 -- Conditions up to the block that runs: the test, its set, the marks and the trail. That `run` is this and then the block is in proofs/Conditions.antt.
-use Prim.Native.Nat.{ℕ, _+_}
+use Prim.Native.Nat.{ℕ, _+_, _≤_}
 use mathlib.Core.Path.{_≡_}
 use mathlib.Core.Bool.{Bool, _||_}
 use mathlib.Core.List.{List}
+use lib.ListN.{length}
 use Rattle.labels.specs.declared.Labels.{Labels}
 use Rattle.values.specs.declared.Labelled.{Labelled}
 use Rattle.wire.specs.Bytes.{endOf}
@@ -12,15 +13,18 @@ use Rattle.rules.specs.Tree.{Expression, placeOf, Block}
 use Rattle.rules.specs.State.{Entry, State, Context, Known}
 use Rattle.rules.specs.Evaluate.{evaluate}
 use Rattle.rules.specs.Run.{assignsIn, declaresIn, withPathAndTrail, afterTest}
-use Rattle.places.specs.At.{expressionAt, blockAt}
+use Rattle.rules.specs.declared.Kind.the-variants.{Statement as StatementKind}
+use Rattle.places.specs.At.{expressionAt, statementAt, blockAt, StandsAs}
 use Rattle.cells.specs.Memory.{stateOf}
 use Rattle.memory.specs.declared.Context.{Context as Here}
 use Rattle.memory.specs.Contexts.{contextOf}
+use Rattle.branches.specs.Texts.{Text, textOf, Small}
+use Rattle.summaries.specs.Summaries.{Summarized}
 use Rattle.evaluator.specs.Answers.{refusedBy}
 use Rattle.evaluator.specs.Known.{Ready}
 use Rattle.statements.specs.declared.Tested.{Tested}
 use Rattle.statements.specs.declared.Tested.the-variants.{Branch, Refused}
-use Rattle.statements.specs.Answers.{Keeps}
+use Rattle.statements.specs.Answers.{Preserves}
 
 -- after a test: what it chose, its set, and the state in which the block runs
 pub record Passed (A : Type 0) : Type 0 where
@@ -30,6 +34,10 @@ pub record Passed (A : Type 0) : Type 0 where
 
 abbrev pub passed : {A : Type 0} → A → Labels → State → Passed A
 passed a k st = record { chosen = a; set = k; state = st }
+
+-- the marks and the trail after the test of a condition that has a text
+unfoldable pub afterText : (p : ℕ) → Text → Labels → Context → State → Outcome State
+afterText p t k c st = afterTest p c (t .assigns) (t .declares) k st
 
 -- the test of an if: its place p, its condition e, its blocks a and b
 
@@ -51,7 +59,22 @@ unfoldable pub testedAs : Tested → State → Outcome (Passed Bool)
 testedAs (Branch t k) st = done (passed t k st)
 testedAs (Refused why) st = refusedBy why
 
+-- ---- A test, of an if or of a case
+
+-- a statement stands at p, with d levels left, and its text can be summarized
+pub record Testable (m w : List ℕ) (d p : ℕ) : Type 0 where
+  pub manifest : length m ≤ 65535
+  pub memory : 65536 ≤ length w
+  pub summarized : Summarized m w
+  pub stands : StandsAs m d StatementKind p
+  pub small : Small (textOf (statementAt m d p))
+
+-- an answer is what f gives in a context
+pub record Decides {A : Type 0} (m w w′ : List ℕ) (here : Here) (answer : State → Outcome A) (f : Context → State → Outcome A) : Type 0 where
+  pub says : (es : List Entry) (n r : ℕ) → answer (stateOf w′ es n r) ≡ f (contextOf here) (stateOf w es n r)
+  pub keeps : Preserves m w w′
+
 -- an answer is what the test gives, in every state that the bytes stand for
 pub record Tests {A : Type 0} (m w w′ out : List ℕ) (fill : ℕ) (here : Here) (answer : State → Outcome A) (test : Known → Context → State → Outcome A) : Type 0 where
   pub says : (k : Known) (es : List Entry) (n r : ℕ) → Ready m w out fill k es → answer (stateOf w′ es n r) ≡ test k (contextOf here) (stateOf w es n r)
-  pub keeps : Keeps w w′
+  pub keeps : Preserves m w w′

@@ -3,20 +3,20 @@ ghost use mathlib.Core.Path.{_≡_};
 ghost use Prim.Native.Nat.{_+_, _-_, _≤_, _<_};
 ghost use lib.ListN.{length};
 ghost use Rattle.labels.specs.Sets.{_∪_};
-ghost use Rattle.wire.specs.Bytes.{byte, two, endOf, fieldsIn};
+ghost use Rattle.wire.specs.Bytes.{byte, two, endOf};
 ghost use Rattle.rules.specs.Arithmetic.{sameValue};
 ghost use Rattle.rules.specs.State.{State};
 ghost use Rattle.rules.specs.Run as rules;
-ghost use Rattle.rules.specs.declared.Kind.the-variants.{Constant, Statement, Block, Branch};
-ghost use Rattle.places.specs.At.{constantAt, statementAt, blockAt, branchesAt, StandsAs, Siblings};
+ghost use Rattle.rules.specs.declared.Kind.the-variants.{Constant, Statement, Branch};
+ghost use Rattle.places.specs.At.{constantAt, statementAt, blockAt, StandsAs, Siblings};
 ghost use Rattle.cells.specs.Layout.{trailOf};
 ghost use Rattle.cells.specs.Memory.{outcome};
 ghost use Rattle.evaluator.specs.Known.{Sized};
 ghost use Rattle.branches.specs.Names.{contains};
-ghost use Rattle.branches.specs.Texts.{textOf, textIn, textAny, both, Small};
+ghost use Rattle.branches.specs.Texts.{textOf};
 ghost use Rattle.statements.specs.Words.{labelsIn, JoinsLabel};
-ghost use Rattle.statements.specs.Cases.{branchesOf, Matches, afterCase, decideCase, testCaseAt, caseAs, blockStands};
-ghost use Rattle.statements.specs.Tests.{afterIf, decideIf, testIfAt, testedAs, Tests};
+ghost use Rattle.statements.specs.Cases.{branchesOf, Matches, decideCase, testCaseAt, caseAs, blockStands};
+ghost use Rattle.statements.specs.Tests.{afterText, decideIf, testIfAt, testedAs, Testable, Decides, Tests};
 ghost use Rattle.statements.specs.Answers.{ranAs, Does, Runs};
 use cells::Stored;
 use evaluator::Evaluated;
@@ -100,6 +100,23 @@ fn enter(
     Ran::Done
 }
 
+// The marks and the trail after the test of the condition at p, with `depth` levels left for it.
+fn enter_condition(
+    m: &[u8],
+    depth: u8,
+    p: usize,
+    work: &mut [u8],
+    here: Context,
+    set: Labels,
+) -> Ran
+    requires { ⌜ Testable (now m) (now work) depth p ⌝ }
+    ensures { λ r. ⌜ Decides (now (m .entry)) (now (work .entry)) (now (work .exit)) here (ranAs r) (afterText p (textOf (statementAt (now (m .entry)) depth p)) set) ⌝ }
+{
+    let mut names = [0u64; 16];
+    let declares = summaries::summarize(m, depth, p, work, &mut names);
+    enter(work, p, here, set, &names, declares)
+}
+
 // ---- Assignments
 
 // Gives a variable the value x, for a statement at p.
@@ -139,28 +156,10 @@ pub fn assign(
 
 // ---- The test of an if
 
-// The marks and the trail after the test of the if at p, whose blocks are at q and after it.
-fn enter_if(
-    m: &[u8],
-    below: u8,
-    q: usize,
-    work: &mut [u8],
-    p: usize,
-    here: Context,
-    set: Labels,
-) -> Ran
-    requires { ⌜ (((length (now m) ≤ 65535) × (65536 ≤ length (now work))) × (p ≤ 65535)) × ((StandsAs (now m) below Block q × StandsAs (now m) below Block (endOf (now m) q)) × Small (both (textIn (blockAt (now m) below q)) (textIn (blockAt (now m) below (endOf (now m) q))))) ⌝ }
-    ensures { λ r. ⌜ Does (now (work .entry)) (now (work .exit)) here (ranAs r) (afterIf p (blockAt (now (m .entry)) below q) (blockAt (now (m .entry)) below (endOf (now (m .entry)) q)) set) ⌝ }
-{
-    let mut names = [0u64; 16];
-    let declares = branches::collect_both(m, below, q, &mut names);
-    enter(work, p, here, set, &names, declares)
-}
-
 // The if at p, whose condition is x.
-fn decide_if(m: &[u8], below: u8, p: usize, work: &mut [u8], here: Context, x: Labelled) -> Tested
-    requires { ⌜ (((length (now m) ≤ 65535) × (65536 ≤ length (now work))) × (p + 3 ≤ 65535)) × ((StandsAs (now m) below Block (endOf (now m) (p + 3)) × StandsAs (now m) below Block (endOf (now m) (endOf (now m) (p + 3)))) × Small (both (textIn (blockAt (now m) below (endOf (now m) (p + 3)))) (textIn (blockAt (now m) below (endOf (now m) (endOf (now m) (p + 3))))))) ⌝ }
-    ensures { λ r. ⌜ Does (now (work .entry)) (now (work .exit)) here (testedAs r) (decideIf p (p + 3) (blockAt (now (m .entry)) below (endOf (now (m .entry)) (p + 3))) (blockAt (now (m .entry)) below (endOf (now (m .entry)) (endOf (now (m .entry)) (p + 3)))) x) ⌝ }
+fn decide_if(m: &[u8], depth: u8, p: usize, work: &mut [u8], here: Context, x: Labelled) -> Tested
+    requires { ⌜ Testable (now m) (now work) depth p × (byte (now m) p ≡ 0x22) ⌝ }
+    ensures { λ r. ⌜ Decides (now (m .entry)) (now (work .entry)) (now (work .exit)) here (testedAs r) (decideIf p (p + 3) (blockAt (now (m .entry)) (depth - 1) (endOf (now (m .entry)) (p + 3))) (blockAt (now (m .entry)) (depth - 1) (endOf (now (m .entry)) (endOf (now (m .entry)) (p + 3)))) x) ⌝ }
 {
     let value = x.value;
     let Value::Boolean(yes) = value else {
@@ -169,8 +168,7 @@ fn decide_if(m: &[u8], below: u8, p: usize, work: &mut [u8], here: Context, x: L
     let own = x.labels;
     let path = here.path;
     let set = condition_set(work, own, path);
-    let q = wire::end_of(m, p + 3);
-    let entered = enter_if(m, below, q, work, p, here, set);
+    let entered = enter_condition(m, depth, p, work, here, set);
     match entered {
         Ran::Refused(refusal) => Tested::Refused(refusal),
         Ran::Done => Tested::Branch { yes, set },
@@ -187,14 +185,14 @@ pub fn test_if(
     fill: usize,
     here: Context,
 ) -> Tested
-    requires { ⌜ (Sized (now m) (now work) (now out) fill p × StandsAs (now m) depth Statement p) × ((byte (now m) p ≡ 0x22) × Small (textOf (statementAt (now m) depth p))) ⌝ }
+    requires { ⌜ (Sized (now m) (now work) (now out) fill p × Testable (now m) (now work) depth p) × (byte (now m) p ≡ 0x22) ⌝ }
     ensures { λ r. ⌜ Tests (now (m .entry)) (now (work .entry)) (now (work .exit)) (now (out .entry)) fill here (testedAs r) (testIfAt (now (m .entry)) (depth - 1) p) ⌝ }
 {
     let scope = here.scope;
     let e = evaluate(m, depth - 1, p + 3, work, out, fill, scope);
     match e {
         Evaluated::Refused(refusal) => Tested::Refused(refusal),
-        Evaluated::Value(x) => decide_if(m, depth - 1, p, work, here, x),
+        Evaluated::Value(x) => decide_if(m, depth, p, work, here, x),
     }
 }
 
@@ -281,46 +279,27 @@ fn match_branches(m: &[u8], below: u8, from: usize, end: usize, x: Value) -> Mat
     }
 }
 
-// The marks and the trail after the test of the case at p, whose 24s are from `from` to `end`.
-fn enter_case(
-    m: &[u8],
-    below: u8,
-    from: usize,
-    end: usize,
-    work: &mut [u8],
-    p: usize,
-    here: Context,
-    set: Labels,
-) -> Ran
-    requires { ⌜ (((length (now m) ≤ 65535) × (65536 ≤ length (now work))) × (p ≤ 65535)) × (Siblings (now m) below Branch from end × Small (textAny (branchesAt (now m) below (fieldsIn (now m) from end)))) ⌝ }
-    ensures { λ r. ⌜ Does (now (work .entry)) (now (work .exit)) here (ranAs r) (afterCase p (branchesAt (now (m .entry)) below (fieldsIn (now (m .entry)) from end)) set) ⌝ }
-{
-    let mut names = [0u64; 16];
-    let declares = branches::collect_any(m, below, from, end, &mut names);
-    enter(work, p, here, set, &names, declares)
-}
-
 // The case at p, whose value is x.
 fn decide_case(
     m: &[u8],
-    below: u8,
+    depth: u8,
     p: usize,
     work: &mut [u8],
     here: Context,
     x: Labelled,
 ) -> TestedCase
-    requires { ⌜ (((length (now m) ≤ 65535) × (65536 ≤ length (now work))) × ((p + 3 ≤ 65535) × (endOf (now m) p ≤ 65535))) × (Siblings (now m) below Branch (endOf (now m) (p + 3)) (endOf (now m) p) × Small (textAny (branchesOf (now m) below p))) ⌝ }
-    ensures { λ r. ⌜ Does (now (work .entry)) (now (work .exit)) here (caseAs (now (m .entry)) (below - 1) r) (decideCase p (branchesOf (now (m .entry)) below p) x) × blockStands (now (m .entry)) (below - 1) p r ⌝ }
+    requires { ⌜ Testable (now m) (now work) depth p × (byte (now m) p ≡ 0x23) ⌝ }
+    ensures { λ r. ⌜ Decides (now (m .entry)) (now (work .entry)) (now (work .exit)) here (caseAs (now (m .entry)) (depth - 1 - 1) r) (decideCase p (branchesOf (now (m .entry)) (depth - 1) p) x) × blockStands (now (m .entry)) (depth - 1 - 1) p r ⌝ }
 {
     let value = x.value;
     let own = x.labels;
     let from = wire::end_of(m, p + 3);
     let end = wire::end_of(m, p);
-    let matched = match_branches(m, below, from, end, value);
+    let matched = match_branches(m, depth - 1, from, end, value);
     let tried = matched.labels;
     let path = here.path;
     let set = condition_set(work, own.union(tried), path);
-    let entered = enter_case(m, below, from, end, work, p, here, set);
+    let entered = enter_condition(m, depth, p, work, here, set);
     match entered {
         Ran::Refused(refusal) => TestedCase::Refused(refusal),
         Ran::Done => {
@@ -343,13 +322,13 @@ pub fn test_case(
     fill: usize,
     here: Context,
 ) -> TestedCase
-    requires { ⌜ (Sized (now m) (now work) (now out) fill p × StandsAs (now m) depth Statement p) × ((byte (now m) p ≡ 0x23) × Small (textOf (statementAt (now m) depth p))) ⌝ }
+    requires { ⌜ (Sized (now m) (now work) (now out) fill p × Testable (now m) (now work) depth p) × (byte (now m) p ≡ 0x23) ⌝ }
     ensures { λ r. ⌜ Tests (now (m .entry)) (now (work .entry)) (now (work .exit)) (now (out .entry)) fill here (caseAs (now (m .entry)) (depth - 1 - 1) r) (testCaseAt (now (m .entry)) (depth - 1) p) × blockStands (now (m .entry)) (depth - 1 - 1) p r ⌝ }
 {
     let scope = here.scope;
     let e = evaluate(m, depth - 1, p + 3, work, out, fill, scope);
     match e {
         Evaluated::Refused(refusal) => TestedCase::Refused(refusal),
-        Evaluated::Value(x) => decide_case(m, depth - 1, p, work, here, x),
+        Evaluated::Value(x) => decide_case(m, depth, p, work, here, x),
     }
 }

@@ -25,7 +25,11 @@ module _ {m w w′ : List ℕ} where
   lines-same : ((i : ℕ) → i < 16 → lineOf w′ i ≡ lineOf w i) → Summarized m w → Summarized m w′
   lines-same same s = record { each = λ i h. rw (same i h) (s .each i h) }
 
-  -- they stand among the bytes of others
+  -- they stand before the index, and among the bytes of others
+  pub summarized-before : ((k : ℕ) → k < summaryAt 16 → byte w′ k ≡ byte w k) → Summarized m w → Summarized m w′
+  unfolding lineOf
+  summarized-before same = lines-same (λ i h. same-run w′ w (summaryAt i) (summaryAt i) summarySize (λ j l. same (summaryAt i + j) (omega arith)))
+
   pub summarized-still : restOf w′ ≡ restOf w → Summarized m w → Summarized m w′
   unfolding lineOf
   summarized-still same = lines-same (λ i h. others-run w w′ same (summaryAt i) (omega arith) summarySize)

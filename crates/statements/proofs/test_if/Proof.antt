@@ -1,16 +1,12 @@
 use native.Mathlib.Omega.{arith}
 use Rattle.branches.proofs.Standing.{has-level}
-use Rattle.statements.proofs.Conditions.{conditional-here, condition-place, if-small, test-refused, test-decided}
+use Rattle.statements.proofs.Conditions.{test-refused, test-decided}
 use borrow.Author.Needs.{needs}
 use Rattle.statements.proofs.test_if.Statement.{statement}
 use Rattle.statements.proofs.test_if.Tie as tie
-use Rattle.statements.proofs.test_if.Reads as reads
-use Rattle.statements.proofs.test_if.Lts as lts
-use Rattle.evaluator.proofs.evaluate.Reads as evaluate-reads
-use Rattle.statements.proofs.decide_if.Reads as decide-if-reads
 
 sub-evaluate : tie.Need-sub-evaluate
-sub-evaluate c = omega (arith, has-level (c .before .before .before .before .pre .0 .1))
+sub-evaluate c = omega (arith, has-level (c .before .before .before .before .pre .0 .1 .stands))
 
 add-evaluate : tie.Need-add-evaluate
 add-evaluate c = search needs
@@ -24,23 +20,20 @@ enum-known-e c = search needs
 enum-known-e-2 : tie.Need-enum-known-e-2
 enum-known-e-2 c = search needs
 
-sub-decide-if : tie.Need-sub-decide-if
-sub-decide-if c = omega (arith, has-level (c .before .before .before .before .before .before .before .before .before .pre .0 .1))
-
 decide-if-requires : tie.Need-decide-if-requires
-decide-if-requires c κs = let pre = c .before .before .before .before .before .before .before .before .before .before .pre in let here = conditional-here (pre .0 .1) (pre .1 .0) in (((pre .0 .0 .manifest, omega (arith, pre .0 .0 .memory)), condition-place (pre .0 .1) (pre .0 .0 .manifest)), ((here .ifTrue, here .ifFalse), if-small (pre .0 .1) (pre .1 .0) (pre .1 .1)))
+decide-if-requires c κs = search needs
 
 same-length : tie.Need-same-length
 same-length c = search needs
 
 returns : tie.Need-returns
-returns c = let pre = c .before .before .before .before .before .before .before .before .before .pre in test-refused _ (pre .0 .1) (pre .1 .0) _ (c .before .before .before .evaluate .ensures) _ (c .before .e .given .1)
+returns c = test-refused _ (c .before .before .before .before .before .before .before .before .before .pre .0 .1 .stands) (c .before .before .before .before .before .before .before .before .before .pre .1) _ (c .before .before .before .evaluate .ensures) _ (c .before .e .given .1)
 
 same-length-2 : tie.Need-same-length-2
 same-length-2 c = search needs
 
 returns-2 : tie.Need-returns-2
-returns-2 c = let pre = c .before .before .before .before .before .before .before .before .before .before .before .before .before .pre in test-decided _ (pre .0 .1) (pre .1 .0) _ (c .before .before .before .before .before .before .before .evaluate .ensures) _ _ (c .before .before .before .before .before .e2 .given .1) (c .before .before .decide-if .ensures)
+returns-2 c = test-decided _ (c .before .before .before .before .before .before .before .before .before .before .before .before .before .pre .0 .1 .stands) (c .before .before .before .before .before .before .before .before .before .before .before .before .before .pre .1) _ (c .before .before .before .before .before .before .before .evaluate .ensures) _ _ (c .before .before .before .before .before .e2 .given .1) (c .before .before .decide-if .ensures)
 
 pub test-if-spec : {M : Type 1} → statement M
 test-if-spec =
@@ -51,7 +44,6 @@ test-if-spec =
     evaluate-requires
     enum-known-e
     enum-known-e-2
-    sub-decide-if
     decide-if-requires
     same-length
     returns

@@ -5,12 +5,11 @@ use Rattle.execution.proofs.run_case.Reads as run-case
 use Rattle.execution.proofs.+declare_class+declare_parent+declare_type+enter_class+run_begun+run_block+run_body+run_case+run_class+run_defined+run_given+run_if+run_include+run_statement+run_tabled.Lts-run_case as run-case-lts
 use Rattle.execution.proofs.+declare_class+declare_parent+declare_type+enter_class+run_begun+run_block+run_body+run_case+run_class+run_defined+run_given+run_if+run_include+run_statement+run_tabled.Proof.Measures.{run-case-calls, run-case-at}
 use mathlib.Core.Path.{refl, _∙_}
-use Rattle.execution.proofs.Ends.{able-kept}
-use Rattle.execution.proofs.Statements.{sized, case-block, case-refused, case-passed, case-chosen}
-use Rattle.execution.proofs.Names.{small-statement}
+use Rattle.execution.proofs.Ends.{able-preserved}
+use Rattle.execution.proofs.Statements.{sized, testable, case-block, case-refused, case-passed, case-chosen}
 
 pub test-case-requires : (t : ℕ) → run-case-lts.Need-test-case-requires (run-case-calls t) (run-case-at t) run-case.Post
-test-case-requires t c κs = ((sized (c .before .before .before .before .before .pre .1 .0 .0) (c .before .before .before .before .before .pre .1 .0 .1 .0), c .before .before .before .before .before .pre .1 .0 .1 .0), (c .before .before .before .before .before .pre .1 .1, small-statement (c .before .before .before .before .before .pre .1 .0 .0 .set .strings) (c .before .before .before .before .before .pre .1 .0 .1 .0) (c .before .before .before .before .before .pre .1 .0 .1 .1)))
+test-case-requires t c κs = ((sized (c .before .before .before .before .before .pre .1 .0 .0) (c .before .before .before .before .before .pre .1 .0 .1 .0), testable (c .before .before .before .before .before .pre .1 .0 .0) (c .before .before .before .before .before .pre .1 .0 .1 .0) (c .before .before .before .before .before .pre .1 .0 .1 .1)), c .before .before .before .before .before .pre .1 .1)
 
 pub sub-run-block : (t : ℕ) → run-case-lts.Need-sub-run-block (run-case-calls t) (run-case-at t) run-case.Post
 sub-run-block t c = case-block (c .before .before .before .before .before .before .before .before .before .before .before .before .pre .1 .0 .1 .0) (c .before .before .before .before .before .before .before .before .before .before .before .before .pre .1 .0 .1 .1) (c .before .before .before .before .before .before .before .before .before .before .before .before .pre .1 .1) (c .before .before .t2 .given .1) (c .before .before .before .before .before .before .test-case .ensures .1) .0
@@ -18,7 +17,7 @@ sub-run-block t c = case-block (c .before .before .before .before .before .befor
 pub run-block-requires : (t : ℕ) → run-case-lts.Need-run-block-requires (run-case-calls t) (run-case-at t) run-case.Post
 run-block-requires t c κs =
     let i = case-block (c .before .before .before .before .before .before .before .before .before .before .before .before .before .before .before .pre .1 .0 .1 .0) (c .before .before .before .before .before .before .before .before .before .before .before .before .before .before .before .pre .1 .0 .1 .1) (c .before .before .before .before .before .before .before .before .before .before .before .before .before .before .before .pre .1 .1) (c .before .before .before .before .before .t2 .given .1) (c .before .before .before .before .before .before .before .before .before .test-case .ensures .1) in
-    (omega (arith, c .before .before .before .before .before .before .before .before .before .before .before .before .before .before .before .pre .0, i .0), (able-kept (c .before .before .before .before .before .before .before .before .before .test-case .ensures .0 .keeps) (c .before .before .before .before .before .before .before .before .before .test-case .kept .1 .1 .1 .0) (c .before .before .before .before .before .before .before .before .before .before .before .before .before .before .before .pre .1 .0 .0), i .1))
+    (omega (arith, c .before .before .before .before .before .before .before .before .before .before .before .before .before .before .before .pre .0, i .0), (able-preserved (c .before .before .before .before .before .before .before .before .before .test-case .ensures .0 .keeps) (c .before .before .before .before .before .before .before .before .before .test-case .kept .1 .1 .1 .0) (c .before .before .before .before .before .before .before .before .before .before .before .before .before .before .before .pre .1 .0 .0), i .1))
 
 pub same-length : (t : ℕ) → run-case-lts.Need-same-length (run-case-calls t) (run-case-at t) run-case.Post
 same-length t c = c .before .before .before .before .before .test-case .kept .1 .1 .1 .0

@@ -5,13 +5,12 @@ use Rattle.execution.proofs.run_if.Reads as run-if
 use Rattle.execution.proofs.+declare_class+declare_parent+declare_type+enter_class+run_begun+run_block+run_body+run_case+run_class+run_defined+run_given+run_if+run_include+run_statement+run_tabled.Lts-run_if as run-if-lts
 use Rattle.execution.proofs.+declare_class+declare_parent+declare_type+enter_class+run_begun+run_block+run_body+run_case+run_class+run_defined+run_given+run_if+run_include+run_statement+run_tabled.Proof.Measures.{run-if-calls, run-if-at}
 use mathlib.Core.Path.{_∙_}
-use Rattle.execution.proofs.Statements.{sized, if-refused, if-goes-on, if-place, if-block}
-use Rattle.execution.proofs.Names.{small-statement}
+use Rattle.execution.proofs.Statements.{sized, testable, if-refused, if-goes-on, if-place, if-block}
 use Rattle.branches.proofs.Standing.{has-level}
-use Rattle.execution.proofs.Ends.{able-kept}
+use Rattle.execution.proofs.Ends.{able-preserved}
 
 pub test-if-requires : (t : ℕ) → run-if-lts.Need-test-if-requires (run-if-calls t) (run-if-at t) run-if.Post
-test-if-requires t c κs = ((sized (c .before .before .before .before .before .pre .1 .0 .0) (c .before .before .before .before .before .pre .1 .0 .1 .0), c .before .before .before .before .before .pre .1 .0 .1 .0), (c .before .before .before .before .before .pre .1 .1, small-statement (c .before .before .before .before .before .pre .1 .0 .0 .set .strings) (c .before .before .before .before .before .pre .1 .0 .1 .0) (c .before .before .before .before .before .pre .1 .0 .1 .1)))
+test-if-requires t c κs = ((sized (c .before .before .before .before .before .pre .1 .0 .0) (c .before .before .before .before .before .pre .1 .0 .1 .0), testable (c .before .before .before .before .before .pre .1 .0 .0) (c .before .before .before .before .before .pre .1 .0 .1 .0) (c .before .before .before .before .before .pre .1 .0 .1 .1)), c .before .before .before .before .before .pre .1 .1)
 
 pub sub-run-block : (t : ℕ) → run-if-lts.Need-sub-run-block (run-if-calls t) (run-if-at t) run-if.Post
 sub-run-block t c = omega (arith, has-level (c .before .before .before .before .before .before .before .before .before .before .before .before .before .pre .1 .0 .1 .0))
@@ -20,7 +19,7 @@ pub chosen-block-requires : (t : ℕ) → run-if-lts.Need-chosen-block-requires 
 chosen-block-requires t c κs = if-place (c .before .before .before .before .before .before .before .before .before .before .before .pre .1 .0 .0) (c .before .before .before .before .before .before .before .before .before .before .before .pre .1 .0 .1 .0) (c .before .before .before .before .before .before .before .before .before .before .before .pre .1 .1)
 
 pub run-block-requires : (t : ℕ) → run-if-lts.Need-run-block-requires (run-if-calls t) (run-if-at t) run-if.Post
-run-block-requires t c κs = (omega (arith, c .before .before .before .before .before .before .before .before .before .before .before .before .before .before .before .before .pre .0, has-level (c .before .before .before .before .before .before .before .before .before .before .before .before .before .before .before .before .pre .1 .0 .1 .0)), (able-kept (c .before .before .before .before .before .before .before .before .before .before .test-if .ensures .keeps) (c .before .before .before .before .before .before .before .before .before .before .test-if .kept .1 .1 .1 .0) (c .before .before .before .before .before .before .before .before .before .before .before .before .before .before .before .before .pre .1 .0 .0), if-block (c .before .before .before .before .before .before .t2 .given .0 .0) (c .before .before .before .before .before .before .before .before .before .before .before .before .before .before .before .before .pre .1 .0 .1 .0) (c .before .before .before .before .before .before .before .before .before .before .before .before .before .before .before .before .pre .1 .0 .1 .1) (c .before .before .before .before .before .before .before .before .before .before .before .before .before .before .before .before .pre .1 .1) (c .before .before .before .before .chosen-block .ensures)))
+run-block-requires t c κs = (omega (arith, c .before .before .before .before .before .before .before .before .before .before .before .before .before .before .before .before .pre .0, has-level (c .before .before .before .before .before .before .before .before .before .before .before .before .before .before .before .before .pre .1 .0 .1 .0)), (able-preserved (c .before .before .before .before .before .before .before .before .before .before .test-if .ensures .keeps) (c .before .before .before .before .before .before .before .before .before .before .test-if .kept .1 .1 .1 .0) (c .before .before .before .before .before .before .before .before .before .before .before .before .before .before .before .before .pre .1 .0 .0), if-block (c .before .before .before .before .before .before .t2 .given .0 .0) (c .before .before .before .before .before .before .before .before .before .before .before .before .before .before .before .before .pre .1 .0 .1 .0) (c .before .before .before .before .before .before .before .before .before .before .before .before .before .before .before .before .pre .1 .0 .1 .1) (c .before .before .before .before .before .before .before .before .before .before .before .before .before .before .before .before .pre .1 .1) (c .before .before .before .before .chosen-block .ensures)))
 
 pub same-length : (t : ℕ) → run-if-lts.Need-same-length (run-if-calls t) (run-if-at t) run-if.Post
 same-length t c = c .before .before .before .before .before .test-if .kept .1 .1 .1 .0
