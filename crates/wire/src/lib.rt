@@ -34,14 +34,6 @@ fn after(m: &[u8], i: usize) -> usize
     if i < m.len() { i + 1 } else { i }
 }
 
-fn two_slow(m: &[u8], i: usize) -> u16
-    ensures { λ r. ⌜ r ≡ two (now (m .entry)) i ⌝ }
-{
-    let high = byte_at(m, i);
-    let low = byte_at(m, after(m, i));
-    wide_two(high) * 256 + wide_two(low)
-}
-
 pub fn two_at(m: &[u8], i: usize) -> u16
     ensures { λ r. ⌜ r ≡ two (now (m .entry)) i ⌝ }
 {
@@ -49,8 +41,9 @@ pub fn two_at(m: &[u8], i: usize) -> u16
         if 2 <= m.len() - i {
             return two_in(m, i);
         }
+        return wide_two(byte_in(m, i)) * 256;
     }
-    two_slow(m, i)
+    0
 }
 
 // A byte that is there.
@@ -141,6 +134,9 @@ pub fn end_of(m: &[u8], p: usize) -> usize
     requires { ⌜ p < 4294967296 ⌝ }
     ensures { λ r. ⌜ r ≡ endOf (now (m .entry)) p ⌝ }
 {
+    if p + 3 <= m.len() {
+        return end_in(m, p);
+    }
     p + 3 + length_at(m, p) as usize
 }
 
