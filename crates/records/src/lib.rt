@@ -50,12 +50,13 @@ fn put_payload(bytes: &mut [u8], at: usize, value: Value)
 }
 
 fn value_at(bytes: &[u8], kind: u8, at: usize) -> Value
+    requires { ⌜ at + 8 ≤ length (now bytes) ⌝ }
     ensures { λ r. ⌜ r ≡ valueFrom kind (wordAt (now (bytes .entry)) at) ⌝ }
 {
     if kind == 2 {
-        return Value::Integer(wire::signed_at(bytes, at));
+        return Value::Integer(wire::signed_in(bytes, at));
     }
-    let payload = wire::number_at(bytes, at);
+    let payload = wire::number_in(bytes, at);
     if kind == 3 {
         return Value::String((payload % 65536) as u16);
     }
@@ -69,7 +70,7 @@ pub fn record_at(bytes: &[u8], at: usize) -> Held
     requires { ⌜ at + recordSize ≤ length (now bytes) ⌝ }
     ensures { λ r. ⌜ r ≡ heldOf (recordIn (now (bytes .entry)) at) ⌝ }
 {
-    let kind = wire::byte_at(bytes, at + KIND);
+    let kind = wire::byte_in(bytes, at + KIND);
     if kind == 0 {
         return Held::Empty;
     }

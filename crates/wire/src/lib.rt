@@ -122,6 +122,14 @@ pub fn signed_at(m: &[u8], i: usize) -> i64
     signed_of(number_at(m, i))
 }
 
+// The same, where the eight bytes are there.
+pub fn signed_in(m: &[u8], i: usize) -> i64
+    requires { ⌜ i + 8 ≤ length (now m) ⌝ }
+    ensures { λ r. ⌜ r ≡ signed64 (number (bytesAt (now (m .entry)) i 8) 0) ⌝ }
+{
+    signed_of(number_in(m, i))
+}
+
 // The length in the header of the field at `p`.
 pub fn length_at(m: &[u8], p: usize) -> u16
     ensures { λ r. ⌜ r ≡ two (now (m .entry)) (p + 1) ⌝ }

@@ -1,29 +1,30 @@
 -- `value_at`: one way for each kind of value.
 use mathlib.Core.Path.{_∙_}
 use native.Mathlib.Omega.{arith}
+use borrow.Author.Needs.{needs}
 use mir.Facts.{toZ-ofZ}
 use Rattle.records.proofs.Ways.{value-integer, value-string, value-boolean}
 use Rattle.records.proofs.value_at.Statement.{statement}
 use Rattle.records.proofs.value_at.Tie as tie
 
-signed-at-requires : tie.Need-signed-at-requires
-signed-at-requires c κs = tt
+signed-in-requires : tie.Need-signed-in-requires
+signed-in-requires c κs = search needs
 
 returns : tie.Need-returns
-returns c = value-integer _ _ _ (c .before .if1 .taken) (toZ-ofZ (record { sfits = c .signed-at .ok }) ∙ c .signed-at .ensures)
+returns c = value-integer _ _ _ (c .before .if1 .taken) (toZ-ofZ (record { sfits = c .signed-in .ok }) ∙ c .signed-in .ensures)
 
-number-at-requires : tie.Need-number-at-requires
-number-at-requires c κs = tt
+number-in-requires : tie.Need-number-in-requires
+number-in-requires c κs = search needs
 
 cast-t8 : tie.Need-cast-t8
 cast-t8 c = omega arith
 
 returns-2 : tie.Need-returns-2
-returns-2 c = value-string _ _ _ (c .before .before .if1 .left) (c .before .number-at .ensures) (c .if2 .taken)
+returns-2 c = value-string _ _ _ (c .before .before .if1 .left) (c .before .number-in .ensures) (c .if2 .taken)
 
 returns-3 : tie.Need-returns-3
-returns-3 c = value-boolean _ _ _ (c .before .before .if1 .left) (c .before .number-at .ensures) (c .if2 .left)
+returns-3 c = value-boolean _ _ _ (c .before .before .if1 .left) (c .before .number-in .ensures) (c .if2 .left)
 
 pub value-at-spec : {M : Type 1} → statement M
 value-at-spec =
-    tie.close (tie.spec signed-at-requires returns number-at-requires cast-t8 returns-2 returns-3)
+    tie.close (tie.spec signed-in-requires returns number-in-requires cast-t8 returns-2 returns-3)
