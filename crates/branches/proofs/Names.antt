@@ -6,7 +6,7 @@ use mathlib.Core.List.{List}
 use native.Mathlib.Nat.{zero-div, mod-lt, zero-lt-suc, lt-of-not-le}
 use native.Mathlib.Omega.{arith}
 use borrow.Author.Tests.{leb-true, leb-false, le-leb, lt-leb, eqb-true, eqb-false, eq-eqb, ne-eqb}
-use lib.Bits.{bitOr}
+use lib.Bits.{bitOr, or-add-and, and-le-l, and-le-r}
 use lib.Count.{trailingZeros}
 use lib.Dec.{eqb, leb, lit<}
 use lib.ListN.{length, getD, set, replicate, length-set, List·getD-eq-default}
@@ -19,7 +19,7 @@ use Rattle.labels.specs.declared.Labels.{Labels}
 use Rattle.labels.specs.Sets.{bitOf, oneLabel, _∪_, wordOf, has}
 use Rattle.labels.proofs.Digits.{digit, digit-shift, digit-high, trailing-low, trailing-set}
 use Rattle.labels.proofs.Laws.{one-of, has-digit, has-union, has-one}
-use Rattle.branches.specs.Names.{bitIn, contains, inWord}
+use Rattle.branches.specs.Names.{bitIn, contains, inWord, fourFrom}
 use Rattle.branches.specs.Texts.{named, Collects}
 
 -- ---- No name
@@ -200,3 +200,30 @@ word-then s i n = go (side i (n / 64))
     go (before l) = rw (ne-eqb (n / 64) i (λ e. omega arith), lt-leb i (n / 64) (omega arith), lt-leb (i + 1) (n / 64) (omega arith)) refl
     go (here e) = rw (eq-eqb (n / 64) i e, le-leb i (n / 64) (omega arith), lt-leb (i + 1) (n / 64) (omega arith)) (ap (λ (k : ℕ). bitIn (getD s k 0) n) e ∙ or-false (bitIn (getD s i 0) n))
     go (past l) = rw (ne-eqb (n / 64) i (λ e. omega arith), le-leb i (n / 64) (omega arith), le-leb (i + 1) (n / 64) (omega arith)) refl
+
+-- ---- No word is left where the words joined are zero
+
+or-none : (a b : ℕ) → bitOr a b ≡ 0 → (a ≡ 0) × (b ≡ 0)
+or-none a b e = (omega (arith, or-add-and a b, and-le-r a b), omega (arith, or-add-and a b, and-le-l a b))
+
+four-none : (a b c d : ℕ) → bitOr (bitOr (bitOr a b) c) d ≡ 0 → ((a ≡ 0) × (b ≡ 0)) × ((c ≡ 0) × (d ≡ 0))
+four-none a b c d e =
+    let three = or-none (bitOr (bitOr a b) c) d e in
+    let two = or-none (bitOr a b) c (three .0) in
+    (or-none a b (two .0), (two .1, three .1))
+
+module _ (s : List ℕ) (n : ℕ) where
+  word-none : (i : ℕ) {j : ℕ} → j ≡ i + 1 → getD s i 0 ≡ 0 → wordsFrom i s n ≡ wordsFrom j s n
+  unfolding inWord bitIn
+  word-none i next e = word-then s i n ∙ rw (e, and-false (eqb (n / 64) i) (no-digit (n % 64)), next) refl
+
+  words-none : (i : ℕ) → fourFrom s i ≡ 0 → wordsFrom i s n ≡ wordsFrom (i + 4) s n
+  words-none i e =
+      let zero = four-none (getD s i 0) (getD s (i + 1) 0) (getD s (i + 2) 0) (getD s (i + 3) 0) e in
+      word-none i refl (zero .0 .0) ∙ word-none (i + 1) (omega arith) (zero .0 .1) ∙ word-none (i + 2) (omega arith) (zero .1 .0) ∙ word-none (i + 3) (omega arith) (zero .1 .1)
+
+-- the way of `is_empty`
+pub holds-none : (s : List ℕ) {a b c d : ℕ} → length s ≡ 16 → a ≡ fourFrom s 0 → b ≡ fourFrom s 4 → c ≡ fourFrom s 8 → d ≡ fourFrom s 12 → eqb (bitOr (bitOr (bitOr a b) c) d) 0 ≡ true → (n : ℕ) → contains s n ≡ false
+holds-none s {a} {b} {c} {d} size ea eb ec ed e n =
+    let zero = four-none a b c d (eqb-true _ 0 e) in
+    all-words s n ∙ words-none s n 0 (sym ea ∙ zero .0 .0) ∙ words-none s n 4 (sym eb ∙ zero .0 .1) ∙ words-none s n 8 (sym ec ∙ zero .1 .0) ∙ words-none s n 12 (sym ed ∙ zero .1 .1) ∙ no-words s size (omega arith) n

@@ -1,7 +1,8 @@
 -- Sets of names: sixteen words, in which name n is bit n % 64 of word n / 64.
-use Prim.Native.Nat.{ℕ, _/_, _%_, _^_}
+use Prim.Native.Nat.{ℕ, _+_, _/_, _%_, _^_}
 use mathlib.Core.Bool.{Bool, _&&_}
 use mathlib.Core.List.{List}
+use lib.Bits.{bitOr}
 use lib.Dec.{eqb}
 use lib.ListN.{getD}
 
@@ -16,3 +17,7 @@ contains s n = bitIn (getD s (n / 64) 0) n
 -- whether a name is in it by word i, which is w
 unfoldable pub inWord : (i w : ℕ) → ℕ → Bool
 inWord i w n = eqb (n / 64) i && bitIn w n
+
+-- four words joined, from word i on
+abbrev pub fourFrom : List ℕ → (i : ℕ) → ℕ
+fourFrom s i = bitOr (bitOr (bitOr (getD s i 0) (getD s (i + 1) 0)) (getD s (i + 2) 0)) (getD s (i + 3) 0)

@@ -1,14 +1,14 @@
 // What the branches of a condition hold, taken or not: read in place from the manifest's bytes, where they stand soundly. One walk collects the names that
 // they assign, and tells whether they declare; then the condition's set joins the mark of each name once.
 ghost use mathlib.Core.Path.{_≡_};
-ghost use mathlib.Core.Bool.{false};
-ghost use Prim.Native.Nat.{_≤_, _<_};
+ghost use mathlib.Core.Bool.{true, false};
+ghost use Prim.Native.Nat.{ℕ, _≤_, _<_};
 ghost use lib.ListN.{length};
 ghost use Rattle.wire.specs.Bytes.{endOf, fieldsIn};
 ghost use Rattle.rules.specs.declared.Kind.the-variants.{Statement, Block, Branch};
 ghost use Rattle.places.specs.At.{statementAt, blockAt, statementsAt, branchesAt, StandsAs, Siblings};
 ghost use Rattle.cells.specs.Scopes.{scopeOf};
-ghost use Rattle.branches.specs.Names.{contains, inWord};
+ghost use Rattle.branches.specs.Names.{contains, inWord, fourFrom};
 ghost use Rattle.branches.specs.Texts.{named, both, textOf, textIn, textAny, Small, Collects};
 ghost use Rattle.branches.specs.Marks.{Marks};
 use cells::Stored;
@@ -121,11 +121,30 @@ fn mark_word(work: &mut [u8], scope: u16, i: u16, word: u64, k: Labels) -> Store
     Stored::Done
 }
 
+// Four words joined, from word i on.
+fn join_four(names: &[u64; 16], i: usize) -> u64
+    requires { ⌜ (length (now names) ≡ 16) × (i < 13) ⌝ }
+    ensures { λ r. ⌜ r ≡ fourFrom (now (names .entry)) i ⌝ }
+{
+    names[i] | names[i + 1] | names[i + 2] | names[i + 3]
+}
+
+// True only if the set holds no name. Straight, since a loop of sixteen tests costs a tenth of a short condition.
+fn is_empty(names: &[u64; 16]) -> bool
+    requires { ⌜ length (now names) ≡ 16 ⌝ }
+    ensures { λ r. ⌜ (r ≡ true → (n : ℕ) → contains (now (names .entry)) n ≡ false) ⌝ }
+{
+    (join_four(names, 0) | join_four(names, 4) | join_four(names, 8) | join_four(names, 12)) == 0
+}
+
 // All of them, up to the first that no cell is left for.
 pub fn mark_names(work: &mut [u8], scope: u16, names: &[u64; 16], k: Labels) -> Stored
     requires { ⌜ (65536 ≤ length (now work)) × (length (now names) ≡ 16) ⌝ }
     ensures { λ r. ⌜ Marks (now (work .entry)) (now (work .exit)) r (scopeOf scope) (contains (now (names .entry))) k ⌝ }
 {
+    if is_empty(names) {
+        return Stored::Done;
+    }
     let mut i: usize = 0;
     while i < 16 {
         let stored = mark_word(work, scope, i as u16, names[i], k);

@@ -1,6 +1,6 @@
--- `mark_names`: at the loop's head the names left are those of the words from i on.
+-- `mark_names`: an empty set leaves nothing to mark; at the loop's head the names left are those of the words from i on.
 use Prim.Native.Nat.{_-_}
-use mathlib.Core.Path.{_∙_}
+use mathlib.Core.Path.{refl, _∙_}
 use native.Mathlib.Omega.{arith}
 use Rattle.cells.specs.Scopes.{scopeOf}
 use Rattle.branches.specs.Names.{contains}
@@ -15,6 +15,12 @@ Inv-loop work₀ scope names k i₀ work i = ToMark work₀ work (scopeOf scope)
 abbrev μ-loop : tie.MeasureT-loop
 μ-loop work₀ scope names k i₀ work i = 16 - i
 
+is-empty-requires : tie.Need-is-empty-requires Inv-loop μ-loop
+is-empty-requires c κs = c .before .pre .1
+
+returns : tie.Need-returns Inv-loop μ-loop
+returns c = all-marked (to-mark _ _ _ (λ n. refl)) (c .before .is-empty .ensures (c .if1 .taken))
+
 loop-holds : tie.Need-loop-holds Inv-loop μ-loop
 loop-holds c = to-mark _ _ _ (all-words _)
 
@@ -28,7 +34,7 @@ element-copy-out-mark-word : tie.Need-element-copy-out-mark-word Inv-loop μ-loo
 element-copy-out-mark-word c = omega (arith, c .before .loop-test .taken)
 
 mark-word-requires : tie.Need-mark-word-requires Inv-loop μ-loop
-mark-word-requires c κs = (omega (arith, c .before .before .before .before .before .pre .0, c .before .before .before .loop .inv .size), omega (arith, c .before .before .loop-test .taken))
+mark-word-requires c κs = (omega (arith, c .before .before .before .before .before .before .before .pre .0, c .before .before .before .loop .inv .size), omega (arith, c .before .before .loop-test .taken))
 
 enum-told : tie.Need-enum-told Inv-loop μ-loop
 enum-told c = c .match .keys1
@@ -36,8 +42,8 @@ enum-told c = c .match .keys1
 same-length : tie.Need-same-length Inv-loop μ-loop
 same-length c = c .before .before .before .mark-word .kept .0 ∙ c .before .before .before .before .before .before .before .loop .inv .size
 
-returns : tie.Need-returns Inv-loop μ-loop
-returns c = stops-here (c .before .before .before .before .before .before .before .loop .inv) _ _ (word-then _ _) (c .before .before .before .mark-word .ensures) (other-answer _ (c .match .keys2))
+returns-2 : tie.Need-returns-2 Inv-loop μ-loop
+returns-2 c = stops-here (c .before .before .before .before .before .before .before .loop .inv) _ _ (word-then _ _) (c .before .before .before .mark-word .ensures) (other-answer _ (c .match .keys2))
 
 add-i : tie.Need-add-i Inv-loop μ-loop
 add-i c = omega (arith, c .before .before .before .before .before .before .before .loop-test .taken)
@@ -51,8 +57,8 @@ loop-again c = goes-on (c .before .before .before .before .before .before .befor
 same-length-2 : tie.Need-same-length-2 Inv-loop μ-loop
 same-length-2 c = c .before .loop .inv .size
 
-returns-2 : tie.Need-returns-2 Inv-loop μ-loop
-returns-2 c = all-marked (c .before .loop .inv) (no-words _ (c .before .before .before .pre .1) (c .loop-test .left))
+returns-3 : tie.Need-returns-3 Inv-loop μ-loop
+returns-3 c = all-marked (c .before .loop .inv) (no-words _ (c .before .before .before .before .before .pre .1) (c .loop-test .left))
 
 pub mark-names-spec : {M : Type 1} → statement M
 mark-names-spec =
@@ -60,6 +66,8 @@ mark-names-spec =
     (tie.spec
     Inv-loop
     μ-loop
+    is-empty-requires
+    returns
     loop-holds
     cast-mark-word
     mul-mark-word
@@ -67,9 +75,9 @@ mark-names-spec =
     mark-word-requires
     enum-told
     same-length
-    returns
+    returns-2
     add-i
     loop-less
     loop-again
     same-length-2
-    returns-2)
+    returns-3)
