@@ -180,29 +180,53 @@ fn walk_nested(
     declares
 }
 
-// The statement at `p`, which ends at `end`.
-fn walk_at(
+// The long statement at `p`.
+fn walk_long(
     m: &[u8],
     root: usize,
     depth: u8,
     p: usize,
-    end: usize,
     work: &mut [u8],
     names: &mut [u64; 16],
 ) -> bool
-    requires { ⌜ Walking (now m) (now work) (now names) × ((StandsAs (now m) depth Statement p × Small (textOf (statementAt (now m) depth p))) × (end ≡ endOf (now m) p)) ⌝ }
+    requires { ⌜ Walking (now m) (now work) (now names) × (StandsAs (now m) depth Statement p × Small (textOf (statementAt (now m) depth p))) ⌝ }
     ensures { λ r. ⌜ Summarizes (now (m .entry)) (now (work .entry)) (now (work .exit)) (now (names .entry)) (now (names .exit)) r (textOf (statementAt (now (m .entry)) depth p)) ⌝ }
 {
-    if end - p < LONG {
-        return collect_at(m, depth, p, names);
-    }
     match byte_in(m, p) {
         0x22 | 0x23 => walk_nested(m, root, depth, p, work, names),
         _ => collect_at(m, depth, p, names),
     }
 }
 
-// The block at `p`, which ends at `end`.
+// The statements from `from` to `end`.
+fn walk_statements(
+    m: &[u8],
+    root: usize,
+    depth: u8,
+    from: usize,
+    end: usize,
+    work: &mut [u8],
+    names: &mut [u64; 16],
+) -> bool
+    requires { ⌜ Walking (now m) (now work) (now names) × (Siblings (now m) depth Statement from end × Small (textInside (statementsAt (now m) depth (fieldsIn (now m) from end)))) ⌝ }
+    ensures { λ r. ⌜ Summarizes (now (m .entry)) (now (work .entry)) (now (work .exit)) (now (names .entry)) (now (names .exit)) r (textInside (statementsAt (now (m .entry)) depth (fieldsIn (now (m .entry)) from end))) ⌝ }
+{
+    let mut declares = false;
+    let mut q = from;
+    while q < end {
+        let next = end_in(m, q);
+        if next - q < LONG {
+            declares = declares | collect_at(m, depth, q, names);
+            q = next;
+            continue;
+        }
+        declares = declares | walk_long(m, root, depth, q, work, names);
+        q = next;
+    }
+    declares
+}
+
+// The block at `p`, which ends at `end`. An empty one costs no call, once this is merged into its callers.
 fn walk_in(
     m: &[u8],
     root: usize,
@@ -215,14 +239,10 @@ fn walk_in(
     requires { ⌜ Walking (now m) (now work) (now names) × ((StandsAs (now m) depth Block p × Small (textInside (blockAt (now m) depth p))) × (end ≡ endOf (now m) p)) ⌝ }
     ensures { λ r. ⌜ Summarizes (now (m .entry)) (now (work .entry)) (now (work .exit)) (now (names .entry)) (now (names .exit)) r (textInside (blockAt (now (m .entry)) depth p)) ⌝ }
 {
-    let mut declares = false;
-    let mut q = p + 3;
-    while q < end {
-        let next = end_in(m, q);
-        declares = declares | walk_at(m, root, depth - 1, q, next, work, names);
-        q = next;
+    if end <= p + 3 {
+        return false;
     }
-    declares
+    walk_statements(m, root, depth - 1, p + 3, end, work, names)
 }
 
 // The block at `p` and the one after it: the branches of an if.
