@@ -88,3 +88,7 @@ module _ {m w₀ w out₀ out : List ℕ} {d n q e fill₀ fill left₀ left : �
           steps = omega arith;
           closes = λ x. i .closes (then-runs (runFrom m d n r e) (first-runs n (i .siblings) l next) runs is x);
         }
+
+-- one without statements
+pub block-empty : {m w out : List ℕ} {d p fill left : ℕ} (n : ℕ) (c : Context) → Able m w out fill → StandsAs m d BlockKind p → NamesKnown m p → endOf m p ≤ p + 3 → Executes m w w out out fill left left c (Done fill) (λ k. runBlock k (declaration k n) (blockAt m d p))
+block-empty n c able s k none = block-ends (block-begins n c able s k refl) none

@@ -1,6 +1,6 @@
 // Blocks, statements and declarations, which call one another. What falls with each call joins the steps left, the levels left and the depth left. What an answer means is in specs/.
 ghost use mathlib.Core.Path.{_≡_};
-ghost use mathlib.Core.Bool.{false};
+ghost use mathlib.Core.Bool.{true, false};
 ghost use mathlib.Core.List.{List, []};
 ghost use Prim.Native.Nat.{ℕ, _+_, _-_, _≤_, _<_};
 ghost use Rattle.values.specs.declared.Reason.the-variants.{DeclaredAgain};
@@ -116,19 +116,8 @@ fn run_begun(
         0x22 => run_if(m, depth, p, work, out, fill, left, levels, here),
         0x23 => run_case(m, depth, p, work, out, fill, left, levels, here),
         0x25 => run_resource(m, depth, p, work, out, fill, here),
-        0x27 => run_given(
-            m,
-            depth,
-            p,
-            wire::end_of(m, p + 5),
-            work,
-            out,
-            fill,
-            left,
-            levels,
-            here,
-        ),
-        0x28 => run_given(m, depth, p, p + 5, work, out, fill, left, levels, here),
+        0x27 => run_type_declaration(m, depth, p, work, out, fill, left, levels, here),
+        0x28 => run_class_declaration(m, depth, p, work, out, fill, left, levels, here),
         _ => run_include(m, p, work, out, fill, left, levels, here),
     }
 }
@@ -196,6 +185,14 @@ fn chosen_block(m: &[u8], p: usize, yes: bool) -> usize
     if yes { first } else { wire::end_of(m, first) }
 }
 
+// Whether the block at p has no statement: it then does nothing.
+fn is_empty_block(m: &[u8], p: usize) -> bool
+    requires { ⌜ p ≤ 65535 ⌝ }
+    ensures { λ r. ⌜ (r ≡ true → endOf (now (m .entry)) p ≤ p + 3) ⌝ }
+{
+    wire::end_of(m, p) <= p + 3
+}
+
 // Where the block of a condition runs: its set is added to the path.
 fn branch_context(here: Context, set: Labels) -> Context
     ensures { λ r. ⌜ contextOf r ≡ inBranch set (contextOf here) ⌝ }
@@ -226,6 +223,9 @@ fn run_if(
         Tested::Refused(refusal) => Filled::Refused(refusal),
         Tested::Branch { yes, set } => {
             let block = chosen_block(m, p, yes);
+            if is_empty_block(m, block) {
+                return Filled::Done(fill);
+            }
             let inside = branch_context(here, set);
             run_block(m, depth - 1, block, work, out, fill, left, levels, inside)
         }
@@ -252,6 +252,9 @@ fn run_case(
         TestedCase::Refused(refusal) => Filled::Refused(refusal),
         TestedCase::Nothing { set: _ } => Filled::Done(fill),
         TestedCase::Branch { block, set } => {
+            if is_empty_block(m, block) {
+                return Filled::Done(fill);
+            }
             let inside = branch_context(here, set);
             run_block(m, depth - 2, block, work, out, fill, left, levels, inside)
         }
@@ -260,9 +263,55 @@ fn run_case(
 
 // ---- Declarations
 
-// The 27 or 28 at p, whose attributes begin at `first`, with a table that has a row for each of their names; where there are none, no table is cleared.
-// It is called from two places, and so it is not merged into its caller in the compiled code: that one's frame, which stands on the stack once for every
-// nested condition, has no table of 49 KB.
+// The 27 at p. Where nothing is given no table is made.
+fn run_type_declaration(
+    m: &[u8],
+    depth: u8,
+    p: usize,
+    work: &mut [u8],
+    out: &mut [u8],
+    fill: usize,
+    left: &mut u16,
+    levels: u8,
+    here: Context,
+) -> Filled
+    requires { ⌜ (Able (now m) (now work) (now out) fill × (StandsAs (now m) depth Statement p × NamesKnown (now m) p)) × (byte (now m) p ≡ 0x27) ⌝ }
+    ensures { λ r. ⌜ Executes (now (m .entry)) (now (work .entry)) (now (work .exit)) (now (out .entry)) (now (out .exit)) fill (now (left .entry)) (now (left .exit)) (contextOf here) r (λ k. run k (declaration k levels) (statementAt (now (m .entry)) depth p)) ⌝ }
+{
+    let first = wire::end_of(m, p + 5);
+    if wire::end_of(m, p) <= first {
+        let mut none = [0u8; 1];
+        return run_defined(m, depth, p, work, out, fill, left, levels, here, &mut none);
+    }
+    run_given(m, depth, p, first, work, out, fill, left, levels, here)
+}
+
+// The 28 at p, likewise.
+fn run_class_declaration(
+    m: &[u8],
+    depth: u8,
+    p: usize,
+    work: &mut [u8],
+    out: &mut [u8],
+    fill: usize,
+    left: &mut u16,
+    levels: u8,
+    here: Context,
+) -> Filled
+    requires { ⌜ (Able (now m) (now work) (now out) fill × (StandsAs (now m) depth Statement p × NamesKnown (now m) p)) × (byte (now m) p ≡ 0x28) ⌝ }
+    ensures { λ r. ⌜ Executes (now (m .entry)) (now (work .entry)) (now (work .exit)) (now (out .entry)) (now (out .exit)) fill (now (left .entry)) (now (left .exit)) (contextOf here) r (λ k. run k (declaration k levels) (statementAt (now (m .entry)) depth p)) ⌝ }
+{
+    let first = p + 5;
+    if wire::end_of(m, p) <= first {
+        let mut none = [0u8; 1];
+        return run_class(m, depth, p, work, out, fill, left, levels, here, &mut none);
+    }
+    run_given(m, depth, p, first, work, out, fill, left, levels, here)
+}
+
+// The 27 or 28 at p, whose attributes begin at `first`, with a table that has a row for each of their names.
+// It is called from two places, and so it is not merged into its callers in the compiled code: a frame of a nested condition or of a declaration that gives
+// nothing has no table of 49 KB, and does not touch its pages.
 fn run_given(
     m: &[u8],
     depth: u8,
@@ -279,10 +328,6 @@ fn run_given(
     ensures { λ r. ⌜ Executes (now (m .entry)) (now (work .entry)) (now (work .exit)) (now (out .entry)) (now (out .exit)) fill (now (left .entry)) (now (left .exit)) (contextOf here) r (λ k. run k (declaration k levels) (statementAt (now (m .entry)) depth p)) ⌝ }
 {
     let end = wire::end_of(m, p);
-    if end <= first {
-        let mut none = [0u8; 1];
-        return run_tabled(m, depth, p, work, out, fill, left, levels, here, &mut none);
-    }
     if attributes::has_name_from(m, first, end, SMALL_NAMES) {
         let mut table = [0u8; TABLE];
         return run_tabled(m, depth, p, work, out, fill, left, levels, here, &mut table);

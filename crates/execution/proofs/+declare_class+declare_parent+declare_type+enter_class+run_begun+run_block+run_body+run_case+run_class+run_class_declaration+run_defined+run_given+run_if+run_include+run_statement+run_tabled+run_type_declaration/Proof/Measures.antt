@@ -5,49 +5,55 @@ use borrow.Fn.Kinds.{In}
 use borrow.Fn.PlainCycle.{Measures, is, falls, and}
 use Rattle.execution.proofs.declare_class.Reads as declare-class
 use Rattle.execution.proofs.declare_class.Kinds as declare-class-kinds
-use Rattle.execution.proofs.+declare_class+declare_parent+declare_type+enter_class+run_begun+run_block+run_body+run_case+run_class+run_defined+run_given+run_if+run_include+run_statement+run_tabled.Lts-declare_class as declare-class-lts
+use Rattle.execution.proofs.+declare_class+declare_parent+declare_type+enter_class+run_begun+run_block+run_body+run_case+run_class+run_class_declaration+run_defined+run_given+run_if+run_include+run_statement+run_tabled+run_type_declaration.Lts-declare_class as declare-class-lts
 use Rattle.execution.proofs.declare_parent.Reads as declare-parent
 use Rattle.execution.proofs.declare_parent.Kinds as declare-parent-kinds
-use Rattle.execution.proofs.+declare_class+declare_parent+declare_type+enter_class+run_begun+run_block+run_body+run_case+run_class+run_defined+run_given+run_if+run_include+run_statement+run_tabled.Lts-declare_parent as declare-parent-lts
+use Rattle.execution.proofs.+declare_class+declare_parent+declare_type+enter_class+run_begun+run_block+run_body+run_case+run_class+run_class_declaration+run_defined+run_given+run_if+run_include+run_statement+run_tabled+run_type_declaration.Lts-declare_parent as declare-parent-lts
 use Rattle.execution.proofs.declare_type.Reads as declare-type
 use Rattle.execution.proofs.declare_type.Kinds as declare-type-kinds
-use Rattle.execution.proofs.+declare_class+declare_parent+declare_type+enter_class+run_begun+run_block+run_body+run_case+run_class+run_defined+run_given+run_if+run_include+run_statement+run_tabled.Lts-declare_type as declare-type-lts
+use Rattle.execution.proofs.+declare_class+declare_parent+declare_type+enter_class+run_begun+run_block+run_body+run_case+run_class+run_class_declaration+run_defined+run_given+run_if+run_include+run_statement+run_tabled+run_type_declaration.Lts-declare_type as declare-type-lts
 use Rattle.execution.proofs.enter_class.Reads as enter-class
 use Rattle.execution.proofs.enter_class.Kinds as enter-class-kinds
-use Rattle.execution.proofs.+declare_class+declare_parent+declare_type+enter_class+run_begun+run_block+run_body+run_case+run_class+run_defined+run_given+run_if+run_include+run_statement+run_tabled.Lts-enter_class as enter-class-lts
+use Rattle.execution.proofs.+declare_class+declare_parent+declare_type+enter_class+run_begun+run_block+run_body+run_case+run_class+run_class_declaration+run_defined+run_given+run_if+run_include+run_statement+run_tabled+run_type_declaration.Lts-enter_class as enter-class-lts
 use Rattle.execution.proofs.run_begun.Reads as run-begun
 use Rattle.execution.proofs.run_begun.Kinds as run-begun-kinds
-use Rattle.execution.proofs.+declare_class+declare_parent+declare_type+enter_class+run_begun+run_block+run_body+run_case+run_class+run_defined+run_given+run_if+run_include+run_statement+run_tabled.Lts-run_begun as run-begun-lts
+use Rattle.execution.proofs.+declare_class+declare_parent+declare_type+enter_class+run_begun+run_block+run_body+run_case+run_class+run_class_declaration+run_defined+run_given+run_if+run_include+run_statement+run_tabled+run_type_declaration.Lts-run_begun as run-begun-lts
 use Rattle.execution.proofs.run_block.Reads as run-block
 use Rattle.execution.proofs.run_block.Kinds as run-block-kinds
-use Rattle.execution.proofs.+declare_class+declare_parent+declare_type+enter_class+run_begun+run_block+run_body+run_case+run_class+run_defined+run_given+run_if+run_include+run_statement+run_tabled.Lts-run_block as run-block-lts
+use Rattle.execution.proofs.+declare_class+declare_parent+declare_type+enter_class+run_begun+run_block+run_body+run_case+run_class+run_class_declaration+run_defined+run_given+run_if+run_include+run_statement+run_tabled+run_type_declaration.Lts-run_block as run-block-lts
 use Rattle.execution.proofs.run_body.Reads as run-body
 use Rattle.execution.proofs.run_body.Kinds as run-body-kinds
-use Rattle.execution.proofs.+declare_class+declare_parent+declare_type+enter_class+run_begun+run_block+run_body+run_case+run_class+run_defined+run_given+run_if+run_include+run_statement+run_tabled.Lts-run_body as run-body-lts
+use Rattle.execution.proofs.+declare_class+declare_parent+declare_type+enter_class+run_begun+run_block+run_body+run_case+run_class+run_class_declaration+run_defined+run_given+run_if+run_include+run_statement+run_tabled+run_type_declaration.Lts-run_body as run-body-lts
 use Rattle.execution.proofs.run_case.Reads as run-case
 use Rattle.execution.proofs.run_case.Kinds as run-case-kinds
-use Rattle.execution.proofs.+declare_class+declare_parent+declare_type+enter_class+run_begun+run_block+run_body+run_case+run_class+run_defined+run_given+run_if+run_include+run_statement+run_tabled.Lts-run_case as run-case-lts
+use Rattle.execution.proofs.+declare_class+declare_parent+declare_type+enter_class+run_begun+run_block+run_body+run_case+run_class+run_class_declaration+run_defined+run_given+run_if+run_include+run_statement+run_tabled+run_type_declaration.Lts-run_case as run-case-lts
 use Rattle.execution.proofs.run_class.Reads as run-class
 use Rattle.execution.proofs.run_class.Kinds as run-class-kinds
-use Rattle.execution.proofs.+declare_class+declare_parent+declare_type+enter_class+run_begun+run_block+run_body+run_case+run_class+run_defined+run_given+run_if+run_include+run_statement+run_tabled.Lts-run_class as run-class-lts
+use Rattle.execution.proofs.+declare_class+declare_parent+declare_type+enter_class+run_begun+run_block+run_body+run_case+run_class+run_class_declaration+run_defined+run_given+run_if+run_include+run_statement+run_tabled+run_type_declaration.Lts-run_class as run-class-lts
+use Rattle.execution.proofs.run_class_declaration.Reads as run-class-declaration
+use Rattle.execution.proofs.run_class_declaration.Kinds as run-class-declaration-kinds
+use Rattle.execution.proofs.+declare_class+declare_parent+declare_type+enter_class+run_begun+run_block+run_body+run_case+run_class+run_class_declaration+run_defined+run_given+run_if+run_include+run_statement+run_tabled+run_type_declaration.Lts-run_class_declaration as run-class-declaration-lts
 use Rattle.execution.proofs.run_defined.Reads as run-defined
 use Rattle.execution.proofs.run_defined.Kinds as run-defined-kinds
-use Rattle.execution.proofs.+declare_class+declare_parent+declare_type+enter_class+run_begun+run_block+run_body+run_case+run_class+run_defined+run_given+run_if+run_include+run_statement+run_tabled.Lts-run_defined as run-defined-lts
+use Rattle.execution.proofs.+declare_class+declare_parent+declare_type+enter_class+run_begun+run_block+run_body+run_case+run_class+run_class_declaration+run_defined+run_given+run_if+run_include+run_statement+run_tabled+run_type_declaration.Lts-run_defined as run-defined-lts
 use Rattle.execution.proofs.run_given.Reads as run-given
 use Rattle.execution.proofs.run_given.Kinds as run-given-kinds
-use Rattle.execution.proofs.+declare_class+declare_parent+declare_type+enter_class+run_begun+run_block+run_body+run_case+run_class+run_defined+run_given+run_if+run_include+run_statement+run_tabled.Lts-run_given as run-given-lts
+use Rattle.execution.proofs.+declare_class+declare_parent+declare_type+enter_class+run_begun+run_block+run_body+run_case+run_class+run_class_declaration+run_defined+run_given+run_if+run_include+run_statement+run_tabled+run_type_declaration.Lts-run_given as run-given-lts
 use Rattle.execution.proofs.run_if.Reads as run-if
 use Rattle.execution.proofs.run_if.Kinds as run-if-kinds
-use Rattle.execution.proofs.+declare_class+declare_parent+declare_type+enter_class+run_begun+run_block+run_body+run_case+run_class+run_defined+run_given+run_if+run_include+run_statement+run_tabled.Lts-run_if as run-if-lts
+use Rattle.execution.proofs.+declare_class+declare_parent+declare_type+enter_class+run_begun+run_block+run_body+run_case+run_class+run_class_declaration+run_defined+run_given+run_if+run_include+run_statement+run_tabled+run_type_declaration.Lts-run_if as run-if-lts
 use Rattle.execution.proofs.run_include.Reads as run-include
 use Rattle.execution.proofs.run_include.Kinds as run-include-kinds
-use Rattle.execution.proofs.+declare_class+declare_parent+declare_type+enter_class+run_begun+run_block+run_body+run_case+run_class+run_defined+run_given+run_if+run_include+run_statement+run_tabled.Lts-run_include as run-include-lts
+use Rattle.execution.proofs.+declare_class+declare_parent+declare_type+enter_class+run_begun+run_block+run_body+run_case+run_class+run_class_declaration+run_defined+run_given+run_if+run_include+run_statement+run_tabled+run_type_declaration.Lts-run_include as run-include-lts
 use Rattle.execution.proofs.run_statement.Reads as run-statement
 use Rattle.execution.proofs.run_statement.Kinds as run-statement-kinds
-use Rattle.execution.proofs.+declare_class+declare_parent+declare_type+enter_class+run_begun+run_block+run_body+run_case+run_class+run_defined+run_given+run_if+run_include+run_statement+run_tabled.Lts-run_statement as run-statement-lts
+use Rattle.execution.proofs.+declare_class+declare_parent+declare_type+enter_class+run_begun+run_block+run_body+run_case+run_class+run_class_declaration+run_defined+run_given+run_if+run_include+run_statement+run_tabled+run_type_declaration.Lts-run_statement as run-statement-lts
 use Rattle.execution.proofs.run_tabled.Reads as run-tabled
 use Rattle.execution.proofs.run_tabled.Kinds as run-tabled-kinds
-use Rattle.execution.proofs.+declare_class+declare_parent+declare_type+enter_class+run_begun+run_block+run_body+run_case+run_class+run_defined+run_given+run_if+run_include+run_statement+run_tabled.Lts-run_tabled as run-tabled-lts
+use Rattle.execution.proofs.+declare_class+declare_parent+declare_type+enter_class+run_begun+run_block+run_body+run_case+run_class+run_class_declaration+run_defined+run_given+run_if+run_include+run_statement+run_tabled+run_type_declaration.Lts-run_tabled as run-tabled-lts
+use Rattle.execution.proofs.run_type_declaration.Reads as run-type-declaration
+use Rattle.execution.proofs.run_type_declaration.Kinds as run-type-declaration-kinds
+use Rattle.execution.proofs.+declare_class+declare_parent+declare_type+enter_class+run_begun+run_block+run_body+run_case+run_class+run_class_declaration+run_defined+run_given+run_if+run_include+run_statement+run_tabled+run_type_declaration.Lts-run_type_declaration as run-type-declaration-lts
 use Rattle.wire.proofs.byte_at.Reads as byte-at-reads
 use Rattle.declarations.proofs.check_class.Reads as check-class-reads
 use Rattle.execution.proofs.chosen_block.Reads as chosen-block-reads
@@ -58,6 +64,7 @@ use Rattle.attributes.proofs.evaluate_titled.Reads as evaluate-titled-reads
 use Rattle.cells.proofs.free_scope.Reads as free-scope-reads
 use Rattle.attributes.proofs.has_name_from.Reads as has-name-from-reads
 use Rattle.memory.proofs.is_declared.Reads as is-declared-reads
+use Rattle.execution.proofs.is_empty_block.Reads as is-empty-block-reads
 use Rattle.values.proofs.Refusal.at.Reads as at-reads
 use Rattle.execution.proofs.run_assignment.Reads as run-assignment-reads
 use Rattle.execution.proofs.run_resource.Reads as run-resource-reads
@@ -94,13 +101,16 @@ abbrev pub μ-run-case : Measures 4 run-case-kinds.ps ℕ
 μ-run-case κs a = a .1 .1 .1 .1 .1 .1 .0 .now + 512 * a .1 .1 .1 .1 .1 .1 .1 .0 + 8 * a .1 .0 + 5
 
 abbrev pub μ-run-class : Measures 5 run-class-kinds.ps ℕ
-μ-run-class κs a = a .1 .1 .1 .1 .1 .1 .0 .now + 512 * a .1 .1 .1 .1 .1 .1 .1 .0 + 8 * a .1 .0 + 3
+μ-run-class κs a = a .1 .1 .1 .1 .1 .1 .0 .now + 512 * a .1 .1 .1 .1 .1 .1 .1 .0 + 8 * a .1 .0 + 2
+
+abbrev pub μ-run-class-declaration : Measures 4 run-class-declaration-kinds.ps ℕ
+μ-run-class-declaration κs a = a .1 .1 .1 .1 .1 .1 .0 .now + 512 * a .1 .1 .1 .1 .1 .1 .1 .0 + 8 * a .1 .0 + 5
 
 abbrev pub μ-run-defined : Measures 5 run-defined-kinds.ps ℕ
-μ-run-defined κs a = a .1 .1 .1 .1 .1 .1 .0 .now + 512 * a .1 .1 .1 .1 .1 .1 .1 .0 + 8 * a .1 .0 + 3
+μ-run-defined κs a = a .1 .1 .1 .1 .1 .1 .0 .now + 512 * a .1 .1 .1 .1 .1 .1 .1 .0 + 8 * a .1 .0 + 2
 
 abbrev pub μ-run-given : Measures 4 run-given-kinds.ps ℕ
-μ-run-given κs a = a .1 .1 .1 .1 .1 .1 .1 .0 .now + 512 * a .1 .1 .1 .1 .1 .1 .1 .1 .0 + 8 * a .1 .0 + 5
+μ-run-given κs a = a .1 .1 .1 .1 .1 .1 .1 .0 .now + 512 * a .1 .1 .1 .1 .1 .1 .1 .1 .0 + 8 * a .1 .0 + 4
 
 abbrev pub μ-run-if : Measures 4 run-if-kinds.ps ℕ
 μ-run-if κs a = a .1 .1 .1 .1 .1 .1 .0 .now + 512 * a .1 .1 .1 .1 .1 .1 .1 .0 + 8 * a .1 .0 + 5
@@ -112,7 +122,10 @@ abbrev pub μ-run-statement : Measures 4 run-statement-kinds.ps ℕ
 μ-run-statement κs a = a .1 .1 .1 .1 .1 .1 .0 .now + 512 * a .1 .1 .1 .1 .1 .1 .1 .0 + 8 * a .1 .0 + 7
 
 abbrev pub μ-run-tabled : Measures 5 run-tabled-kinds.ps ℕ
-μ-run-tabled κs a = a .1 .1 .1 .1 .1 .1 .0 .now + 512 * a .1 .1 .1 .1 .1 .1 .1 .0 + 8 * a .1 .0 + 4
+μ-run-tabled κs a = a .1 .1 .1 .1 .1 .1 .0 .now + 512 * a .1 .1 .1 .1 .1 .1 .1 .0 + 8 * a .1 .0 + 3
+
+abbrev pub μ-run-type-declaration : Measures 4 run-type-declaration-kinds.ps ℕ
+μ-run-type-declaration κs a = a .1 .1 .1 .1 .1 .1 .0 .now + 512 * a .1 .1 .1 .1 .1 .1 .1 .0 + 8 * a .1 .0 + 5
 
 abbrev pub declare-class-at : ℕ → In 5 declare-class-kinds.ps
 declare-class-at t = and 5 declare-class-kinds.ps (is 5 declare-class-kinds.ps μ-declare-class t) declare-class.Pre
@@ -168,6 +181,12 @@ run-class-at t = and 5 run-class-kinds.ps (is 5 run-class-kinds.ps μ-run-class 
 abbrev pub run-class-below : ℕ → In 5 run-class-kinds.ps
 run-class-below t = and 5 run-class-kinds.ps (falls 5 run-class-kinds.ps _<_ μ-run-class t) run-class.Pre
 
+abbrev pub run-class-declaration-at : ℕ → In 4 run-class-declaration-kinds.ps
+run-class-declaration-at t = and 4 run-class-declaration-kinds.ps (is 4 run-class-declaration-kinds.ps μ-run-class-declaration t) run-class-declaration.Pre
+
+abbrev pub run-class-declaration-below : ℕ → In 4 run-class-declaration-kinds.ps
+run-class-declaration-below t = and 4 run-class-declaration-kinds.ps (falls 4 run-class-declaration-kinds.ps _<_ μ-run-class-declaration t) run-class-declaration.Pre
+
 abbrev pub run-defined-at : ℕ → In 5 run-defined-kinds.ps
 run-defined-at t = and 5 run-defined-kinds.ps (is 5 run-defined-kinds.ps μ-run-defined t) run-defined.Pre
 
@@ -204,6 +223,12 @@ run-tabled-at t = and 5 run-tabled-kinds.ps (is 5 run-tabled-kinds.ps μ-run-tab
 abbrev pub run-tabled-below : ℕ → In 5 run-tabled-kinds.ps
 run-tabled-below t = and 5 run-tabled-kinds.ps (falls 5 run-tabled-kinds.ps _<_ μ-run-tabled t) run-tabled.Pre
 
+abbrev pub run-type-declaration-at : ℕ → In 4 run-type-declaration-kinds.ps
+run-type-declaration-at t = and 4 run-type-declaration-kinds.ps (is 4 run-type-declaration-kinds.ps μ-run-type-declaration t) run-type-declaration.Pre
+
+abbrev pub run-type-declaration-below : ℕ → In 4 run-type-declaration-kinds.ps
+run-type-declaration-below t = and 4 run-type-declaration-kinds.ps (falls 4 run-type-declaration-kinds.ps _<_ μ-run-type-declaration t) run-type-declaration.Pre
+
 abbrev pub declare-class-calls : ℕ → declare-class-lts.Claims
 declare-class-calls t = (at-reads.Asked, at-reads.Learnt, check-class-reads.Asked, check-class-reads.Learnt, declare-parent-below t, declare-parent.Post, is-declared-reads.Asked, is-declared-reads.Learnt, declared-meanwhile-reads.Asked, declared-meanwhile-reads.Learnt, enter-class-below t, enter-class.Post)
 
@@ -217,7 +242,7 @@ abbrev pub enter-class-calls : ℕ → enter-class-lts.Claims
 enter-class-calls t = (start-class-reads.Asked, start-class-reads.Learnt, run-block-below t, run-block.Post)
 
 abbrev pub run-begun-calls : ℕ → run-begun-lts.Claims
-run-begun-calls t = (byte-at-reads.Asked, byte-at-reads.Learnt, run-assignment-reads.Asked, run-assignment-reads.Learnt, run-if-below t, run-if.Post, run-case-below t, run-case.Post, run-resource-reads.Asked, run-resource-reads.Learnt, end-of-reads.Asked, end-of-reads.Learnt, run-given-below t, run-given.Post, run-include-below t, run-include.Post)
+run-begun-calls t = (byte-at-reads.Asked, byte-at-reads.Learnt, run-assignment-reads.Asked, run-assignment-reads.Learnt, run-if-below t, run-if.Post, run-case-below t, run-case.Post, run-resource-reads.Asked, run-resource-reads.Learnt, run-type-declaration-below t, run-type-declaration.Post, run-class-declaration-below t, run-class-declaration.Post, run-include-below t, run-include.Post)
 
 abbrev pub run-block-calls : ℕ → run-block-lts.Claims
 run-block-calls t = (end-of-reads.Asked, end-of-reads.Learnt, run-statement-below t, run-statement.Post)
@@ -226,19 +251,22 @@ abbrev pub run-body-calls : ℕ → run-body-lts.Claims
 run-body-calls t = (run-block-below t, run-block.Post, free-scope-reads.Asked, free-scope-reads.Learnt)
 
 abbrev pub run-case-calls : ℕ → run-case-lts.Claims
-run-case-calls t = (test-case-reads.Asked, test-case-reads.Learnt, branch-context-reads.Asked, branch-context-reads.Learnt, run-block-below t, run-block.Post)
+run-case-calls t = (test-case-reads.Asked, test-case-reads.Learnt, is-empty-block-reads.Asked, is-empty-block-reads.Learnt, branch-context-reads.Asked, branch-context-reads.Learnt, run-block-below t, run-block.Post)
 
 abbrev pub run-class-calls : ℕ → run-class-lts.Claims
 run-class-calls t = (end-of-reads.Asked, end-of-reads.Learnt, evaluate-attributes-reads.Asked, evaluate-attributes-reads.Learnt, two-at-reads.Asked, two-at-reads.Learnt, declare-class-below t, declare-class.Post)
+
+abbrev pub run-class-declaration-calls : ℕ → run-class-declaration-lts.Claims
+run-class-declaration-calls t = (end-of-reads.Asked, end-of-reads.Learnt, run-class-below t, run-class.Post, run-given-below t, run-given.Post)
 
 abbrev pub run-defined-calls : ℕ → run-defined-lts.Claims
 run-defined-calls t = (evaluate-titled-reads.Asked, evaluate-titled-reads.Learnt, declare-type-below t, declare-type.Post)
 
 abbrev pub run-given-calls : ℕ → run-given-lts.Claims
-run-given-calls t = (end-of-reads.Asked, end-of-reads.Learnt, run-tabled-below t, run-tabled.Post, has-name-from-reads.Asked, has-name-from-reads.Learnt)
+run-given-calls t = (end-of-reads.Asked, end-of-reads.Learnt, has-name-from-reads.Asked, has-name-from-reads.Learnt, run-tabled-below t, run-tabled.Post)
 
 abbrev pub run-if-calls : ℕ → run-if-lts.Claims
-run-if-calls t = (test-if-reads.Asked, test-if-reads.Learnt, chosen-block-reads.Asked, chosen-block-reads.Learnt, branch-context-reads.Asked, branch-context-reads.Learnt, run-block-below t, run-block.Post)
+run-if-calls t = (test-if-reads.Asked, test-if-reads.Learnt, chosen-block-reads.Asked, chosen-block-reads.Learnt, is-empty-block-reads.Asked, is-empty-block-reads.Learnt, branch-context-reads.Asked, branch-context-reads.Learnt, run-block-below t, run-block.Post)
 
 abbrev pub run-include-calls : ℕ → run-include-lts.Claims
 run-include-calls t = (two-at-reads.Asked, two-at-reads.Learnt, is-declared-reads.Asked, is-declared-reads.Learnt, declare-class-below t, declare-class.Post)
@@ -248,3 +276,6 @@ run-statement-calls t = (at-reads.Asked, at-reads.Learnt, run-begun-below t, run
 
 abbrev pub run-tabled-calls : ℕ → run-tabled-lts.Claims
 run-tabled-calls t = (byte-at-reads.Asked, byte-at-reads.Learnt, run-class-below t, run-class.Post, run-defined-below t, run-defined.Post)
+
+abbrev pub run-type-declaration-calls : ℕ → run-type-declaration-lts.Claims
+run-type-declaration-calls t = (end-of-reads.Asked, end-of-reads.Learnt, run-defined-below t, run-defined.Post, run-given-below t, run-given.Post)

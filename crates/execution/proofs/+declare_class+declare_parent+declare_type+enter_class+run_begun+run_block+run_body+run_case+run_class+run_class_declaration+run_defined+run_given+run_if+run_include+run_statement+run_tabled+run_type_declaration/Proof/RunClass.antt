@@ -7,8 +7,8 @@ use Rattle.execution.proofs.Statements.{sized}
 use Rattle.execution.proofs.Tables.{fresh-class}
 use Rattle.execution.proofs.Classes.{class-name, class-attributes, class-refused, class-declares}
 use Rattle.execution.proofs.run_class.Reads as run-class
-use Rattle.execution.proofs.+declare_class+declare_parent+declare_type+enter_class+run_begun+run_block+run_body+run_case+run_class+run_defined+run_given+run_if+run_include+run_statement+run_tabled.Lts-run_class as run-class-lts
-use Rattle.execution.proofs.+declare_class+declare_parent+declare_type+enter_class+run_begun+run_block+run_body+run_case+run_class+run_defined+run_given+run_if+run_include+run_statement+run_tabled.Proof.Measures.{run-class-calls, run-class-at}
+use Rattle.execution.proofs.+declare_class+declare_parent+declare_type+enter_class+run_begun+run_block+run_body+run_case+run_class+run_class_declaration+run_defined+run_given+run_if+run_include+run_statement+run_tabled+run_type_declaration.Lts-run_class as run-class-lts
+use Rattle.execution.proofs.+declare_class+declare_parent+declare_type+enter_class+run_begun+run_block+run_body+run_case+run_class+run_class_declaration+run_defined+run_given+run_if+run_include+run_statement+run_tabled+run_type_declaration.Proof.Measures.{run-class-calls, run-class-at}
 
 pub add-first : (t : ℕ) → run-class-lts.Need-add-first (run-class-calls t) (run-class-at t) run-class.Post
 add-first t c = omega (arith, header-within (c .before .before .before .before .pre .1 .0 .1 .0 .stands), c .before .before .before .before .pre .1 .0 .0 .set .manifest)

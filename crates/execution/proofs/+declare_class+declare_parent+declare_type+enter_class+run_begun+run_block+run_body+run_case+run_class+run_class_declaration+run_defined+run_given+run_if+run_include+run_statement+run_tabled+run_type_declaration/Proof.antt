@@ -9,46 +9,52 @@ mod RunBlock
 mod RunBody
 mod RunCase
 mod RunClass
+mod RunClassDeclaration
 mod RunDefined
 mod RunGiven
 mod RunIf
 mod RunInclude
 mod RunStatement
 mod RunTabled
+mod RunTypeDeclaration
 use mathlib.Core.Path.{refl}
-use Rattle.execution.proofs.+declare_class+declare_parent+declare_type+enter_class+run_begun+run_block+run_body+run_case+run_class+run_defined+run_given+run_if+run_include+run_statement+run_tabled.{statement}
-use Rattle.execution.proofs.+declare_class+declare_parent+declare_type+enter_class+run_begun+run_block+run_body+run_case+run_class+run_defined+run_given+run_if+run_include+run_statement+run_tabled.Tie.{close}
+use Rattle.execution.proofs.+declare_class+declare_parent+declare_type+enter_class+run_begun+run_block+run_body+run_case+run_class+run_class_declaration+run_defined+run_given+run_if+run_include+run_statement+run_tabled+run_type_declaration.{statement}
+use Rattle.execution.proofs.+declare_class+declare_parent+declare_type+enter_class+run_begun+run_block+run_body+run_case+run_class+run_class_declaration+run_defined+run_given+run_if+run_include+run_statement+run_tabled+run_type_declaration.Tie.{close}
 use Rattle.execution.proofs.declare_class.Reads as declare-class
-use Rattle.execution.proofs.+declare_class+declare_parent+declare_type+enter_class+run_begun+run_block+run_body+run_case+run_class+run_defined+run_given+run_if+run_include+run_statement+run_tabled.Lts-declare_class as declare-class-lts
+use Rattle.execution.proofs.+declare_class+declare_parent+declare_type+enter_class+run_begun+run_block+run_body+run_case+run_class+run_class_declaration+run_defined+run_given+run_if+run_include+run_statement+run_tabled+run_type_declaration.Lts-declare_class as declare-class-lts
 use Rattle.execution.proofs.declare_parent.Reads as declare-parent
-use Rattle.execution.proofs.+declare_class+declare_parent+declare_type+enter_class+run_begun+run_block+run_body+run_case+run_class+run_defined+run_given+run_if+run_include+run_statement+run_tabled.Lts-declare_parent as declare-parent-lts
+use Rattle.execution.proofs.+declare_class+declare_parent+declare_type+enter_class+run_begun+run_block+run_body+run_case+run_class+run_class_declaration+run_defined+run_given+run_if+run_include+run_statement+run_tabled+run_type_declaration.Lts-declare_parent as declare-parent-lts
 use Rattle.execution.proofs.declare_type.Reads as declare-type
-use Rattle.execution.proofs.+declare_class+declare_parent+declare_type+enter_class+run_begun+run_block+run_body+run_case+run_class+run_defined+run_given+run_if+run_include+run_statement+run_tabled.Lts-declare_type as declare-type-lts
+use Rattle.execution.proofs.+declare_class+declare_parent+declare_type+enter_class+run_begun+run_block+run_body+run_case+run_class+run_class_declaration+run_defined+run_given+run_if+run_include+run_statement+run_tabled+run_type_declaration.Lts-declare_type as declare-type-lts
 use Rattle.execution.proofs.enter_class.Reads as enter-class
-use Rattle.execution.proofs.+declare_class+declare_parent+declare_type+enter_class+run_begun+run_block+run_body+run_case+run_class+run_defined+run_given+run_if+run_include+run_statement+run_tabled.Lts-enter_class as enter-class-lts
+use Rattle.execution.proofs.+declare_class+declare_parent+declare_type+enter_class+run_begun+run_block+run_body+run_case+run_class+run_class_declaration+run_defined+run_given+run_if+run_include+run_statement+run_tabled+run_type_declaration.Lts-enter_class as enter-class-lts
 use Rattle.execution.proofs.run_begun.Reads as run-begun
-use Rattle.execution.proofs.+declare_class+declare_parent+declare_type+enter_class+run_begun+run_block+run_body+run_case+run_class+run_defined+run_given+run_if+run_include+run_statement+run_tabled.Lts-run_begun as run-begun-lts
+use Rattle.execution.proofs.+declare_class+declare_parent+declare_type+enter_class+run_begun+run_block+run_body+run_case+run_class+run_class_declaration+run_defined+run_given+run_if+run_include+run_statement+run_tabled+run_type_declaration.Lts-run_begun as run-begun-lts
 use Rattle.execution.proofs.run_block.Reads as run-block
-use Rattle.execution.proofs.+declare_class+declare_parent+declare_type+enter_class+run_begun+run_block+run_body+run_case+run_class+run_defined+run_given+run_if+run_include+run_statement+run_tabled.Lts-run_block as run-block-lts
+use Rattle.execution.proofs.+declare_class+declare_parent+declare_type+enter_class+run_begun+run_block+run_body+run_case+run_class+run_class_declaration+run_defined+run_given+run_if+run_include+run_statement+run_tabled+run_type_declaration.Lts-run_block as run-block-lts
 use Rattle.execution.proofs.run_body.Reads as run-body
-use Rattle.execution.proofs.+declare_class+declare_parent+declare_type+enter_class+run_begun+run_block+run_body+run_case+run_class+run_defined+run_given+run_if+run_include+run_statement+run_tabled.Lts-run_body as run-body-lts
+use Rattle.execution.proofs.+declare_class+declare_parent+declare_type+enter_class+run_begun+run_block+run_body+run_case+run_class+run_class_declaration+run_defined+run_given+run_if+run_include+run_statement+run_tabled+run_type_declaration.Lts-run_body as run-body-lts
 use Rattle.execution.proofs.run_case.Reads as run-case
-use Rattle.execution.proofs.+declare_class+declare_parent+declare_type+enter_class+run_begun+run_block+run_body+run_case+run_class+run_defined+run_given+run_if+run_include+run_statement+run_tabled.Lts-run_case as run-case-lts
+use Rattle.execution.proofs.+declare_class+declare_parent+declare_type+enter_class+run_begun+run_block+run_body+run_case+run_class+run_class_declaration+run_defined+run_given+run_if+run_include+run_statement+run_tabled+run_type_declaration.Lts-run_case as run-case-lts
 use Rattle.execution.proofs.run_class.Reads as run-class
-use Rattle.execution.proofs.+declare_class+declare_parent+declare_type+enter_class+run_begun+run_block+run_body+run_case+run_class+run_defined+run_given+run_if+run_include+run_statement+run_tabled.Lts-run_class as run-class-lts
+use Rattle.execution.proofs.+declare_class+declare_parent+declare_type+enter_class+run_begun+run_block+run_body+run_case+run_class+run_class_declaration+run_defined+run_given+run_if+run_include+run_statement+run_tabled+run_type_declaration.Lts-run_class as run-class-lts
+use Rattle.execution.proofs.run_class_declaration.Reads as run-class-declaration
+use Rattle.execution.proofs.+declare_class+declare_parent+declare_type+enter_class+run_begun+run_block+run_body+run_case+run_class+run_class_declaration+run_defined+run_given+run_if+run_include+run_statement+run_tabled+run_type_declaration.Lts-run_class_declaration as run-class-declaration-lts
 use Rattle.execution.proofs.run_defined.Reads as run-defined
-use Rattle.execution.proofs.+declare_class+declare_parent+declare_type+enter_class+run_begun+run_block+run_body+run_case+run_class+run_defined+run_given+run_if+run_include+run_statement+run_tabled.Lts-run_defined as run-defined-lts
+use Rattle.execution.proofs.+declare_class+declare_parent+declare_type+enter_class+run_begun+run_block+run_body+run_case+run_class+run_class_declaration+run_defined+run_given+run_if+run_include+run_statement+run_tabled+run_type_declaration.Lts-run_defined as run-defined-lts
 use Rattle.execution.proofs.run_given.Reads as run-given
-use Rattle.execution.proofs.+declare_class+declare_parent+declare_type+enter_class+run_begun+run_block+run_body+run_case+run_class+run_defined+run_given+run_if+run_include+run_statement+run_tabled.Lts-run_given as run-given-lts
+use Rattle.execution.proofs.+declare_class+declare_parent+declare_type+enter_class+run_begun+run_block+run_body+run_case+run_class+run_class_declaration+run_defined+run_given+run_if+run_include+run_statement+run_tabled+run_type_declaration.Lts-run_given as run-given-lts
 use Rattle.execution.proofs.run_if.Reads as run-if
-use Rattle.execution.proofs.+declare_class+declare_parent+declare_type+enter_class+run_begun+run_block+run_body+run_case+run_class+run_defined+run_given+run_if+run_include+run_statement+run_tabled.Lts-run_if as run-if-lts
+use Rattle.execution.proofs.+declare_class+declare_parent+declare_type+enter_class+run_begun+run_block+run_body+run_case+run_class+run_class_declaration+run_defined+run_given+run_if+run_include+run_statement+run_tabled+run_type_declaration.Lts-run_if as run-if-lts
 use Rattle.execution.proofs.run_include.Reads as run-include
-use Rattle.execution.proofs.+declare_class+declare_parent+declare_type+enter_class+run_begun+run_block+run_body+run_case+run_class+run_defined+run_given+run_if+run_include+run_statement+run_tabled.Lts-run_include as run-include-lts
+use Rattle.execution.proofs.+declare_class+declare_parent+declare_type+enter_class+run_begun+run_block+run_body+run_case+run_class+run_class_declaration+run_defined+run_given+run_if+run_include+run_statement+run_tabled+run_type_declaration.Lts-run_include as run-include-lts
 use Rattle.execution.proofs.run_statement.Reads as run-statement
-use Rattle.execution.proofs.+declare_class+declare_parent+declare_type+enter_class+run_begun+run_block+run_body+run_case+run_class+run_defined+run_given+run_if+run_include+run_statement+run_tabled.Lts-run_statement as run-statement-lts
+use Rattle.execution.proofs.+declare_class+declare_parent+declare_type+enter_class+run_begun+run_block+run_body+run_case+run_class+run_class_declaration+run_defined+run_given+run_if+run_include+run_statement+run_tabled+run_type_declaration.Lts-run_statement as run-statement-lts
 use Rattle.execution.proofs.run_tabled.Reads as run-tabled
-use Rattle.execution.proofs.+declare_class+declare_parent+declare_type+enter_class+run_begun+run_block+run_body+run_case+run_class+run_defined+run_given+run_if+run_include+run_statement+run_tabled.Lts-run_tabled as run-tabled-lts
-use Measures.{μ-declare-class, declare-class-at, declare-class-calls, μ-declare-parent, declare-parent-at, declare-parent-calls, μ-declare-type, declare-type-at, declare-type-calls, μ-enter-class, enter-class-at, enter-class-calls, μ-run-begun, run-begun-at, run-begun-calls, μ-run-block, run-block-at, run-block-calls, μ-run-body, run-body-at, run-body-calls, μ-run-case, run-case-at, run-case-calls, μ-run-class, run-class-at, run-class-calls, μ-run-defined, run-defined-at, run-defined-calls, μ-run-given, run-given-at, run-given-calls, μ-run-if, run-if-at, run-if-calls, μ-run-include, run-include-at, run-include-calls, μ-run-statement, run-statement-at, run-statement-calls, μ-run-tabled, run-tabled-at, run-tabled-calls}
+use Rattle.execution.proofs.+declare_class+declare_parent+declare_type+enter_class+run_begun+run_block+run_body+run_case+run_class+run_class_declaration+run_defined+run_given+run_if+run_include+run_statement+run_tabled+run_type_declaration.Lts-run_tabled as run-tabled-lts
+use Rattle.execution.proofs.run_type_declaration.Reads as run-type-declaration
+use Rattle.execution.proofs.+declare_class+declare_parent+declare_type+enter_class+run_begun+run_block+run_body+run_case+run_class+run_class_declaration+run_defined+run_given+run_if+run_include+run_statement+run_tabled+run_type_declaration.Lts-run_type_declaration as run-type-declaration-lts
+use Measures.{μ-declare-class, declare-class-at, declare-class-calls, μ-declare-parent, declare-parent-at, declare-parent-calls, μ-declare-type, declare-type-at, declare-type-calls, μ-enter-class, enter-class-at, enter-class-calls, μ-run-begun, run-begun-at, run-begun-calls, μ-run-block, run-block-at, run-block-calls, μ-run-body, run-body-at, run-body-calls, μ-run-case, run-case-at, run-case-calls, μ-run-class, run-class-at, run-class-calls, μ-run-class-declaration, run-class-declaration-at, run-class-declaration-calls, μ-run-defined, run-defined-at, run-defined-calls, μ-run-given, run-given-at, run-given-calls, μ-run-if, run-if-at, run-if-calls, μ-run-include, run-include-at, run-include-calls, μ-run-statement, run-statement-at, run-statement-calls, μ-run-tabled, run-tabled-at, run-tabled-calls, μ-run-type-declaration, run-type-declaration-at, run-type-declaration-calls}
 use DeclareClass as declare-class-answers
 use DeclareParent as declare-parent-answers
 use DeclareType as declare-type-answers
@@ -58,16 +64,18 @@ use RunBlock as run-block-answers
 use RunBody as run-body-answers
 use RunCase as run-case-answers
 use RunClass as run-class-answers
+use RunClassDeclaration as run-class-declaration-answers
 use RunDefined as run-defined-answers
 use RunGiven as run-given-answers
 use RunIf as run-if-answers
 use RunInclude as run-include-answers
 use RunStatement as run-statement-answers
 use RunTabled as run-tabled-answers
+use RunTypeDeclaration as run-type-declaration-answers
 
-pub +declare-class+declare-parent+declare-type+enter-class+run-begun+run-block+run-body+run-case+run-class+run-defined+run-given+run-if+run-include+run-statement+run-tabled-spec : {M : Type 1} → statement M
-+declare-class+declare-parent+declare-type+enter-class+run-begun+run-block+run-body+run-case+run-class+run-defined+run-given+run-if+run-include+run-statement+run-tabled-spec =
-    close μ-declare-class μ-declare-parent μ-declare-type μ-enter-class μ-run-begun μ-run-block μ-run-body μ-run-case μ-run-class μ-run-defined μ-run-given μ-run-if μ-run-include μ-run-statement μ-run-tabled
+pub +declare-class+declare-parent+declare-type+enter-class+run-begun+run-block+run-body+run-case+run-class+run-class-declaration+run-defined+run-given+run-if+run-include+run-statement+run-tabled+run-type-declaration-spec : {M : Type 1} → statement M
++declare-class+declare-parent+declare-type+enter-class+run-begun+run-block+run-body+run-case+run-class+run-class-declaration+run-defined+run-given+run-if+run-include+run-statement+run-tabled+run-type-declaration-spec =
+    close μ-declare-class μ-declare-parent μ-declare-type μ-enter-class μ-run-begun μ-run-block μ-run-body μ-run-case μ-run-class μ-run-class-declaration μ-run-defined μ-run-given μ-run-if μ-run-include μ-run-statement μ-run-tabled μ-run-type-declaration
     (λ t. declare-class-lts.spec (declare-class-calls t) (declare-class-at t) declare-class.Post
     (declare-class-answers.at-requires t)
     (declare-class-answers.returns t)
@@ -145,11 +153,8 @@ pub +declare-class+declare-parent+declare-type+enter-class+run-begun+run-block+r
     (run-begun-answers.run-if-requires t)
     (run-begun-answers.run-case-requires t)
     (run-begun-answers.run-resource-requires t)
-    (run-begun-answers.add-end-of t)
-    (run-begun-answers.end-of-requires t)
-    (run-begun-answers.run-given-requires t)
-    (run-begun-answers.add-run-given t)
-    (run-begun-answers.run-given-requires-2 t)
+    (run-begun-answers.run-type-declaration-requires t)
+    (run-begun-answers.run-class-declaration-requires t)
     (run-begun-answers.run-include-requires t)
     (run-begun-answers.same-length t)
     (λ c. refl)
@@ -207,18 +212,22 @@ pub +declare-class+declare-parent+declare-type+enter-class+run-begun+run-block+r
     (λ c. c .match .keys1)
     (λ c. c .match .keys2)
     (λ c. c .match .keys3)
-    (λ c κs. tt)
-    (run-case-answers.sub-run-block t)
-    (run-case-answers.run-block-requires t)
+    (run-case-answers.is-empty-block-requires t)
     (run-case-answers.same-length t)
     (λ c. refl)
     (run-case-answers.returns t)
+    (λ c κs. tt)
+    (run-case-answers.sub-run-block t)
+    (run-case-answers.run-block-requires t)
     (run-case-answers.same-length-3 t)
     (λ c. refl)
     (run-case-answers.returns-2 t)
     (run-case-answers.same-length-5 t)
-    (run-case-answers.same-length-6 t)
-    (run-case-answers.returns-3 t))
+    (λ c. refl)
+    (run-case-answers.returns-3 t)
+    (run-case-answers.same-length-7 t)
+    (run-case-answers.same-length-8 t)
+    (run-case-answers.returns-4 t))
     (λ t. run-class-lts.spec (run-class-calls t) (run-class-at t) run-class.Post
     (run-class-answers.add-first t)
     (run-class-answers.end-of-requires t)
@@ -237,6 +246,18 @@ pub +declare-class+declare-parent+declare-type+enter-class+run-begun+run-block+r
     (run-class-answers.same-length-5 t)
     (run-class-answers.same-length-6 t)
     (run-class-answers.returns-2 t))
+    (λ t. run-class-declaration-lts.spec (run-class-declaration-calls t) (run-class-declaration-at t) run-class-declaration.Post
+    (run-class-declaration-answers.add-first t)
+    (run-class-declaration-answers.end-of-requires t)
+    (run-class-declaration-answers.slice-aggregate-run-class t)
+    (run-class-declaration-answers.run-class-requires t)
+    (run-class-declaration-answers.same-length t)
+    (run-class-declaration-answers.same-length-2 t)
+    (run-class-declaration-answers.returns t)
+    (run-class-declaration-answers.run-given-requires t)
+    (run-class-declaration-answers.same-length-3 t)
+    (run-class-declaration-answers.same-length-4 t)
+    (run-class-declaration-answers.returns-2 t))
     (λ t. run-defined-lts.spec (run-defined-calls t) (run-defined-at t) run-defined.Post
     (run-defined-answers.evaluate-titled-requires t)
     (λ c. c .match .keys1)
@@ -252,36 +273,35 @@ pub +declare-class+declare-parent+declare-type+enter-class+run-begun+run-block+r
     (run-defined-answers.returns-2 t))
     (λ t. run-given-lts.spec (run-given-calls t) (run-given-at t) run-given.Post
     (run-given-answers.end-of-requires t)
+    (run-given-answers.has-name-from-requires t)
     (run-given-answers.slice-aggregate-run-tabled t)
     (run-given-answers.run-tabled-requires t)
     (run-given-answers.same-length t)
     (run-given-answers.same-length-2 t)
     (run-given-answers.returns t)
-    (run-given-answers.has-name-from-requires t)
     (run-given-answers.slice-aggregate-run-tabled-2 t)
     (run-given-answers.run-tabled-requires-2 t)
     (run-given-answers.same-length-3 t)
     (run-given-answers.same-length-4 t)
-    (run-given-answers.returns-2 t)
-    (run-given-answers.slice-aggregate-run-tabled-3 t)
-    (run-given-answers.run-tabled-requires-3 t)
-    (run-given-answers.same-length-5 t)
-    (run-given-answers.same-length-6 t)
-    (run-given-answers.returns-3 t))
+    (run-given-answers.returns-2 t))
     (λ t. run-if-lts.spec (run-if-calls t) (run-if-at t) run-if.Post
     (run-if-answers.test-if-requires t)
     (λ c. c .match .keys1)
     (λ c. c .match .keys2)
     (run-if-answers.chosen-block-requires t)
-    (λ c κs. tt)
-    (run-if-answers.sub-run-block t)
-    (run-if-answers.run-block-requires t)
+    (run-if-answers.is-empty-block-requires t)
     (run-if-answers.same-length t)
     (λ c. refl)
     (run-if-answers.returns t)
+    (λ c κs. tt)
+    (run-if-answers.sub-run-block t)
+    (run-if-answers.run-block-requires t)
     (run-if-answers.same-length-3 t)
-    (run-if-answers.same-length-4 t)
-    (run-if-answers.returns-2 t))
+    (λ c. refl)
+    (run-if-answers.returns-2 t)
+    (run-if-answers.same-length-5 t)
+    (run-if-answers.same-length-6 t)
+    (run-if-answers.returns-3 t))
     (λ t. run-include-lts.spec (run-include-calls t) (run-include-at t) run-include.Post
     (run-include-answers.add-two-at t)
     (λ c κs. tt)
@@ -303,7 +323,7 @@ pub +declare-class+declare-parent+declare-type+enter-class+run-begun+run-block+r
     (run-statement-answers.same-length t)
     (run-statement-answers.same-length-2 t)
     (run-statement-answers.returns-2 t))
-    λ t. run-tabled-lts.spec (run-tabled-calls t) (run-tabled-at t) run-tabled.Post
+    (λ t. run-tabled-lts.spec (run-tabled-calls t) (run-tabled-at t) run-tabled.Post
     (λ c κs. tt)
     (run-tabled-answers.run-class-requires t)
     (run-tabled-answers.same-length t)
@@ -314,4 +334,17 @@ pub +declare-class+declare-parent+declare-type+enter-class+run-begun+run-block+r
     (run-tabled-answers.same-length-4 t)
     (run-tabled-answers.same-length-5 t)
     (run-tabled-answers.same-length-6 t)
-    (run-tabled-answers.returns-2 t)
+    (run-tabled-answers.returns-2 t))
+    λ t. run-type-declaration-lts.spec (run-type-declaration-calls t) (run-type-declaration-at t) run-type-declaration.Post
+    (run-type-declaration-answers.add-end-of t)
+    (run-type-declaration-answers.end-of-requires t)
+    (run-type-declaration-answers.end-of-requires-2 t)
+    (run-type-declaration-answers.slice-aggregate-run-defined t)
+    (run-type-declaration-answers.run-defined-requires t)
+    (run-type-declaration-answers.same-length t)
+    (run-type-declaration-answers.same-length-2 t)
+    (run-type-declaration-answers.returns t)
+    (run-type-declaration-answers.run-given-requires t)
+    (run-type-declaration-answers.same-length-3 t)
+    (run-type-declaration-answers.same-length-4 t)
+    (run-type-declaration-answers.returns-2 t)

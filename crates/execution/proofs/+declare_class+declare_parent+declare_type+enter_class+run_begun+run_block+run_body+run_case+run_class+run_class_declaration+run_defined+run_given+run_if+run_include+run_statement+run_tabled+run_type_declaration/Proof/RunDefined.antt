@@ -6,8 +6,8 @@ use Rattle.execution.proofs.Statements.{sized}
 use Rattle.execution.proofs.Tables.{fresh-defined}
 use Rattle.execution.proofs.Types.{defined-name, defined-refused, defined-declares}
 use Rattle.execution.proofs.run_defined.Reads as run-defined
-use Rattle.execution.proofs.+declare_class+declare_parent+declare_type+enter_class+run_begun+run_block+run_body+run_case+run_class+run_defined+run_given+run_if+run_include+run_statement+run_tabled.Lts-run_defined as run-defined-lts
-use Rattle.execution.proofs.+declare_class+declare_parent+declare_type+enter_class+run_begun+run_block+run_body+run_case+run_class+run_defined+run_given+run_if+run_include+run_statement+run_tabled.Proof.Measures.{run-defined-calls, run-defined-at}
+use Rattle.execution.proofs.+declare_class+declare_parent+declare_type+enter_class+run_begun+run_block+run_body+run_case+run_class+run_class_declaration+run_defined+run_given+run_if+run_include+run_statement+run_tabled+run_type_declaration.Lts-run_defined as run-defined-lts
+use Rattle.execution.proofs.+declare_class+declare_parent+declare_type+enter_class+run_begun+run_block+run_body+run_case+run_class+run_class_declaration+run_defined+run_given+run_if+run_include+run_statement+run_tabled+run_type_declaration.Proof.Measures.{run-defined-calls, run-defined-at}
 
 pub evaluate-titled-requires : (t : ℕ) → run-defined-lts.Need-evaluate-titled-requires (run-defined-calls t) (run-defined-at t) run-defined.Post
 evaluate-titled-requires t c κs =
