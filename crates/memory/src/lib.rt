@@ -212,7 +212,7 @@ pub fn parent_of(work: &[u8], base_is_node: bool, scope: u16) -> Above
     if 1026 <= scope {
         return Above::At(base_scope(base_is_node));
     }
-    let record = NAMES + NAME_SIZE * (scope - 2) as usize;
+    let record = NAMES + NAME_SIZE * (scope as usize - 2);
     if wire::byte_in(work, record + NAME_CLASS) == 0 {
         return Above::Nothing;
     }

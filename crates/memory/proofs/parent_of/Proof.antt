@@ -19,9 +19,6 @@ returns-3 c = above-body _ _ _ (c .before .if3 .taken) (c .base-scope .ensures)
 sub-record : tie.Need-sub-record
 sub-record c = omega arith
 
-cast-record : tie.Need-cast-record
-cast-record c = omega arith
-
 mul-record : tie.Need-mul-record
 mul-record c = omega arith
 
@@ -55,7 +52,6 @@ parent-of-spec =
     base-scope-requires
     returns-3
     sub-record
-    cast-record
     mul-record
     add-record
     add-byte-in
