@@ -8,14 +8,14 @@ use native.Mathlib.Omega.{arith}
 use lib.Dec.{eqb}
 use borrow.Author.Tests.{eqb-true, eq-eqb, ne-eqb}
 use Rattle.wire.specs.Bytes.{pick, byte, two}
+use Rattle.labels.specs.Bytes.{setAt}
 use Rattle.values.specs.declared.Labelled.{Labelled}
-use Rattle.records.specs.declared.Held.{Held}
-use Rattle.records.specs.Record.{recordIn, isEmpty, heldOf}
+use Rattle.records.specs.Record.{kindAt, recordIn, isEmpty}
 use Rattle.rules.specs.State.{isSome}
 use Rattle.cells.specs.declared.Found.the-variants.{At, Nothing}
 use Rattle.cells.specs.Chains.{counted, Way, begin, step}
-use Rattle.cells.specs.Layout.{keyAt, bodyAt, recordAt, linkAt, nameIn, chainOf, chainIn, linkIn, nextIn, chained, LastAbove, slotAt, slotsOf}
-use Rattle.cells.specs.Slots.{inUse, neverUsed, isReached, isFor, hitAs, ofScope, valueIn, lastBelow, slotIn, Open}
+use Rattle.cells.specs.Layout.{keyAt, bodyAt, bodyMark, recordAt, linkAt, nameIn, chainOf, chainIn, linkIn, nextIn, chained, LastAbove, slotAt, slotsOf, contentIn}
+use Rattle.cells.specs.Slots.{inUse, neverUsed, isReached, isFor, hitAs, ofScope, valueIn, markIn, lastBelow, slotIn, Open}
 use Rattle.cells.proofs.Chains.{counted-none, counted-past, counted-other, counted-some}
 use Rattle.cells.proofs.Search.{last-zero, last-open, last-skip}
 use Rattle.cells.proofs.Links.{next-falls, next-is, chain-on, chain-gap, chain-small, chain-is, link-slot, link-head}
@@ -82,14 +82,22 @@ module _ (w : List ℕ) (i : ℕ) (below : i < 512) where
     turn = λ packed k l. to-false (neverUsed (slotsOf w k)) (λ other. before (omega arith) (eqb-true (byte w (i - 1)) 0 (sym (never-read w (i - 1) (omega arith)) ∙ packed k (i - 1) other (omega arith))));
   }
 
-  -- held_at, has_value
-  pub content-read : {h : Held} → h ≡ heldOf (recordIn w (bodyAt i)) → h ≡ heldOf (valueIn (slotsOf w i))
-  unfolding valueIn slotAt
-  content-read e = rw (slot-in w i below) e
-
+  -- has_value, value_at, labels_at, mark_at
   pub value-read : {b : Bool} → b ≡ isEmpty (recordIn w (bodyAt i)) → not b ≡ isSome (valueIn (slotsOf w i))
   unfolding valueIn slotAt
   value-read e = rw (slot-in w i below, e) (filled-or-not (recordIn w (bodyAt i)))
+
+  pub content-there : isSome (valueIn (slotsOf w i)) ≡ true → valueIn (slotsOf w i) ≡ some (contentIn w i)
+  unfolding valueIn slotAt recordIn isSome
+  content-there = rw (slot-in w i below) (go (eqb (byte w (kindAt (bodyAt i))) 0))
+    where
+      go : (b : Bool) {x : Labelled} → isSome (pick b none (some x)) ≡ true → pick b none (some x) ≡ some x
+      go true h = absurd (false≢true h)
+      go false h = refl
+
+  pub mark-read : setAt w (bodyAt i + bodyMark) ≡ markIn (slotsOf w i)
+  unfolding markIn slotAt
+  mark-read = rw (slot-in w i below) refl
 
 -- ---- Chains
 

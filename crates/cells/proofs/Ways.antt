@@ -1,4 +1,4 @@
--- One law for each way through `assign`, `join_mark` and `read_cell`.
+-- One law for each way through `assign` and `join_mark`, and what cell a slot stands for.
 use mathlib.Core.Path.{_≡_, refl, sym, ap, _∙_}
 use mathlib.Core.Bool.{Bool, true, false, not, _&&_}
 use mathlib.Core.List.{List}
@@ -8,7 +8,7 @@ use lib.Dec.{eqb}
 use borrow.Author.Tests.{eqb-true, le-ltb}
 use Rattle.labels.specs.declared.Labels.{Labels}
 use Rattle.labels.specs.Bytes.{setAt}
-use Rattle.labels.specs.Sets.{noLabels, _∪_}
+use Rattle.labels.specs.Sets.{_∪_}
 use Rattle.values.specs.declared.Labelled.{Labelled}
 use Rattle.values.specs.declared.Reason.the-variants.{AssignedAgain, CellLimit}
 use Rattle.wire.specs.Bytes.{pick}
@@ -18,15 +18,11 @@ use Rattle.cells.specs.declared.Found.{Found}
 use Rattle.cells.specs.declared.Found.the-variants.{At, Nothing}
 use Rattle.cells.specs.declared.Stored.{Stored}
 use Rattle.cells.specs.declared.Stored.the-variants.{Done, HasValue, NoRoom}
-use Rattle.records.specs.declared.Held.{Held}
-use Rattle.records.specs.declared.Held.the-variants.{Empty}
-use Rattle.cells.specs.declared.Seen.{Seen}
-use Rattle.cells.specs.Layout.{bodyAt, Slot, slot, slotAt, slotsOf, besideSlots, trailOf, putAt, bodyMark}
+use Rattle.cells.specs.Layout.{bodyAt, bodyMark, Slot, slot, slotsOf, besideSlots, trailOf, putAt}
 use Rattle.cells.specs.Scopes.{scopeOf}
 use Rattle.cells.specs.Slots.{StoresAt, hitAs, isFor, isReached, inUse, valueIn, markIn, cellIn, filled, marked, slotIn, slotFor, Obtains}
-use Rattle.cells.specs.Memory.{cellAt, cellsIn, usedIn, cellsOf, usedOf, classesOf, stateOf, outcome, Answers, markedOne, markOne, seenOf}
-use Rattle.records.specs.Record.{heldOf}
-use Rattle.cells.proofs.Slots.{slot-in}
+use Rattle.cells.specs.Memory.{cellAt, cellsIn, usedIn, cellsOf, usedOf, classesOf, stateOf, outcome, Answers, markedOne, markOne}
+use Rattle.cells.proofs.SlotReads.{mark-read}
 use Rattle.cells.proofs.Search.{was-last}
 use Rattle.cells.proofs.Scopes.{cell-at, by-number}
 use Rattle.cells.proofs.Cells.{Keeps, Ready, used-small, ready, all-taken, none-changed, value-kept}
@@ -68,10 +64,6 @@ module _ (p : ℕ) (s : Scope) (n : ℕ) (st : State) where
   mark-fits k u = rw (le-ltb 512 (st .used + more) u)
 
 -- ---- Slots
-
-mark-read : (w : List ℕ) (i : ℕ) → i < 512 → setAt w (bodyAt i + bodyMark) ≡ markIn (slotsOf w i)
-unfolding markIn slotAt
-mark-read w i below = rw (slot-in w i below) refl
 
 abbrev cellWith : Option Labelled → Labels → Cell
 cellWith v m = record { exists = true; value = v; mark = m }
@@ -218,28 +210,16 @@ module _ (w w′ : List ℕ) (s n : ℕ) {q : Found} (e : Obtains (slotsOf w) s 
       stored-by i at y w″ keeps c (λ p. markOne p (scopeOf s) n l) (λ b z. markInto b l z) (λ z. refl) (marked-cell u (slotsOf w′ i) ∙ rw (o .used, o .value, joined) refl)
       (λ p es k r. mark-fits p (scopeOf s) n (stateOf w es k r) l (room-left i at y w″ keeps c))
 
--- ---- Reads of a cell
+-- ---- Slots that are found
 
 pub in-slots : (t : ℕ) (f : ℕ → Slot) (s n i : ℕ) {q : Found} → q ≡ slotIn t f s n → q ≡ At i → i < 512
 unfolding slotIn
 in-slots t f s n i e p = was-last 512 (λ k. hitAs t s n (f k)) i (sym e ∙ p) .below
 
-abbrev seenWith : Held → Labels → Seen
-seenWith h m = record { held = h; mark = m }
-
-pub read-some : (w : List ℕ) (s n i : ℕ) {q : Found} {h : Held} {m : Labels} → q ≡ slotFor (slotsOf w) s n → q ≡ At i → h ≡ heldOf (valueIn (slotsOf w i))
-    → m ≡ setAt w (bodyAt i + bodyMark) → _≡_ {A = Seen} (seenWith h m) (seenOf (cellsOf w (scopeOf s) n))
-unfolding seenOf cellsOf cellsIn cellAt
-read-some w s n i {q} {h} {m} e p eh em =
-    let found : slotFor (slotsOf w) s n ≡ At i = sym e ∙ p in
-    let mark : m ≡ markIn (slotsOf w i) = em ∙ mark-read w i (in-slots 1 (slotsOf w) s n i e p) in
-    rw (cell-at (cellsIn (slotsOf w)) s n, found, eh, mark) refl
-
-pub read-none : (w : List ℕ) (s n : ℕ) {q : Found} → q ≡ slotFor (slotsOf w) s n → q ≡ Nothing → _≡_ {A = Seen} (seenWith Empty noLabels) (seenOf (cellsOf w (scopeOf s) n))
-unfolding seenOf cellsOf cellsIn cellAt noCell heldOf
-read-none w s n {q} e p =
-    let found : slotFor (slotsOf w) s n ≡ Nothing = sym e ∙ p in
-    rw (cell-at (cellsIn (slotsOf w)) s n, found) refl
+-- the cell of a key is that of its slot, and none where it has no slot
+pub cell-found : (w : List ℕ) (s n : ℕ) {q : Found} → q ≡ slotFor (slotsOf w) s n → cellsOf w (scopeOf s) n ≡ cellAt (slotsOf w) q
+unfolding cellsOf cellsIn
+cell-found w s n e = cell-at (cellsIn (slotsOf w)) s n ∙ ap (cellAt (slotsOf w)) (sym e)
 
 -- a memory has at most 512 cells
 pub used-limit : (w : List ℕ) → usedOf w ≤ 512

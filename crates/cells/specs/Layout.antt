@@ -11,7 +11,7 @@ use Rattle.labels.specs.Sets.{noLabels}
 use Rattle.labels.specs.Bytes.{setAt}
 use Rattle.wire.specs.Bytes.{pick, byte, two}
 use Rattle.values.specs.declared.Labelled.{Labelled}
-use Rattle.records.specs.Record.{recordIn}
+use Rattle.records.specs.Record.{contentAt, recordIn}
 use Rattle.cells.specs.Chains.{counted, leadsTo, Way}
 
 -- ---- Places
@@ -169,6 +169,10 @@ slotAt w i = slot (chained w (chainIn w i) i) (byte w (stateAt i)) (two w (keyAt
 
 unfoldable pub slotsOf : List ℕ → ℕ → Slot
 slotsOf w = table 512 (slotAt w) blankSlot
+
+-- what slot i holds, if it has a value
+abbrev pub contentIn : List ℕ → ℕ → Labelled
+contentIn w i = contentAt w (bodyAt i)
 
 -- ---- What stands beside them
 

@@ -9,14 +9,12 @@ use Rattle.labels.specs.declared.Labels.{Labels}
 use Rattle.labels.specs.Sets.{_∪_}
 use Rattle.values.specs.declared.Reason.the-variants.{AssignedAgain, CellLimit}
 use Rattle.wire.specs.Bytes.{pick}
-use Rattle.records.specs.Record.{heldOf}
 use Rattle.rules.specs.Outcome.{Outcome, refused, done, _>>=_}
 use Rattle.rules.specs.State.{Scope, Base, topBase, nodeBase, DeclaredClass, Cell, noCell, Cells, sameScope, markInto, count, Entry, State, cellsFor, oneIf}
 use Rattle.cells.specs.declared.Found.{Found}
 use Rattle.cells.specs.declared.Found.the-variants.{At, Nothing}
 use Rattle.cells.specs.declared.Stored.{Stored}
 use Rattle.cells.specs.declared.Stored.the-variants.{Done, HasValue, NoRoom}
-use Rattle.cells.specs.declared.Seen.{Seen}
 use Rattle.cells.specs.Layout.{Slot, slotsOf, trailOf, NameRecord, nameRecord, recordsOf, restOf}
 use Rattle.cells.specs.Scopes.{scopeNumber, scopeOf, numbered}
 use Rattle.cells.specs.Slots.{inUse, cellIn, slotFor, FineSlots}
@@ -145,8 +143,3 @@ listed (n ∷ ns) m = eqb m n || listed ns m
 -- a set is joined to the trail
 unfoldable pub trailed : Labels → State → State
 trailed k st = record { cells = st .cells; used = st .used; classes = st .classes; trail = k ∪ st .trail; entries = st .entries; stepsLeft = st .stepsLeft; room = st .room }
-
--- ---- What a read of a cell tells
-
-unfoldable pub seenOf : Cell → Seen
-seenOf c = record { held = heldOf (c .value); mark = c .mark }

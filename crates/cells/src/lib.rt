@@ -6,14 +6,13 @@ ghost use lib.ListN.{length};
 ghost use Rattle.labels.specs.Bytes.{setAt};
 ghost use Rattle.wire.specs.Numbers.{highBytes};
 ghost use Rattle.wire.specs.Runs.{over};
-ghost use Rattle.records.specs.Record.{heldOf};
 ghost use Rattle.rules.specs.State.{free, isSome};
 ghost use Rattle.rules.specs.State as state;
 ghost use Rattle.cells.specs.Chains.{counted};
-ghost use Rattle.cells.specs.Layout.{bodyAt, bodyMark, slotsOf, besideSlots, chainOf, chainIn, placeAt, nextIn, LastAbove};
+ghost use Rattle.cells.specs.Layout.{bodyAt, bodyMark, slotsOf, contentIn, besideSlots, chainOf, chainIn, placeAt, nextIn, LastAbove};
 ghost use Rattle.cells.specs.Scopes.{scopeOf};
-ghost use Rattle.cells.specs.Slots.{isReached, isFor, ofScope, valueIn, takenOut, putIn, renewed, claimed, filled, marked, freedSlot, StoresAt, slotIn, Open, FindsOpen, Claims, Obtains};
-ghost use Rattle.cells.specs.Memory.{seenOf, cellsOf, Fine, Becomes, Answers, markOne};
+ghost use Rattle.cells.specs.Slots.{isReached, isFor, ofScope, valueIn, takenOut, putIn, renewed, claimed, filled, marked, freedSlot, StoresAt, slotIn, slotFor, Open, FindsOpen, Claims, Obtains};
+ghost use Rattle.cells.specs.Memory.{Fine, Becomes, Answers, markOne};
 use crate::layout::BODIES;
 use crate::layout::BODY_MARK;
 use crate::layout::BODY_SIZE;
@@ -28,8 +27,8 @@ use crate::layout::NAME_SIZE;
 use crate::layout::NAMES;
 use crate::layout::SLOTS;
 use labels::Labels;
-use records::Held;
 use values::Labelled;
+use values::Value;
 
 pub mod layout; // layout.rt: where everything stands
 
@@ -42,12 +41,6 @@ const FREED: u8 = 5;
 pub enum Found {
     At(usize),
     Nothing,
-}
-
-// What a cell holds: nothing, too, where there is none.
-pub struct Seen {
-    pub held: Held,
-    pub mark: Labels,
 }
 
 // How a store ends: done, or refused since the variable has a value, or since a 513th cell would be needed.
@@ -222,43 +215,43 @@ fn find_open(work: &[u8]) -> Found
     find_free(work)
 }
 
-// ---- Reads
+// ---- Reads: the slot of a key, and what it holds in pieces
 
-fn held_at(work: &[u8], i: usize) -> Held
-    requires { ⌜ (i < 512) × (65536 ≤ length (now work)) ⌝ }
-    ensures { λ r. ⌜ r ≡ heldOf (valueIn (slotsOf (now (work .entry)) i)) ⌝ }
+// The slot in use for a scope and a name.
+pub fn slot_for(work: &[u8], scope: u16, name: u16) -> Found
+    requires { ⌜ 65536 ≤ length (now work) ⌝ }
+    ensures { λ r. ⌜ r ≡ slotFor (slotsOf (now (work .entry))) scope name ⌝ }
 {
-    records::record_at(work, BODIES + BODY_SIZE * i)
+    find(work, scope, name, USED)
 }
 
-fn has_value(work: &[u8], i: usize) -> bool
-    requires { ⌜ i < 512 ⌝ }
+pub fn has_value(work: &[u8], i: usize) -> bool
+    requires { ⌜ (i < 512) × (65536 ≤ length (now work)) ⌝ }
     ensures { λ r. ⌜ r ≡ isSome (valueIn (slotsOf (now (work .entry)) i)) ⌝ }
 {
     !records::is_empty(work, BODIES + BODY_SIZE * i)
 }
 
-fn mark_at(work: &[u8], i: usize) -> Labels
+// The value of a slot that has one, and the set of that value.
+pub fn value_at(work: &[u8], i: usize) -> Value
+    requires { ⌜ (i < 512) × (65536 ≤ length (now work)) ⌝ }
+    ensures { λ r. ⌜ r ≡ contentIn (now (work .entry)) i .value ⌝ }
+{
+    records::value_in(work, BODIES + BODY_SIZE * i)
+}
+
+pub fn labels_at(work: &[u8], i: usize) -> Labels
+    requires { ⌜ (i < 512) × (65536 ≤ length (now work)) ⌝ }
+    ensures { λ r. ⌜ r ≡ contentIn (now (work .entry)) i .labels ⌝ }
+{
+    records::labels_in(work, BODIES + BODY_SIZE * i)
+}
+
+pub fn mark_at(work: &[u8], i: usize) -> Labels
     requires { ⌜ (i < 512) × (65536 ≤ length (now work)) ⌝ }
     ensures { λ r. ⌜ r ≡ setAt (now (work .entry)) (bodyAt i + bodyMark) ⌝ }
 {
     Labels::read_within(work, BODIES + BODY_SIZE * i + BODY_MARK)
-}
-
-// What the cell of a scope and a name holds.
-pub fn read_cell(work: &[u8], scope: u16, name: u16) -> Seen
-    requires { ⌜ 65536 ≤ length (now work) ⌝ }
-    ensures { λ r. ⌜ r ≡ seenOf (cellsOf (now (work .entry)) (scopeOf scope) name) ⌝ }
-{
-    let Found::At(i) = find(work, scope, name, USED) else {
-        return Seen {
-            held: Held::Empty,
-            mark: Labels::EMPTY,
-        };
-    };
-    let held = held_at(work, i);
-    let mark = mark_at(work, i);
-    Seen { held, mark }
 }
 
 // ---- Stores at a slot

@@ -1,13 +1,14 @@
 -- Reads of variables and attributes. Assumes nothing.
 use Prim.Native.Nat.{ℕ, zero, suc, _+_, _-_, _<_}
 use mathlib.Core.Path.{_≡_, refl, sym, ap, _∙_}
-use mathlib.Core.Bool.{Bool, true, false, not}
+use mathlib.Core.Bool.{Bool, true, false, not, false≢true}
 use mathlib.Core.List.{List, [], _∷_}
 use mathlib.Core.Option.{Option, none, some}
 use native.Mathlib.Omega.{arith}
 use denote.Enum.Declared.{tagOf}
 use native.Mathlib.Numerals.{sub-one}
 use Rattle.labels.specs.declared.Labels.{Labels}
+use Rattle.labels.specs.Bytes.{setAt}
 use Rattle.labels.specs.Sets.{noLabels, _∪_}
 use Rattle.values.specs.declared.Labelled.{Labelled}
 use Rattle.values.specs.declared.Reason.the-variants.{NoValue, Unknown, WrongKind, NotInCatalog}
@@ -17,16 +18,18 @@ use Rattle.values.proofs.Value.{the-type}
 use Rattle.wire.specs.Bytes.{two}
 use Rattle.rules.specs.Outcome.{Outcome, refused, _>>=_, refuseIf, orRefuse, at, joining}
 use Rattle.rules.specs.Arithmetic.{stringIn}
-use Rattle.rules.specs.State.{Scope, Base, DeclaredClass, parentOf, upward, Cells, Known, Entry}
+use Rattle.rules.specs.State.{Scope, Base, DeclaredClass, parentOf, upward, isSome, noCell, Cells, Known, Entry}
 use Rattle.rules.specs.Evaluate.{isType, isClass, orElse, readIn, readAttribute}
 use Rattle.rules.specs.Compile.{onto}
-use Rattle.cells.specs.declared.Seen.{Seen}
-use Rattle.records.specs.declared.Held.{Held}
-use Rattle.records.specs.declared.Held.the-variants.{Empty, Holds}
+use Rattle.cells.specs.declared.Found.{Found as SlotFound}
+use Rattle.cells.specs.declared.Found.the-variants.{At as SlotAt, Nothing as NoSlot}
+use Rattle.cells.specs.Layout.{bodyAt, bodyMark, slotsOf, contentIn}
 use Rattle.cells.specs.Scopes.{scopeOf}
-use Rattle.records.specs.Record.{heldOf}
-use Rattle.cells.specs.Memory.{seenOf, cellsOf, classesOf}
+use Rattle.cells.specs.Slots.{valueIn, markIn, slotFor}
+use Rattle.cells.specs.Memory.{cellAt, cellsOf, classesOf}
 use Rattle.cells.proofs.Scopes.{class-scope}
+use Rattle.cells.proofs.SlotReads.{content-there, mark-read}
+use Rattle.cells.proofs.Ways.{in-slots, cell-found}
 use Rattle.memory.specs.declared.Above.{Above}
 use Rattle.memory.specs.declared.Above.the-variants.{At, Nothing}
 use Rattle.evaluator.specs.declared.Evaluated.the-variants.{Value as Yields}
@@ -42,19 +45,13 @@ use Rattle.evaluator.specs.Known.{KnownIn, Ready, classRead, attributeOf
 use Rattle.evaluator.proofs.Outcomes.{joining-none, joining-both}
 use Rattle.evaluator.proofs.Operators.{not-string}
 
--- what a cell that was seen holds
-held-some : (o : Option Labelled) (x : Labelled) → heldOf o ≡ Holds x → o ≡ some x
-unfolding heldOf
-held-some none x e = let z : _≡_ {A = Option Labelled} none (some x) = cc in z
-held-some (some y) x e = cc
-
-held-none : (o : Option Labelled) → heldOf o ≡ Empty → o ≡ none
-unfolding heldOf
-held-none none e = refl
-held-none (some y) e = let z : _≡_ {A = Option Labelled} (some y) none = cc in z
+no-value : (o : Option Labelled) → isSome o ≡ false → o ≡ none
+unfolding isSome
+no-value none e = refl
+no-value (some x) e = absurd (false≢true (sym e))
 
 -- the scopes above, from the parent found
-unfoldable above : (classes : ℕ → Option DeclaredClass) → Base → (left : ℕ) → Option Scope → List Scope
+unfoldable pub above : (classes : ℕ → Option DeclaredClass) → Base → (left : ℕ) → Option Scope → List Scope
 above classes b left none = []
 above classes b left (some t) = upward left classes b t
 
@@ -81,39 +78,55 @@ module _ (p : ℕ) (cells : Cells) (n : ℕ) (classes : ℕ → Option DeclaredC
       go none = refl
       go (some t) = refl
 
-  -- the ways of `read_up`: so far the scopes up to s were passed over, and their marks joined
-  module _ {whole : Outcome Labelled} (marks : Labels) (left : ℕ) (s : Scope) (so-far : joining marks (reading left s) ≡ whole) where
-    module _ (more : 0 < left) {seen : Seen} (there : seen ≡ seenOf (cells s n)) {u : Labels} (joined : u ≡ marks ∪ seen .mark) where
-      passed : joining u (orElse (cells s n .value) (readIn p cells n (above classes b (left - 1) (parentOf classes b s)))) ≡ whole
-      unfolding seenOf
-      passed = rw (joined, there) (joining-both marks (cells s n .mark) (orElse (cells s n .value) (readIn p cells n (above classes b (left - 1) (parentOf classes b s)))) ∙ ap (joining marks) (sym (read-step left s more)) ∙ so-far)
+  -- what the scopes above s give, if `left` counts s
+  abbrev pub beyond : (left : ℕ) → Scope → Outcome Labelled
+  beyond left s = readIn p cells n (above classes b (left - 1) (parentOf classes b s))
 
-      value-is : {h : Held} → seen .held ≡ h → heldOf (cells s n .value) ≡ h
-      unfolding seenOf
-      value-is e = sym (ap (λ (x : Seen). x .held) there) ∙ e
-
-      pub read-here : (x : Labelled) {e : Outcome Labelled} → seen .held ≡ Holds x → e ≡ joining u (evaluated (Yields x)) → e ≡ whole
-      unfolding orElse evaluated
-      read-here x h e = e ∙ (rw (held-some (cells s n .value) x (value-is h)) at passed)
-
-      beyond : seen .held ≡ Empty → joining u (readIn p cells n (above classes b (left - 1) (parentOf classes b s))) ≡ whole
-      unfolding orElse
-      beyond h = rw (held-none (cells s n .value) (value-is h)) at passed
-
-      pub read-end : {a : Above} {e : Outcome Labelled} → seen .held ≡ Empty → scopeAbove a ≡ parentOf classes b s → a ≡ Nothing → e ≡ refused NoValue p → e ≡ whole
-      unfolding scopeAbove above readIn joining _>>=_
-      read-end {a} h g z e = e ∙ (rw (sym g, z) at (beyond h))
-
-      pub read-on : {a : Above} {q : ℕ} → seen .held ≡ Empty → scopeAbove a ≡ parentOf classes b s → a ≡ At q → joining u (reading (left - 1) (scopeOf q)) ≡ whole
-      unfolding scopeAbove above
-      read-on {a} h g z = rw (sym g, z) at (beyond h)
-
-    pub read-out : {e : Outcome Labelled} → left ≡ 0 → e ≡ refused NoValue p → e ≡ whole
+  -- the ways of `read_up`: so far the scopes up to s were passed over, and their marks joined; then s is too
+  module _ {whole : Outcome Labelled} (marks : Labels) (left : ℕ) (s : Scope) where
+    pub read-out : {e : Outcome Labelled} → joining marks (reading left s) ≡ whole → left ≡ 0 → e ≡ refused NoValue p → e ≡ whole
     unfolding upward readIn joining _>>=_
-    read-out z e = e ∙ (rw z at so-far)
+    read-out so-far z e = e ∙ (rw z at so-far)
+
+    module _ (passed : joining marks (beyond left s) ≡ whole) {a : Above} (parent : scopeAbove a ≡ parentOf classes b s) where
+      pub read-end : {e : Outcome Labelled} → a ≡ Nothing → e ≡ refused NoValue p → e ≡ whole
+      unfolding scopeAbove above readIn joining _>>=_
+      read-end z e = e ∙ (rw (sym parent, z) at passed)
+
+      pub read-on : {q : ℕ} → a ≡ At q → joining marks (reading (left - 1) (scopeOf q)) ≡ whole
+      unfolding scopeAbove above
+      read-on z = rw (sym parent, z) at passed
 
   pub read-begin : (left : ℕ) (s : Scope) → joining noLabels (reading left s) ≡ reading left s
   read-begin left s = joining-none (reading left s)
+
+-- the ways of `read_up` at one scope, by the slot that is found
+module _ (w : List ℕ) (p n : ℕ) (b : Base) {whole : Outcome Labelled} (marks : Labels) (left s : ℕ) (so-far : joining marks (reading p (cellsOf w) n (classesOf w) b left (scopeOf s)) ≡ whole) (more : 0 < left) {q : SlotFound} (found : q ≡ slotFor (slotsOf w) s n) where
+  abbrev rest : Outcome Labelled
+  rest = beyond p (cellsOf w) n (classesOf w) b left (scopeOf s)
+
+  by-slot : joining marks (joining (cellAt (slotsOf w) q .mark) (orElse (cellAt (slotsOf w) q .value) rest)) ≡ whole
+  by-slot = rw (sym (cell-found w s n found)) (ap (joining marks) (sym (read-step p (cellsOf w) n (classesOf w) b left (scopeOf s) more)) ∙ so-far)
+
+  pub pass-none : {u : Labels} → q ≡ NoSlot → u ≡ marks → joining u rest ≡ whole
+  unfolding cellAt noCell orElse
+  pass-none none-there same = rw same (ap (joining marks) (sym (joining-none rest)) ∙ (rw none-there at by-slot))
+
+  module _ (i : ℕ) {m u : Labels} {t : Bool} (is : q ≡ SlotAt i) (mark : m ≡ setAt w (bodyAt i + bodyMark)) (joined : u ≡ marks ∪ m) (told : t ≡ isSome (valueIn (slotsOf w i))) where
+    below : i < 512
+    below = in-slots 1 (slotsOf w) s n i found is
+
+    with-mark : joining u (orElse (valueIn (slotsOf w i)) rest) ≡ whole
+    unfolding cellAt
+    with-mark = rw (joined, mark, mark-read w i below) (joining-both marks (markIn (slotsOf w i)) (orElse (valueIn (slotsOf w i)) rest) ∙ (rw is at by-slot))
+
+    pub pass-empty : t ≡ false → joining u rest ≡ whole
+    unfolding orElse
+    pass-empty none-there = rw (no-value (valueIn (slotsOf w i)) (sym told ∙ none-there)) at with-mark
+
+    pub read-here : {own k : Labels} {v : Value} → t ≡ true → own ≡ contentIn w i .labels → k ≡ u ∪ own → v ≡ contentIn w i .value → evaluated (Yields (record { value = v; labels = k })) ≡ whole
+    unfolding orElse evaluated joining _>>=_
+    read-here there labels both value = rw (value, both, labels) (rw (content-there w i below (sym told ∙ there)) at with-mark)
 
 -- ---- The ways of `read_class`
 

@@ -210,15 +210,18 @@ fn read_up(work: &[u8], p: usize, scope: Scope, name: u16, tries: u16) -> Evalua
     let mut at = scope.number;
     let mut left = tries;
     while 0 < left {
-        let seen = cells::read_cell(work, at, name);
-        let mark = seen.mark;
-        marks = marks.union(mark);
-        let held = seen.held;
-        match held {
-            records::Held::Holds(x) => {
-                return joined(marks, Evaluated::Value(x));
+        match cells::slot_for(work, at, name) {
+            cells::Found::At(i) => {
+                let mark = cells::mark_at(work, i);
+                marks = marks.union(mark);
+                if cells::has_value(work, i) {
+                    let own = cells::labels_at(work, i);
+                    let labels = marks.union(own);
+                    let value = cells::value_at(work, i);
+                    return Evaluated::Value(Labelled { value, labels });
+                }
             }
-            records::Held::Empty => {}
+            cells::Found::Nothing => {}
         }
         let memory::Above::At(q) = memory::parent_of(work, scope.base_is_node, at) else {
             return Evaluated::Refused(Refusal::at(Reason::NoValue, p));

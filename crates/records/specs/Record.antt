@@ -57,9 +57,12 @@ middleBytes k = 0 ∷ 0 ∷ 0 ∷ 0 ∷ k ∷ 0 ∷ 0 ∷ 0 ∷ []
 unfoldable pub recordBytes : Labelled → List ℕ
 recordBytes x = highBytes 8 (payloadOf (x .value)) ++ (middleBytes (kindOf (x .value)) ++ labelBytes (x .labels))
 
--- what the record at p holds
+-- what the record at p holds, if it holds something
+abbrev pub contentAt : List ℕ → ℕ → Labelled
+contentAt m p = labelled (valueFrom (byte m (kindAt p)) (wordAt m p)) (setAt m (contentSetAt p))
+
 unfoldable pub recordIn : List ℕ → ℕ → Option Labelled
-recordIn m p = pick (eqb (byte m (kindAt p)) 0) none (some (labelled (valueFrom (byte m (kindAt p)) (wordAt m p)) (setAt m (contentSetAt p))))
+recordIn m p = pick (eqb (byte m (kindAt p)) 0) none (some (contentAt m p))
 
 unfoldable pub isEmpty : Option Labelled → Bool
 isEmpty none = true

@@ -5,7 +5,7 @@ ghost use Prim.Native.Nat.{_+_, _≤_};
 ghost use lib.ListN.{length};
 ghost use Rattle.wire.specs.Numbers.{highBytes};
 ghost use Rattle.wire.specs.Runs.{over};
-ghost use Rattle.records.specs.Record.{recordSize, kindAt, kindOf, payloadOf, valueFrom, wordAt, middleBytes, recordBytes, recordIn, isEmpty, heldOf};
+ghost use Rattle.records.specs.Record.{recordSize, kindAt, kindOf, payloadOf, valueFrom, wordAt, middleBytes, recordBytes, contentAt, recordIn, isEmpty, heldOf};
 use labels::Labels;
 use values::Labelled;
 use values::Value;
@@ -65,6 +65,30 @@ fn value_at(bytes: &[u8], kind: u8, at: usize) -> Value
 
 // ---- Records
 
+// Whether the record at a place holds nothing.
+pub fn is_empty(bytes: &[u8], at: usize) -> bool
+    requires { ⌜ at + recordSize ≤ length (now bytes) ⌝ }
+    ensures { λ r. ⌜ r ≡ isEmpty (recordIn (now (bytes .entry)) at) ⌝ }
+{
+    wire::byte_in(bytes, at + KIND) == 0
+}
+
+// The value of a record that holds one, and its set, apart: an answer with both in it is copied at each call that is not merged.
+pub fn value_in(bytes: &[u8], at: usize) -> Value
+    requires { ⌜ at + recordSize ≤ length (now bytes) ⌝ }
+    ensures { λ r. ⌜ r ≡ contentAt (now (bytes .entry)) at .value ⌝ }
+{
+    let kind = wire::byte_in(bytes, at + KIND);
+    value_at(bytes, kind, at)
+}
+
+pub fn labels_in(bytes: &[u8], at: usize) -> Labels
+    requires { ⌜ at + recordSize ≤ length (now bytes) ⌝ }
+    ensures { λ r. ⌜ r ≡ contentAt (now (bytes .entry)) at .labels ⌝ }
+{
+    Labels::read_within(bytes, at + SET)
+}
+
 // What the record at a place holds.
 pub fn record_at(bytes: &[u8], at: usize) -> Held
     requires { ⌜ at + recordSize ≤ length (now bytes) ⌝ }
@@ -77,14 +101,6 @@ pub fn record_at(bytes: &[u8], at: usize) -> Held
     let value = value_at(bytes, kind, at);
     let labels = Labels::read_within(bytes, at + SET);
     Held::Holds(Labelled { value, labels })
-}
-
-// Whether the record at a place holds nothing.
-pub fn is_empty(bytes: &[u8], at: usize) -> bool
-    requires { ⌜ at ≤ 4294967296 ⌝ }
-    ensures { λ r. ⌜ r ≡ isEmpty (recordIn (now (bytes .entry)) at) ⌝ }
-{
-    wire::byte_at(bytes, at + KIND) == 0
 }
 
 // Source, key, kind and spare.

@@ -21,7 +21,10 @@ returns : tie.Need-returns
 returns c = assign-full _ _ _ _ (c .before .before .before .before .obtain .ensures) (c .before .before .before .before .before .before .before .pre .1) _ (c .enum-told .given .1)
 
 has-value-requires : tie.Need-has-value-requires
-has-value-requires c κs = ready-at _ _ _ _ (c .before .before .before .before .before .before .obtain .ensures) (c .before .before .before .before .before .before .before .before .before .pre .1) _ (c .before .before .i .given .1) .below
+has-value-requires c κs =
+    let start = c .before .before .before .before .before .before .before .before .before in
+    let obtain = c .before .before .before .before .before .before .obtain in
+    (ready-at _ _ _ _ (obtain .ensures) (start .pre .1) _ (c .before .before .i .given .1) .below, omega (arith, start .pre .0, obtain .kept .0))
 
 same-length-2 : tie.Need-same-length-2
 same-length-2 c = search needs

@@ -14,7 +14,7 @@ is-empty-requires : tie.Need-is-empty-requires
 is-empty-requires c κs = search needs
 
 returns : tie.Need-returns
-returns c = value-read _ _ (c .before .before .pre) (c .is-empty .ensures)
+returns c = value-read _ _ (c .before .before .pre .0) (c .is-empty .ensures)
 
 pub has-value-spec : {M : Type 1} → statement M
 has-value-spec = tie.close (tie.spec mul-is-empty add-is-empty is-empty-requires returns)

@@ -1,13 +1,16 @@
 -- `read_up`: the loop keeps this: the marks joined so far, joined to what the scopes from here on give, is what all give. It ends since `left` falls.
 use Rattle.evaluator.proofs.Outcomes.{refusal-is}
-use Rattle.evaluator.proofs.Reading.{read-here, read-end, read-on, read-out, read-begin}
+use Rattle.evaluator.proofs.Reading.{beyond, read-here, pass-empty, pass-none, read-end, read-on, read-out, read-begin}
 use Rattle.cells.specs.Memory.{cellsOf, classesOf, baseFor}
 use Rattle.cells.specs.Scopes.{scopeOf}
+use Rattle.cells.proofs.Ways.{in-slots}
 use Rattle.rules.specs.Evaluate.{readIn}
 use Rattle.rules.specs.State.{upward}
 use Rattle.rules.specs.Outcome.{joining}
 use Rattle.labels.specs.Sets.{noLabels}
-use mathlib.Core.Path.{_≡_}
+use mathlib.Core.Path.{_≡_, _∙_}
+use mathlib.Core.Logic.{⊎-elim}
+use denote.Ref.{now}
 use native.Mathlib.Omega.{arith}
 use Rattle.evaluator.proofs.read_up.Statement.{statement}
 use Rattle.evaluator.proofs.read_up.Tie as tie
@@ -22,26 +25,38 @@ loop-holds : tie.Need-loop-holds Inv-loop μ-loop
 unfolding noLabels
 loop-holds c = read-begin _ _ _ _ _ _ _
 
-read-cell-requires : tie.Need-read-cell-requires Inv-loop μ-loop
-read-cell-requires c κs = c .before .before .before .pre .0
+slot-for-requires : tie.Need-slot-for-requires Inv-loop μ-loop
+slot-for-requires c κs = c .before .before .before .pre .0
+
+enum-known-i : tie.Need-enum-known-i Inv-loop μ-loop
+enum-known-i c = c .match .keys1
+
+mark-at-requires : tie.Need-mark-at-requires Inv-loop μ-loop
+mark-at-requires c κs = (in-slots _ _ _ _ _ (c .before .before .before .slot-for .ensures) (c .before .i .given .1), c .before .before .before .before .before .before .before .pre .0)
 
 union-requires : tie.Need-union-requires Inv-loop μ-loop
 union-requires c κs = tt
 
-enum-known-held : tie.Need-enum-known-held Inv-loop μ-loop
-enum-known-held c = c .match .keys1
+has-value-requires : tie.Need-has-value-requires Inv-loop μ-loop
+has-value-requires c κs = mark-at-requires (c .before .before) κs
 
-joined-requires : tie.Need-joined-requires Inv-loop μ-loop
-joined-requires c κs = tt
+labels-at-requires : tie.Need-labels-at-requires Inv-loop μ-loop
+labels-at-requires c κs = mark-at-requires (c .before .before .before .before) κs
+
+union-requires-2 : tie.Need-union-requires-2 Inv-loop μ-loop
+union-requires-2 c κs = tt
+
+value-at-requires : tie.Need-value-at-requires Inv-loop μ-loop
+value-at-requires c κs = mark-at-requires (c .before .before .before .before .before .before) κs
 
 returns : tie.Need-returns Inv-loop μ-loop
-returns c = read-here _ _ _ _ _ _ _ _ (c .before .before .before .before .before .before .before .before .loop .inv) (c .before .before .before .before .before .before .before .loop-test .taken) (c .before .before .before .before .before .before .read-cell .ensures) (c .before .before .before .before .union .ensures) _ (c .before .before .held .given .1) (c .joined .ensures)
+returns c = read-here _ _ _ _ _ _ _ (c .before .before .before .before .before .before .before .before .before .before .before .before .loop .inv) (c .before .before .before .before .before .before .before .before .before .before .before .loop-test .taken) (c .before .before .before .before .before .before .before .before .before .before .slot-for .ensures) _ (c .before .before .before .before .before .before .before .before .i .given .1) (c .before .before .before .before .before .before .mark-at .ensures) (c .before .before .before .before .before .union .ensures) (c .before .before .before .before .has-value .ensures) (c .before .before .before .if1 .taken) (c .before .before .labels-at .ensures) (c .before .union2 .ensures) (c .value-at .ensures)
 
 enum-told : tie.Need-enum-told Inv-loop μ-loop
 enum-told c = c .match .keys2
 
 parent-of-requires : tie.Need-parent-of-requires Inv-loop μ-loop
-parent-of-requires c κs = c .before .before .before .before .before .before .before .before .pre .0
+parent-of-requires c κs = c .before .before .before .before .before .pre .0
 
 enum-known-q : tie.Need-enum-known-q Inv-loop μ-loop
 enum-known-q c = c .match2 .keys1
@@ -49,20 +64,33 @@ enum-known-q c = c .match2 .keys1
 enum-told-2 : tie.Need-enum-told-2 Inv-loop μ-loop
 enum-told-2 c = c .match2 .keys2
 
+-- the scope was passed over: it has no slot, or one without a value
+passed : (c : tie.At-match-came Inv-loop μ-loop)
+    → let start = c .before .before .before .before .before in
+    let loop = c .before .before .before .loop in
+    let base = baseFor (start .args .scope .«base_is_node») in
+    let work = now (start .args .work) in
+    joining (c .match .marks) (beyond (start .args .p) (cellsOf work) (start .args .name) (classesOf work) base (loop .left) (scopeOf (loop .at))) ≡ readIn (start .args .p) (cellsOf work) (start .args .name) (upward (start .args .tries) (classesOf work) base (scopeOf (start .args .scope .number)))
+passed c =
+    let so-far = c .before .before .before .loop .inv in
+    let more = c .before .before .loop-test .taken in
+    let found = c .before .slot-for .ensures in
+    ⊎-elim (λ w. pass-empty _ _ _ _ _ _ _ so-far more found _ (w .1 .given .1) (w .3 .ensures) (w .7 ∙ w .4 .ensures) (w .5 .ensures) (w .6 .left)) (λ w. pass-none _ _ _ _ _ _ _ so-far more found (w .1 .given .1) (w .2)) (c .match .came)
+
 at-requires : tie.Need-at-requires Inv-loop μ-loop
-at-requires c κs = c .before .before .before .before .before .before .before .before .before .before .before .pre .1
+at-requires c κs = c .before .before .before .before .before .before .before .before .pre .1
 
 returns-2 : tie.Need-returns-2 Inv-loop μ-loop
-returns-2 c = read-end _ _ _ _ _ _ _ _ (c .before .before .before .before .before .before .before .before .before .before .loop .inv) (c .before .before .before .before .before .before .before .before .before .loop-test .taken) (c .before .before .before .before .before .before .before .before .read-cell .ensures) (c .before .before .before .before .before .before .union .ensures) (c .before .before .before .before .enum-told .given .1) (c .before .before .before .parent-of .ensures) (c .before .enum-told2 .given .1) (refusal-is (c .at .ensures))
+returns-2 c = read-end _ _ _ _ _ _ _ _ (passed (c .before .before .before .before)) (c .before .before .before .parent-of .ensures) (c .before .enum-told2 .given .1) (refusal-is (c .at .ensures))
 
 sub-left : tie.Need-sub-left Inv-loop μ-loop
-sub-left c = omega (arith, c .before .before .before .before .before .before .before .before .before .loop-test .taken)
+sub-left c = omega (arith, c .before .before .before .before .before .before .loop-test .taken)
 
 loop-less : tie.Need-loop-less Inv-loop μ-loop
-loop-less c = omega (arith, c .before .before .before .before .before .before .before .before .before .loop-test .taken)
+loop-less c = omega (arith, c .before .before .before .before .before .before .loop-test .taken)
 
 loop-again : tie.Need-loop-again Inv-loop μ-loop
-loop-again c = read-on _ _ _ _ _ _ _ _ (c .before .before .before .before .before .before .before .before .before .before .loop .inv) (c .before .before .before .before .before .before .before .before .before .loop-test .taken) (c .before .before .before .before .before .before .before .before .read-cell .ensures) (c .before .before .before .before .before .before .union .ensures) (c .before .before .before .before .enum-told .given .1) (c .before .before .before .parent-of .ensures) (c .before .q .given .1)
+loop-again c = read-on _ _ _ _ _ _ _ _ (passed (c .before .before .before .before)) (c .before .before .before .parent-of .ensures) (c .before .q .given .1)
 
 at-requires-2 : tie.Need-at-requires-2 Inv-loop μ-loop
 at-requires-2 c κs = c .before .before .before .pre .1
@@ -77,10 +105,14 @@ read-up-spec =
     Inv-loop
     μ-loop
     loop-holds
-    read-cell-requires
+    slot-for-requires
+    enum-known-i
+    mark-at-requires
     union-requires
-    enum-known-held
-    joined-requires
+    has-value-requires
+    labels-at-requires
+    union-requires-2
+    value-at-requires
     returns
     enum-told
     parent-of-requires
