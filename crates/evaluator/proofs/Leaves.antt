@@ -1,4 +1,4 @@
--- The ways of `evaluate`: by the tag. Assumes nothing.
+-- The ways of `evaluate` and `variable_read`: by the tag. Assumes nothing.
 use Prim.Native.Nat.{ℕ, suc, _+_, _-_, _≤_, _<_}
 use mathlib.Core.Path.{_≡_, refl, sym, ap, _∙_, subst}
 use mathlib.Core.Bool.{true, false}
@@ -42,15 +42,15 @@ constant-small t stringTag = omega arith
 constant-small t booleanTag = omega arith
 
 -- the last one
-selector-last : (t : ℕ) → IsExpressionTag t → 0x13 ≤ t → (t ≡ 0x13 → ⊥) → (t ≡ 0x14 → ⊥) → (t ≡ 0x15 → ⊥) → (t ≡ 0x16 → ⊥) → (t ≡ 0x17 → ⊥) → (t ≡ 0x18 → ⊥) → t ≡ 0x19
-selector-last t (constantTag c) l n3 n4 n5 n6 n7 n8 = absurd (omega (arith, constant-small t c))
-selector-last t variableTag l n3 n4 n5 n6 n7 n8 = absurd (n3 refl)
-selector-last t topVariableTag l n3 n4 n5 n6 n7 n8 = absurd (n4 refl)
-selector-last t classVariableTag l n3 n4 n5 n6 n7 n8 = absurd (n5 refl)
-selector-last t operationTag l n3 n4 n5 n6 n7 n8 = absurd (n6 refl)
-selector-last t negationTag l n3 n4 n5 n6 n7 n8 = absurd (n7 refl)
-selector-last t attributeReadTag l n3 n4 n5 n6 n7 n8 = absurd (n8 refl)
-selector-last t selectorTag l n3 n4 n5 n6 n7 n8 = refl
+selector-last : (t : ℕ) → IsExpressionTag t → 0x16 ≤ t → (t ≡ 0x16 → ⊥) → (t ≡ 0x17 → ⊥) → (t ≡ 0x18 → ⊥) → t ≡ 0x19
+selector-last t (constantTag c) l n6 n7 n8 = absurd (omega (arith, constant-small t c))
+selector-last t variableTag l n6 n7 n8 = absurd (omega arith)
+selector-last t topVariableTag l n6 n7 n8 = absurd (omega arith)
+selector-last t classVariableTag l n6 n7 n8 = absurd (omega arith)
+selector-last t operationTag l n6 n7 n8 = absurd (n6 refl)
+selector-last t negationTag l n6 n7 n8 = absurd (n7 refl)
+selector-last t attributeReadTag l n6 n7 n8 = absurd (n8 refl)
+selector-last t selectorTag l n6 n7 n8 = refl
 
 module _ (m w out : List ℕ) (fill : ℕ) (scope : Scope) (d p : ℕ) where
   abbrev Said : Outcome Labelled → Type 0
@@ -101,8 +101,8 @@ module _ (m w out : List ℕ) (fill : ℕ) (scope : Scope) (d p : ℕ) where
       pub says-attribute : {a : Outcome Labelled} → t ≡ 0x18 → ((e : ℕ) → AttributeReadAt m e (d - 1) p → Tells m w out fill scope a (λ k c st. evaluate k c st (expressionAt m e p))) → StandsAs m d ExpressionKind p → Said a
       says-attribute is e s = e d (attribute-read-opens (s .stands) one-more (sym tag ∙ is))
 
-      pub says-selector : {a : Outcome Labelled} → 0x13 ≤ t → (t ≡ 0x13 → ⊥) → (t ≡ 0x14 → ⊥) → (t ≡ 0x15 → ⊥) → (t ≡ 0x16 → ⊥) → (t ≡ 0x17 → ⊥) → (t ≡ 0x18 → ⊥)
+      pub says-selector : {a : Outcome Labelled} → 0x16 ≤ t → (t ≡ 0x16 → ⊥) → (t ≡ 0x17 → ⊥) → (t ≡ 0x18 → ⊥)
           → ((e : ℕ) → SelectorAt m e (d - 1) p → Tells m w out fill scope a (λ k c st. evaluate k c st (expressionAt m e p))) → StandsAs m d ExpressionKind p → Said a
-      says-selector l n3 n4 n5 n6 n7 n8 e s =
-          let is = selector-last t (subst IsExpressionTag (sym tag) (expression-tag (byte m p) (s .kind))) l n3 n4 n5 n6 n7 n8 in
+      says-selector l n6 n7 n8 e s =
+          let is = selector-last t (subst IsExpressionTag (sym tag) (expression-tag (byte m p) (s .kind))) l n6 n7 n8 in
           e d (selector-opens (s .stands) one-more (sym tag ∙ is))

@@ -281,6 +281,19 @@ fn read_class(m: &[u8], work: &[u8], p: usize, class: u16, name: u16) -> Evaluat
     read_up(work, p, scope, name, 1)
 }
 
+// A variable: in a scope or those above it, in top, or in a class. Apart from `evaluate`, whose other answers then stay in registers.
+fn variable_read(m: &[u8], p: usize, work: &[u8], scope: Scope) -> Evaluated
+    requires { ⌜ (65536 ≤ length (now work)) × (p ≤ 65535) ⌝ }
+    ensures { λ r. ⌜ ((out : List ℕ) (fill d : ℕ) → StandsAs (now (m .entry)) d Expression p → 0x13 ≤ byte (now (m .entry)) p → byte (now (m .entry)) p < 0x16 → Tells (now (m .entry)) (now (work .entry)) out fill scope (evaluated r) (λ k c st. rules.evaluate k c st (expressionAt (now (m .entry)) d p))) ⌝ }
+{
+    let name = wire::two_at(m, p + 3);
+    match wire::byte_at(m, p) {
+        0x13 => read_up(work, p, scope, name, 1026),
+        0x14 => read_up(work, p, memory::TOP, name, 1),
+        _ => read_class(m, work, p, name, wire::two_at(m, p + 5)),
+    }
+}
+
 // The attribute that the field at p names, of the resource with this title, which stands at `title_place`.
 fn attribute_of(
     m: &[u8],
@@ -520,10 +533,10 @@ pub fn evaluate(
     if tag < 0x13 {
         return Evaluated::Value(constant_at(m, p));
     }
+    if tag < 0x16 {
+        return variable_read(m, p, work, scope);
+    }
     match tag {
-        0x13 => read_up(work, p, scope, wire::two_at(m, p + 3), 1026),
-        0x14 => read_up(work, p, memory::TOP, wire::two_at(m, p + 3), 1),
-        0x15 => read_class(m, work, p, wire::two_at(m, p + 3), wire::two_at(m, p + 5)),
         0x16 => operation(m, below, p, work, out, fill, scope),
         0x17 => negation(m, below, p, work, out, fill, scope),
         0x18 => attribute_read(m, below, p, work, out, fill, scope),

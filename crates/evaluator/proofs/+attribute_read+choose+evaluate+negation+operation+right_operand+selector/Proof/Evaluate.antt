@@ -1,7 +1,7 @@
 -- The answers of `evaluate`.
 use Prim.Native.Nat.{ℕ}
 use native.Mathlib.Omega.{arith}
-use Rattle.evaluator.proofs.Leaves.{no-level, says-constant, says-variable, says-top, says-class, says-operation, says-negation, says-attribute, says-selector}
+use Rattle.evaluator.proofs.Leaves.{no-level, says-constant, says-operation, says-negation, says-attribute, says-selector}
 use Rattle.evaluator.proofs.evaluate.Reads as evaluate
 use Rattle.evaluator.proofs.+attribute_read+choose+evaluate+negation+operation+right_operand+selector.Lts-evaluate as evaluate-lts
 use Rattle.evaluator.proofs.+attribute_read+choose+evaluate+negation+operation+right_operand+selector.Proof.Falls.{evaluate-calls, evaluate-at}
@@ -21,56 +21,34 @@ constant-at-requires t c κs = omega (arith, c .before .before .before .before .
 pub returns-2 : (t : ℕ) → evaluate-lts.Need-returns-2 (evaluate-calls t) (evaluate-at t) evaluate.Post
 returns-2 t c = says-constant _ _ _ _ _ _ _ (c .before .before .byte-at .ensures) (c .before .if2 .taken) (c .constant-at .ensures)
 
-pub add-two-at : (t : ℕ) → evaluate-lts.Need-add-two-at (evaluate-calls t) (evaluate-at t) evaluate.Post
-add-two-at t c = omega (arith, c .before .before .before .before .before .before .before .pre .1 .place)
-
-pub read-up-requires : (t : ℕ) → evaluate-lts.Need-read-up-requires (evaluate-calls t) (evaluate-at t) evaluate.Post
-read-up-requires t c κs = (c .before .before .before .before .before .before .before .before .pre .1 .memory, c .before .before .before .before .before .before .before .before .pre .1 .place)
-
-pub add-two-at-2 : (t : ℕ) → evaluate-lts.Need-add-two-at-2 (evaluate-calls t) (evaluate-at t) evaluate.Post
-add-two-at-2 t c = omega (arith, c .before .before .before .before .before .before .before .pre .1 .place)
-
-pub read-up-requires-2 : (t : ℕ) → evaluate-lts.Need-read-up-requires-2 (evaluate-calls t) (evaluate-at t) evaluate.Post
-read-up-requires-2 t c κs = (c .before .before .before .before .before .before .before .before .pre .1 .memory, c .before .before .before .before .before .before .before .before .pre .1 .place)
-
-pub add-two-at-3 : (t : ℕ) → evaluate-lts.Need-add-two-at-3 (evaluate-calls t) (evaluate-at t) evaluate.Post
-add-two-at-3 t c = omega (arith, c .before .before .before .before .before .before .before .pre .1 .place)
-
-pub add-two-at-4 : (t : ℕ) → evaluate-lts.Need-add-two-at-4 (evaluate-calls t) (evaluate-at t) evaluate.Post
-add-two-at-4 t c = omega (arith, c .before .before .before .before .before .before .before .before .pre .1 .place)
-
-pub read-class-requires : (t : ℕ) → evaluate-lts.Need-read-class-requires (evaluate-calls t) (evaluate-at t) evaluate.Post
-read-class-requires t c κs = (c .before .before .before .before .before .before .before .before .before .pre .1 .memory, c .before .before .before .before .before .before .before .before .before .pre .1 .place)
-
-pub operation-requires : (t : ℕ) → evaluate-lts.Need-operation-requires (evaluate-calls t) (evaluate-at t) evaluate.Post
-operation-requires t c κs = (omega (arith, c .before .before .before .before .before .before .before .pre .0, c .before .before .before .if1 .left), c .before .before .before .before .before .before .before .pre .1)
-
-pub negation-requires : (t : ℕ) → evaluate-lts.Need-negation-requires (evaluate-calls t) (evaluate-at t) evaluate.Post
-negation-requires t c κs = (omega (arith, c .before .before .before .before .before .before .before .pre .0, c .before .before .before .if1 .left), c .before .before .before .before .before .before .before .pre .1)
-
-pub attribute-read-requires : (t : ℕ) → evaluate-lts.Need-attribute-read-requires (evaluate-calls t) (evaluate-at t) evaluate.Post
-attribute-read-requires t c κs = (omega (arith, c .before .before .before .before .before .before .before .pre .0, c .before .before .before .if1 .left), c .before .before .before .before .before .before .before .pre .1)
-
-pub selector-requires : (t : ℕ) → evaluate-lts.Need-selector-requires (evaluate-calls t) (evaluate-at t) evaluate.Post
-selector-requires t c κs = (omega (arith, c .before .before .before .before .before .before .before .pre .0, c .before .before .before .if1 .left), c .before .before .before .before .before .before .before .pre .1)
+pub variable-read-requires : (t : ℕ) → evaluate-lts.Need-variable-read-requires (evaluate-calls t) (evaluate-at t) evaluate.Post
+variable-read-requires t c κs = (c .before .before .before .before .before .before .before .pre .1 .memory, c .before .before .before .before .before .before .before .pre .1 .place)
 
 pub returns-3 : (t : ℕ) → evaluate-lts.Need-returns-3 (evaluate-calls t) (evaluate-at t) evaluate.Post
-returns-3 t c = says-variable _ _ _ _ _ _ _ (c .before .before .before .before .byte-at .ensures) (c .before .before .match .keys1) (c .before .two-at .ensures) (c .read-up .ensures)
+returns-3 t c = λ s.
+    let tag = c .before .before .before .byte-at .ensures in
+    c .variable-read .ensures _ _ _ s (omega (arith, tag, c .before .before .if2 .left)) (omega (arith, tag, c .before .if3 .taken))
+
+pub operation-requires : (t : ℕ) → evaluate-lts.Need-operation-requires (evaluate-calls t) (evaluate-at t) evaluate.Post
+operation-requires t c κs = (omega (arith, c .before .before .before .before .before .before .before .before .pre .0, c .before .before .before .before .if1 .left), c .before .before .before .before .before .before .before .before .pre .1)
+
+pub negation-requires : (t : ℕ) → evaluate-lts.Need-negation-requires (evaluate-calls t) (evaluate-at t) evaluate.Post
+negation-requires t c κs = (omega (arith, c .before .before .before .before .before .before .before .before .pre .0, c .before .before .before .before .if1 .left), c .before .before .before .before .before .before .before .before .pre .1)
+
+pub attribute-read-requires : (t : ℕ) → evaluate-lts.Need-attribute-read-requires (evaluate-calls t) (evaluate-at t) evaluate.Post
+attribute-read-requires t c κs = (omega (arith, c .before .before .before .before .before .before .before .before .pre .0, c .before .before .before .before .if1 .left), c .before .before .before .before .before .before .before .before .pre .1)
+
+pub selector-requires : (t : ℕ) → evaluate-lts.Need-selector-requires (evaluate-calls t) (evaluate-at t) evaluate.Post
+selector-requires t c κs = (omega (arith, c .before .before .before .before .before .before .before .before .pre .0, c .before .before .before .before .if1 .left), c .before .before .before .before .before .before .before .before .pre .1)
 
 pub returns-4 : (t : ℕ) → evaluate-lts.Need-returns-4 (evaluate-calls t) (evaluate-at t) evaluate.Post
-returns-4 t c = says-top _ _ _ _ _ _ _ (c .before .before .before .before .byte-at .ensures) (c .before .before .match .keys2) (c .before .two-at2 .ensures) (c .read-up2 .ensures)
+returns-4 t c = says-operation _ _ _ _ _ _ _ (c .before .before .before .before .byte-at .ensures) (c .before .before .before .before .before .if1 .left) (c .before .match .keys1) (c .operation .ensures)
 
 pub returns-5 : (t : ℕ) → evaluate-lts.Need-returns-5 (evaluate-calls t) (evaluate-at t) evaluate.Post
-returns-5 t c = says-class _ _ _ _ _ _ _ (c .before .before .before .before .before .byte-at .ensures) (c .before .before .before .match .keys3) (c .before .before .two-at3 .ensures) (c .before .two-at4 .ensures) (c .read-class .ensures)
+returns-5 t c = says-negation _ _ _ _ _ _ _ (c .before .before .before .before .byte-at .ensures) (c .before .before .before .before .before .if1 .left) (c .before .match .keys2) (c .negation .ensures)
 
 pub returns-6 : (t : ℕ) → evaluate-lts.Need-returns-6 (evaluate-calls t) (evaluate-at t) evaluate.Post
-returns-6 t c = says-operation _ _ _ _ _ _ _ (c .before .before .before .byte-at .ensures) (c .before .before .before .before .if1 .left) (c .before .match .keys4) (c .operation .ensures)
+returns-6 t c = says-attribute _ _ _ _ _ _ _ (c .before .before .before .before .byte-at .ensures) (c .before .before .before .before .before .if1 .left) (c .before .match .keys3) (c .attribute-read .ensures)
 
 pub returns-7 : (t : ℕ) → evaluate-lts.Need-returns-7 (evaluate-calls t) (evaluate-at t) evaluate.Post
-returns-7 t c = says-negation _ _ _ _ _ _ _ (c .before .before .before .byte-at .ensures) (c .before .before .before .before .if1 .left) (c .before .match .keys5) (c .negation .ensures)
-
-pub returns-8 : (t : ℕ) → evaluate-lts.Need-returns-8 (evaluate-calls t) (evaluate-at t) evaluate.Post
-returns-8 t c = says-attribute _ _ _ _ _ _ _ (c .before .before .before .byte-at .ensures) (c .before .before .before .before .if1 .left) (c .before .match .keys6) (c .attribute-read .ensures)
-
-pub returns-9 : (t : ℕ) → evaluate-lts.Need-returns-9 (evaluate-calls t) (evaluate-at t) evaluate.Post
-returns-9 t c = says-selector _ _ _ _ _ _ _ (c .before .before .before .byte-at .ensures) (c .before .before .before .before .if1 .left) (c .before .before .if2 .left) (c .before .match .rest .0 .0 .0 .0 .0 .1) (c .before .match .rest .0 .0 .0 .0 .1) (c .before .match .rest .0 .0 .0 .1) (c .before .match .rest .0 .0 .1) (c .before .match .rest .0 .1) (c .before .match .rest .1) (c .selector .ensures)
+returns-7 t c = says-selector _ _ _ _ _ _ _ (c .before .before .before .before .byte-at .ensures) (c .before .before .before .before .before .if1 .left) (c .before .before .if3 .left) (c .before .match .rest .0 .0 .1) (c .before .match .rest .0 .1) (c .before .match .rest .1) (c .selector .ensures)

@@ -32,14 +32,12 @@ use Rattle.evaluator.proofs.joined.Reads as joined-reads
 use Rattle.evaluator.proofs.negated.Reads as negated-reads
 use Rattle.values.proofs.place.Reads as place-reads
 use Rattle.evaluator.proofs.plain_value.Reads as plain-value-reads
-use Rattle.evaluator.proofs.read_class.Reads as read-class-reads
-use Rattle.evaluator.proofs.read_up.Reads as read-up-reads
 use Rattle.values.proofs.Refusal.at.Reads as at-reads
 use Rattle.evaluator.proofs.try_pattern.Reads as try-pattern-reads
+use Rattle.evaluator.proofs.variable_read.Reads as variable-read-reads
 use Rattle.labels.proofs.Labels.union.Reads as union-reads
 use Rattle.wire.proofs.byte_at.Reads as byte-at-reads
 use Rattle.wire.proofs.end_of.Reads as end-of-reads
-use Rattle.wire.proofs.two_at.Reads as two-at-reads
 
 abbrev pub μ-attribute-read : Measures 3 attribute-read-kinds.ps ℕ
 μ-attribute-read κs a = 4 * a .1 .0 + 3
@@ -114,7 +112,7 @@ choose-calls t = (try-pattern-reads.Asked, try-pattern-reads.Learnt, union-reads
 
 -- what evaluate knows of its callees
 abbrev pub evaluate-calls : ℕ → evaluate-lts.Claims
-evaluate-calls t = (at-reads.Asked, at-reads.Learnt, byte-at-reads.Asked, byte-at-reads.Learnt, constant-at-reads.Asked, constant-at-reads.Learnt, two-at-reads.Asked, two-at-reads.Learnt, read-up-reads.Asked, read-up-reads.Learnt, read-class-reads.Asked, read-class-reads.Learnt, operation-below t, operation.Post, negation-below t, negation.Post, attribute-read-below t, attribute-read.Post, selector-below t, selector.Post)
+evaluate-calls t = (at-reads.Asked, at-reads.Learnt, byte-at-reads.Asked, byte-at-reads.Learnt, constant-at-reads.Asked, constant-at-reads.Learnt, variable-read-reads.Asked, variable-read-reads.Learnt, operation-below t, operation.Post, negation-below t, negation.Post, attribute-read-below t, attribute-read.Post, selector-below t, selector.Post)
 
 -- what negation knows of its callees
 abbrev pub negation-calls : ℕ → negation-lts.Claims
