@@ -21,7 +21,7 @@ extern "C" {
  * What is lent: `out` takes the catalog, `work` is working memory. What they hold before the call does not matter.
  * After it `out` holds the catalog and then zeros, or zeros alone after a refusal; `work` is zero throughout.
  * No byte outside the two is written, and nothing is kept between calls, so calls may run side by side. The deepest
- * manifests take 1.2 MiB of stack.
+ * manifests take 1 MiB of stack.
  *
  * What a caller owes, since nothing checks it: each pointer is not null, also for a length of 0, and is good for
  * its length; `out` and `work` overlap neither each other nor `manifest` or `device`.

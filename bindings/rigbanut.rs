@@ -74,7 +74,7 @@ impl Default for Compiler {
 }
 
 /// Compiles into lent memory. Afterwards `out` holds the catalog and then zeros, or zeros alone after a refusal, and
-/// `work` is zero throughout. The deepest manifests take 1.2 MiB of stack; a Rust thread has 2 MiB unless told otherwise.
+/// `work` is zero throughout. The deepest manifests take 1 MiB of stack; a Rust thread has 2 MiB unless told otherwise.
 pub fn compile_into(manifest: &[u8], device: &[u8], limit: u16, out: &mut [u8], work: &mut [u8]) -> Answer {
     // SAFETY: a Rust slice is what the function asks for. Its pointer is never null and is good for its length, and
     // the two that are lent exclusively overlap nothing. The function is proved to stay within all four.
