@@ -1,4 +1,4 @@
--- One law for each way through `run_class`, `run_include`, `declare_class`, `declare_parent` and `enter_class`, its premises as the callees ensure them.
+-- One law for each way through `gather_class`, `run_include`, `declare_class`, `declare_parent` and `enter_class`, its premises as the callees ensure them.
 use Prim.Native.Nat.{ℕ, zero, suc, _+_, _-_, _≤_, _<_}
 use mathlib.Core.Path.{_≡_, refl, sym, ap, _∙_, subst}
 use mathlib.Core.Bool.{Bool, true, false, _&&_}
@@ -73,7 +73,7 @@ module _ {m w : List ℕ} {d : ℕ} (set : Set m w) (s : ClassStands m d) where
   pub class-near : d + 8 ≤ 65535
   class-near = omega (arith, header-within (class-definition-opens (s .stands .stands) (s .tag) .first), set .manifest)
 
--- ---- The ways of `run_class`
+-- ---- The ways of `gather_class`
 
 module _ {m : List ℕ} {d p : ℕ} (s : StandsAs m d StatementKind p) (tag : byte m p ≡ 0x28) where
   pub class-attributes : {end : ℕ} → end ≡ endOf m p → Siblings m (d - 1) AttributeKind (p + 5) end

@@ -1,4 +1,4 @@
--- One law for each way through `run_defined`, `declare_type` and `run_body`, its premises as the callees ensure them.
+-- One law for each way through `gather_type`, `declare_type` and `run_body`, its premises as the callees ensure them.
 use Prim.Native.Nat.{ℕ, suc, _+_, _-_, _<_}
 use mathlib.Core.Path.{_≡_, refl, sym, ap, _∙_, subst}
 use mathlib.Core.List.{List}
@@ -51,7 +51,7 @@ pub defined-name : {m w : List ℕ} {d p : ℕ} → Set m w → StandsAs m d Sta
 unfolding formOf formIn forms
 defined-name set s tag known = name-small (s .stands) tag refl (set .strings) known
 
--- ---- The ways of `run_defined`
+-- ---- The ways of `gather_type`
 
 module _ {m : List ℕ} {d p : ℕ} (s : StandsAs m d StatementKind p) (tag : byte m p ≡ 0x27) where
   defined-runs : (k : Known) (declare : Declare) (c : Context) (st : State) → run k declare (statementAt m d p) c st ≡ (titledAt m (d - 1) p k c st >>= λ x. declare (ofType p (two m (p + 3)) (x .title) (x .given)) c st)

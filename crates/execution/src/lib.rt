@@ -116,8 +116,8 @@ fn run_begun(
         0x22 => run_if(m, depth, p, work, out, fill, left, levels, here),
         0x23 => run_case(m, depth, p, work, out, fill, left, levels, here),
         0x25 => run_resource(m, depth, p, work, out, fill, here),
-        0x27 => run_type_declaration(m, depth, p, work, out, fill, left, levels, here),
-        0x28 => run_class_declaration(m, depth, p, work, out, fill, left, levels, here),
+        0x27 => run_type(m, depth, p, work, out, fill, left, levels, here),
+        0x28 => run_class(m, depth, p, work, out, fill, left, levels, here),
         _ => run_include(m, p, work, out, fill, left, levels, here),
     }
 }
@@ -264,7 +264,7 @@ fn run_case(
 // ---- Declarations
 
 // The 27 at p. Where nothing is given no table is made.
-fn run_type_declaration(
+fn run_type(
     m: &[u8],
     depth: u8,
     p: usize,
@@ -281,13 +281,13 @@ fn run_type_declaration(
     let first = wire::end_of(m, p + 5);
     if wire::end_of(m, p) <= first {
         let mut none = [0u8; 1];
-        return run_defined(m, depth, p, work, out, fill, left, levels, here, &mut none);
+        return gather_type(m, depth, p, work, out, fill, left, levels, here, &mut none);
     }
     run_given(m, depth, p, first, work, out, fill, left, levels, here)
 }
 
 // The 28 at p, likewise.
-fn run_class_declaration(
+fn run_class(
     m: &[u8],
     depth: u8,
     p: usize,
@@ -304,7 +304,7 @@ fn run_class_declaration(
     let first = p + 5;
     if wire::end_of(m, p) <= first {
         let mut none = [0u8; 1];
-        return run_class(m, depth, p, work, out, fill, left, levels, here, &mut none);
+        return gather_class(m, depth, p, work, out, fill, left, levels, here, &mut none);
     }
     run_given(m, depth, p, first, work, out, fill, left, levels, here)
 }
@@ -330,14 +330,14 @@ fn run_given(
     let end = wire::end_of(m, p);
     if attributes::has_name_from(m, first, end, SMALL_NAMES) {
         let mut table = [0u8; TABLE];
-        return run_tabled(m, depth, p, work, out, fill, left, levels, here, &mut table);
+        return gather(m, depth, p, work, out, fill, left, levels, here, &mut table);
     }
     let mut table = [0u8; SMALL_TABLE];
-    run_tabled(m, depth, p, work, out, fill, left, levels, here, &mut table)
+    gather(m, depth, p, work, out, fill, left, levels, here, &mut table)
 }
 
-// The same, with a table for its attributes.
-fn run_tabled(
+// The same, with the table: the attributes are gathered in it, and then the type or the class is declared.
+fn gather(
     m: &[u8],
     depth: u8,
     p: usize,
@@ -353,15 +353,15 @@ fn run_tabled(
     ensures { λ r. ⌜ Executes (now (m .entry)) (now (work .entry)) (now (work .exit)) (now (out .entry)) (now (out .exit)) fill (now (left .entry)) (now (left .exit)) (contextOf here) r (λ k. run k (declaration k levels) (statementAt (now (m .entry)) depth p)) ⌝ }
 {
     if wire::byte_at(m, p) == 0x28 {
-        return run_class(m, depth, p, work, out, fill, left, levels, here, table);
+        return gather_class(m, depth, p, work, out, fill, left, levels, here, table);
     }
-    run_defined(m, depth, p, work, out, fill, left, levels, here, table)
+    gather_type(m, depth, p, work, out, fill, left, levels, here, table)
 }
 
 // ---- Types
 
-// The 27 at p, with a table for its attributes.
-fn run_defined(
+// The 27 at p: its title is evaluated, its attributes are gathered in the table, and then its type is declared.
+fn gather_type(
     m: &[u8],
     depth: u8,
     p: usize,
@@ -457,8 +457,8 @@ fn run_body(
 
 // ---- Classes
 
-// The 28 at p, with a table for its attributes.
-fn run_class(
+// The 28 at p: its attributes are gathered in the table, and then its class is declared.
+fn gather_class(
     m: &[u8],
     depth: u8,
     p: usize,

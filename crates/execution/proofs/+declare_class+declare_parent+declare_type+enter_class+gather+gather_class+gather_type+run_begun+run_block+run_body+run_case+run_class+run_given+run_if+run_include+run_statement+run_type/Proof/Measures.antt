@@ -5,55 +5,55 @@ use borrow.Fn.Kinds.{In}
 use borrow.Fn.PlainCycle.{Measures, is, falls, and}
 use Rattle.execution.proofs.declare_class.Reads as declare-class
 use Rattle.execution.proofs.declare_class.Kinds as declare-class-kinds
-use Rattle.execution.proofs.+declare_class+declare_parent+declare_type+enter_class+run_begun+run_block+run_body+run_case+run_class+run_class_declaration+run_defined+run_given+run_if+run_include+run_statement+run_tabled+run_type_declaration.Lts-declare_class as declare-class-lts
+use Rattle.execution.proofs.+declare_class+declare_parent+declare_type+enter_class+gather+gather_class+gather_type+run_begun+run_block+run_body+run_case+run_class+run_given+run_if+run_include+run_statement+run_type.Lts-declare_class as declare-class-lts
 use Rattle.execution.proofs.declare_parent.Reads as declare-parent
 use Rattle.execution.proofs.declare_parent.Kinds as declare-parent-kinds
-use Rattle.execution.proofs.+declare_class+declare_parent+declare_type+enter_class+run_begun+run_block+run_body+run_case+run_class+run_class_declaration+run_defined+run_given+run_if+run_include+run_statement+run_tabled+run_type_declaration.Lts-declare_parent as declare-parent-lts
+use Rattle.execution.proofs.+declare_class+declare_parent+declare_type+enter_class+gather+gather_class+gather_type+run_begun+run_block+run_body+run_case+run_class+run_given+run_if+run_include+run_statement+run_type.Lts-declare_parent as declare-parent-lts
 use Rattle.execution.proofs.declare_type.Reads as declare-type
 use Rattle.execution.proofs.declare_type.Kinds as declare-type-kinds
-use Rattle.execution.proofs.+declare_class+declare_parent+declare_type+enter_class+run_begun+run_block+run_body+run_case+run_class+run_class_declaration+run_defined+run_given+run_if+run_include+run_statement+run_tabled+run_type_declaration.Lts-declare_type as declare-type-lts
+use Rattle.execution.proofs.+declare_class+declare_parent+declare_type+enter_class+gather+gather_class+gather_type+run_begun+run_block+run_body+run_case+run_class+run_given+run_if+run_include+run_statement+run_type.Lts-declare_type as declare-type-lts
 use Rattle.execution.proofs.enter_class.Reads as enter-class
 use Rattle.execution.proofs.enter_class.Kinds as enter-class-kinds
-use Rattle.execution.proofs.+declare_class+declare_parent+declare_type+enter_class+run_begun+run_block+run_body+run_case+run_class+run_class_declaration+run_defined+run_given+run_if+run_include+run_statement+run_tabled+run_type_declaration.Lts-enter_class as enter-class-lts
+use Rattle.execution.proofs.+declare_class+declare_parent+declare_type+enter_class+gather+gather_class+gather_type+run_begun+run_block+run_body+run_case+run_class+run_given+run_if+run_include+run_statement+run_type.Lts-enter_class as enter-class-lts
+use Rattle.execution.proofs.gather.Reads as gather
+use Rattle.execution.proofs.gather.Kinds as gather-kinds
+use Rattle.execution.proofs.+declare_class+declare_parent+declare_type+enter_class+gather+gather_class+gather_type+run_begun+run_block+run_body+run_case+run_class+run_given+run_if+run_include+run_statement+run_type.Lts-gather as gather-lts
+use Rattle.execution.proofs.gather_class.Reads as gather-class
+use Rattle.execution.proofs.gather_class.Kinds as gather-class-kinds
+use Rattle.execution.proofs.+declare_class+declare_parent+declare_type+enter_class+gather+gather_class+gather_type+run_begun+run_block+run_body+run_case+run_class+run_given+run_if+run_include+run_statement+run_type.Lts-gather_class as gather-class-lts
+use Rattle.execution.proofs.gather_type.Reads as gather-type
+use Rattle.execution.proofs.gather_type.Kinds as gather-type-kinds
+use Rattle.execution.proofs.+declare_class+declare_parent+declare_type+enter_class+gather+gather_class+gather_type+run_begun+run_block+run_body+run_case+run_class+run_given+run_if+run_include+run_statement+run_type.Lts-gather_type as gather-type-lts
 use Rattle.execution.proofs.run_begun.Reads as run-begun
 use Rattle.execution.proofs.run_begun.Kinds as run-begun-kinds
-use Rattle.execution.proofs.+declare_class+declare_parent+declare_type+enter_class+run_begun+run_block+run_body+run_case+run_class+run_class_declaration+run_defined+run_given+run_if+run_include+run_statement+run_tabled+run_type_declaration.Lts-run_begun as run-begun-lts
+use Rattle.execution.proofs.+declare_class+declare_parent+declare_type+enter_class+gather+gather_class+gather_type+run_begun+run_block+run_body+run_case+run_class+run_given+run_if+run_include+run_statement+run_type.Lts-run_begun as run-begun-lts
 use Rattle.execution.proofs.run_block.Reads as run-block
 use Rattle.execution.proofs.run_block.Kinds as run-block-kinds
-use Rattle.execution.proofs.+declare_class+declare_parent+declare_type+enter_class+run_begun+run_block+run_body+run_case+run_class+run_class_declaration+run_defined+run_given+run_if+run_include+run_statement+run_tabled+run_type_declaration.Lts-run_block as run-block-lts
+use Rattle.execution.proofs.+declare_class+declare_parent+declare_type+enter_class+gather+gather_class+gather_type+run_begun+run_block+run_body+run_case+run_class+run_given+run_if+run_include+run_statement+run_type.Lts-run_block as run-block-lts
 use Rattle.execution.proofs.run_body.Reads as run-body
 use Rattle.execution.proofs.run_body.Kinds as run-body-kinds
-use Rattle.execution.proofs.+declare_class+declare_parent+declare_type+enter_class+run_begun+run_block+run_body+run_case+run_class+run_class_declaration+run_defined+run_given+run_if+run_include+run_statement+run_tabled+run_type_declaration.Lts-run_body as run-body-lts
+use Rattle.execution.proofs.+declare_class+declare_parent+declare_type+enter_class+gather+gather_class+gather_type+run_begun+run_block+run_body+run_case+run_class+run_given+run_if+run_include+run_statement+run_type.Lts-run_body as run-body-lts
 use Rattle.execution.proofs.run_case.Reads as run-case
 use Rattle.execution.proofs.run_case.Kinds as run-case-kinds
-use Rattle.execution.proofs.+declare_class+declare_parent+declare_type+enter_class+run_begun+run_block+run_body+run_case+run_class+run_class_declaration+run_defined+run_given+run_if+run_include+run_statement+run_tabled+run_type_declaration.Lts-run_case as run-case-lts
+use Rattle.execution.proofs.+declare_class+declare_parent+declare_type+enter_class+gather+gather_class+gather_type+run_begun+run_block+run_body+run_case+run_class+run_given+run_if+run_include+run_statement+run_type.Lts-run_case as run-case-lts
 use Rattle.execution.proofs.run_class.Reads as run-class
 use Rattle.execution.proofs.run_class.Kinds as run-class-kinds
-use Rattle.execution.proofs.+declare_class+declare_parent+declare_type+enter_class+run_begun+run_block+run_body+run_case+run_class+run_class_declaration+run_defined+run_given+run_if+run_include+run_statement+run_tabled+run_type_declaration.Lts-run_class as run-class-lts
-use Rattle.execution.proofs.run_class_declaration.Reads as run-class-declaration
-use Rattle.execution.proofs.run_class_declaration.Kinds as run-class-declaration-kinds
-use Rattle.execution.proofs.+declare_class+declare_parent+declare_type+enter_class+run_begun+run_block+run_body+run_case+run_class+run_class_declaration+run_defined+run_given+run_if+run_include+run_statement+run_tabled+run_type_declaration.Lts-run_class_declaration as run-class-declaration-lts
-use Rattle.execution.proofs.run_defined.Reads as run-defined
-use Rattle.execution.proofs.run_defined.Kinds as run-defined-kinds
-use Rattle.execution.proofs.+declare_class+declare_parent+declare_type+enter_class+run_begun+run_block+run_body+run_case+run_class+run_class_declaration+run_defined+run_given+run_if+run_include+run_statement+run_tabled+run_type_declaration.Lts-run_defined as run-defined-lts
+use Rattle.execution.proofs.+declare_class+declare_parent+declare_type+enter_class+gather+gather_class+gather_type+run_begun+run_block+run_body+run_case+run_class+run_given+run_if+run_include+run_statement+run_type.Lts-run_class as run-class-lts
 use Rattle.execution.proofs.run_given.Reads as run-given
 use Rattle.execution.proofs.run_given.Kinds as run-given-kinds
-use Rattle.execution.proofs.+declare_class+declare_parent+declare_type+enter_class+run_begun+run_block+run_body+run_case+run_class+run_class_declaration+run_defined+run_given+run_if+run_include+run_statement+run_tabled+run_type_declaration.Lts-run_given as run-given-lts
+use Rattle.execution.proofs.+declare_class+declare_parent+declare_type+enter_class+gather+gather_class+gather_type+run_begun+run_block+run_body+run_case+run_class+run_given+run_if+run_include+run_statement+run_type.Lts-run_given as run-given-lts
 use Rattle.execution.proofs.run_if.Reads as run-if
 use Rattle.execution.proofs.run_if.Kinds as run-if-kinds
-use Rattle.execution.proofs.+declare_class+declare_parent+declare_type+enter_class+run_begun+run_block+run_body+run_case+run_class+run_class_declaration+run_defined+run_given+run_if+run_include+run_statement+run_tabled+run_type_declaration.Lts-run_if as run-if-lts
+use Rattle.execution.proofs.+declare_class+declare_parent+declare_type+enter_class+gather+gather_class+gather_type+run_begun+run_block+run_body+run_case+run_class+run_given+run_if+run_include+run_statement+run_type.Lts-run_if as run-if-lts
 use Rattle.execution.proofs.run_include.Reads as run-include
 use Rattle.execution.proofs.run_include.Kinds as run-include-kinds
-use Rattle.execution.proofs.+declare_class+declare_parent+declare_type+enter_class+run_begun+run_block+run_body+run_case+run_class+run_class_declaration+run_defined+run_given+run_if+run_include+run_statement+run_tabled+run_type_declaration.Lts-run_include as run-include-lts
+use Rattle.execution.proofs.+declare_class+declare_parent+declare_type+enter_class+gather+gather_class+gather_type+run_begun+run_block+run_body+run_case+run_class+run_given+run_if+run_include+run_statement+run_type.Lts-run_include as run-include-lts
 use Rattle.execution.proofs.run_statement.Reads as run-statement
 use Rattle.execution.proofs.run_statement.Kinds as run-statement-kinds
-use Rattle.execution.proofs.+declare_class+declare_parent+declare_type+enter_class+run_begun+run_block+run_body+run_case+run_class+run_class_declaration+run_defined+run_given+run_if+run_include+run_statement+run_tabled+run_type_declaration.Lts-run_statement as run-statement-lts
-use Rattle.execution.proofs.run_tabled.Reads as run-tabled
-use Rattle.execution.proofs.run_tabled.Kinds as run-tabled-kinds
-use Rattle.execution.proofs.+declare_class+declare_parent+declare_type+enter_class+run_begun+run_block+run_body+run_case+run_class+run_class_declaration+run_defined+run_given+run_if+run_include+run_statement+run_tabled+run_type_declaration.Lts-run_tabled as run-tabled-lts
-use Rattle.execution.proofs.run_type_declaration.Reads as run-type-declaration
-use Rattle.execution.proofs.run_type_declaration.Kinds as run-type-declaration-kinds
-use Rattle.execution.proofs.+declare_class+declare_parent+declare_type+enter_class+run_begun+run_block+run_body+run_case+run_class+run_class_declaration+run_defined+run_given+run_if+run_include+run_statement+run_tabled+run_type_declaration.Lts-run_type_declaration as run-type-declaration-lts
+use Rattle.execution.proofs.+declare_class+declare_parent+declare_type+enter_class+gather+gather_class+gather_type+run_begun+run_block+run_body+run_case+run_class+run_given+run_if+run_include+run_statement+run_type.Lts-run_statement as run-statement-lts
+use Rattle.execution.proofs.run_type.Reads as run-type
+use Rattle.execution.proofs.run_type.Kinds as run-type-kinds
+use Rattle.execution.proofs.+declare_class+declare_parent+declare_type+enter_class+gather+gather_class+gather_type+run_begun+run_block+run_body+run_case+run_class+run_given+run_if+run_include+run_statement+run_type.Lts-run_type as run-type-lts
 use Rattle.wire.proofs.byte_at.Reads as byte-at-reads
 use Rattle.declarations.proofs.check_class.Reads as check-class-reads
 use Rattle.execution.proofs.chosen_block.Reads as chosen-block-reads
@@ -88,6 +88,15 @@ abbrev pub μ-declare-type : Measures 5 declare-type-kinds.ps ℕ
 abbrev pub μ-enter-class : Measures 5 enter-class-kinds.ps ℕ
 μ-enter-class κs a = a .1 .1 .1 .1 .1 .1 .0 .now + 512 * a .1 .1 .1 .1 .1 .1 .1 .0 + 256
 
+abbrev pub μ-gather : Measures 5 gather-kinds.ps ℕ
+μ-gather κs a = a .1 .1 .1 .1 .1 .1 .0 .now + 512 * a .1 .1 .1 .1 .1 .1 .1 .0 + 8 * a .1 .0 + 3
+
+abbrev pub μ-gather-class : Measures 5 gather-class-kinds.ps ℕ
+μ-gather-class κs a = a .1 .1 .1 .1 .1 .1 .0 .now + 512 * a .1 .1 .1 .1 .1 .1 .1 .0 + 8 * a .1 .0 + 2
+
+abbrev pub μ-gather-type : Measures 5 gather-type-kinds.ps ℕ
+μ-gather-type κs a = a .1 .1 .1 .1 .1 .1 .0 .now + 512 * a .1 .1 .1 .1 .1 .1 .1 .0 + 8 * a .1 .0 + 2
+
 abbrev pub μ-run-begun : Measures 4 run-begun-kinds.ps ℕ
 μ-run-begun κs a = a .1 .1 .1 .1 .1 .1 .0 .now + 512 * a .1 .1 .1 .1 .1 .1 .1 .0 + 8 * a .1 .0 + 6
 
@@ -100,14 +109,8 @@ abbrev pub μ-run-body : Measures 4 run-body-kinds.ps ℕ
 abbrev pub μ-run-case : Measures 4 run-case-kinds.ps ℕ
 μ-run-case κs a = a .1 .1 .1 .1 .1 .1 .0 .now + 512 * a .1 .1 .1 .1 .1 .1 .1 .0 + 8 * a .1 .0 + 5
 
-abbrev pub μ-run-class : Measures 5 run-class-kinds.ps ℕ
-μ-run-class κs a = a .1 .1 .1 .1 .1 .1 .0 .now + 512 * a .1 .1 .1 .1 .1 .1 .1 .0 + 8 * a .1 .0 + 2
-
-abbrev pub μ-run-class-declaration : Measures 4 run-class-declaration-kinds.ps ℕ
-μ-run-class-declaration κs a = a .1 .1 .1 .1 .1 .1 .0 .now + 512 * a .1 .1 .1 .1 .1 .1 .1 .0 + 8 * a .1 .0 + 5
-
-abbrev pub μ-run-defined : Measures 5 run-defined-kinds.ps ℕ
-μ-run-defined κs a = a .1 .1 .1 .1 .1 .1 .0 .now + 512 * a .1 .1 .1 .1 .1 .1 .1 .0 + 8 * a .1 .0 + 2
+abbrev pub μ-run-class : Measures 4 run-class-kinds.ps ℕ
+μ-run-class κs a = a .1 .1 .1 .1 .1 .1 .0 .now + 512 * a .1 .1 .1 .1 .1 .1 .1 .0 + 8 * a .1 .0 + 5
 
 abbrev pub μ-run-given : Measures 4 run-given-kinds.ps ℕ
 μ-run-given κs a = a .1 .1 .1 .1 .1 .1 .1 .0 .now + 512 * a .1 .1 .1 .1 .1 .1 .1 .1 .0 + 8 * a .1 .0 + 4
@@ -121,11 +124,8 @@ abbrev pub μ-run-include : Measures 4 run-include-kinds.ps ℕ
 abbrev pub μ-run-statement : Measures 4 run-statement-kinds.ps ℕ
 μ-run-statement κs a = a .1 .1 .1 .1 .1 .1 .0 .now + 512 * a .1 .1 .1 .1 .1 .1 .1 .0 + 8 * a .1 .0 + 7
 
-abbrev pub μ-run-tabled : Measures 5 run-tabled-kinds.ps ℕ
-μ-run-tabled κs a = a .1 .1 .1 .1 .1 .1 .0 .now + 512 * a .1 .1 .1 .1 .1 .1 .1 .0 + 8 * a .1 .0 + 3
-
-abbrev pub μ-run-type-declaration : Measures 4 run-type-declaration-kinds.ps ℕ
-μ-run-type-declaration κs a = a .1 .1 .1 .1 .1 .1 .0 .now + 512 * a .1 .1 .1 .1 .1 .1 .1 .0 + 8 * a .1 .0 + 5
+abbrev pub μ-run-type : Measures 4 run-type-kinds.ps ℕ
+μ-run-type κs a = a .1 .1 .1 .1 .1 .1 .0 .now + 512 * a .1 .1 .1 .1 .1 .1 .1 .0 + 8 * a .1 .0 + 5
 
 abbrev pub declare-class-at : ℕ → In 5 declare-class-kinds.ps
 declare-class-at t = and 5 declare-class-kinds.ps (is 5 declare-class-kinds.ps μ-declare-class t) declare-class.Pre
@@ -151,6 +151,24 @@ enter-class-at t = and 5 enter-class-kinds.ps (is 5 enter-class-kinds.ps μ-ente
 abbrev pub enter-class-below : ℕ → In 5 enter-class-kinds.ps
 enter-class-below t = and 5 enter-class-kinds.ps (falls 5 enter-class-kinds.ps _<_ μ-enter-class t) enter-class.Pre
 
+abbrev pub gather-at : ℕ → In 5 gather-kinds.ps
+gather-at t = and 5 gather-kinds.ps (is 5 gather-kinds.ps μ-gather t) gather.Pre
+
+abbrev pub gather-below : ℕ → In 5 gather-kinds.ps
+gather-below t = and 5 gather-kinds.ps (falls 5 gather-kinds.ps _<_ μ-gather t) gather.Pre
+
+abbrev pub gather-class-at : ℕ → In 5 gather-class-kinds.ps
+gather-class-at t = and 5 gather-class-kinds.ps (is 5 gather-class-kinds.ps μ-gather-class t) gather-class.Pre
+
+abbrev pub gather-class-below : ℕ → In 5 gather-class-kinds.ps
+gather-class-below t = and 5 gather-class-kinds.ps (falls 5 gather-class-kinds.ps _<_ μ-gather-class t) gather-class.Pre
+
+abbrev pub gather-type-at : ℕ → In 5 gather-type-kinds.ps
+gather-type-at t = and 5 gather-type-kinds.ps (is 5 gather-type-kinds.ps μ-gather-type t) gather-type.Pre
+
+abbrev pub gather-type-below : ℕ → In 5 gather-type-kinds.ps
+gather-type-below t = and 5 gather-type-kinds.ps (falls 5 gather-type-kinds.ps _<_ μ-gather-type t) gather-type.Pre
+
 abbrev pub run-begun-at : ℕ → In 4 run-begun-kinds.ps
 run-begun-at t = and 4 run-begun-kinds.ps (is 4 run-begun-kinds.ps μ-run-begun t) run-begun.Pre
 
@@ -175,23 +193,11 @@ run-case-at t = and 4 run-case-kinds.ps (is 4 run-case-kinds.ps μ-run-case t) r
 abbrev pub run-case-below : ℕ → In 4 run-case-kinds.ps
 run-case-below t = and 4 run-case-kinds.ps (falls 4 run-case-kinds.ps _<_ μ-run-case t) run-case.Pre
 
-abbrev pub run-class-at : ℕ → In 5 run-class-kinds.ps
-run-class-at t = and 5 run-class-kinds.ps (is 5 run-class-kinds.ps μ-run-class t) run-class.Pre
+abbrev pub run-class-at : ℕ → In 4 run-class-kinds.ps
+run-class-at t = and 4 run-class-kinds.ps (is 4 run-class-kinds.ps μ-run-class t) run-class.Pre
 
-abbrev pub run-class-below : ℕ → In 5 run-class-kinds.ps
-run-class-below t = and 5 run-class-kinds.ps (falls 5 run-class-kinds.ps _<_ μ-run-class t) run-class.Pre
-
-abbrev pub run-class-declaration-at : ℕ → In 4 run-class-declaration-kinds.ps
-run-class-declaration-at t = and 4 run-class-declaration-kinds.ps (is 4 run-class-declaration-kinds.ps μ-run-class-declaration t) run-class-declaration.Pre
-
-abbrev pub run-class-declaration-below : ℕ → In 4 run-class-declaration-kinds.ps
-run-class-declaration-below t = and 4 run-class-declaration-kinds.ps (falls 4 run-class-declaration-kinds.ps _<_ μ-run-class-declaration t) run-class-declaration.Pre
-
-abbrev pub run-defined-at : ℕ → In 5 run-defined-kinds.ps
-run-defined-at t = and 5 run-defined-kinds.ps (is 5 run-defined-kinds.ps μ-run-defined t) run-defined.Pre
-
-abbrev pub run-defined-below : ℕ → In 5 run-defined-kinds.ps
-run-defined-below t = and 5 run-defined-kinds.ps (falls 5 run-defined-kinds.ps _<_ μ-run-defined t) run-defined.Pre
+abbrev pub run-class-below : ℕ → In 4 run-class-kinds.ps
+run-class-below t = and 4 run-class-kinds.ps (falls 4 run-class-kinds.ps _<_ μ-run-class t) run-class.Pre
 
 abbrev pub run-given-at : ℕ → In 4 run-given-kinds.ps
 run-given-at t = and 4 run-given-kinds.ps (is 4 run-given-kinds.ps μ-run-given t) run-given.Pre
@@ -217,17 +223,11 @@ run-statement-at t = and 4 run-statement-kinds.ps (is 4 run-statement-kinds.ps �
 abbrev pub run-statement-below : ℕ → In 4 run-statement-kinds.ps
 run-statement-below t = and 4 run-statement-kinds.ps (falls 4 run-statement-kinds.ps _<_ μ-run-statement t) run-statement.Pre
 
-abbrev pub run-tabled-at : ℕ → In 5 run-tabled-kinds.ps
-run-tabled-at t = and 5 run-tabled-kinds.ps (is 5 run-tabled-kinds.ps μ-run-tabled t) run-tabled.Pre
+abbrev pub run-type-at : ℕ → In 4 run-type-kinds.ps
+run-type-at t = and 4 run-type-kinds.ps (is 4 run-type-kinds.ps μ-run-type t) run-type.Pre
 
-abbrev pub run-tabled-below : ℕ → In 5 run-tabled-kinds.ps
-run-tabled-below t = and 5 run-tabled-kinds.ps (falls 5 run-tabled-kinds.ps _<_ μ-run-tabled t) run-tabled.Pre
-
-abbrev pub run-type-declaration-at : ℕ → In 4 run-type-declaration-kinds.ps
-run-type-declaration-at t = and 4 run-type-declaration-kinds.ps (is 4 run-type-declaration-kinds.ps μ-run-type-declaration t) run-type-declaration.Pre
-
-abbrev pub run-type-declaration-below : ℕ → In 4 run-type-declaration-kinds.ps
-run-type-declaration-below t = and 4 run-type-declaration-kinds.ps (falls 4 run-type-declaration-kinds.ps _<_ μ-run-type-declaration t) run-type-declaration.Pre
+abbrev pub run-type-below : ℕ → In 4 run-type-kinds.ps
+run-type-below t = and 4 run-type-kinds.ps (falls 4 run-type-kinds.ps _<_ μ-run-type t) run-type.Pre
 
 abbrev pub declare-class-calls : ℕ → declare-class-lts.Claims
 declare-class-calls t = (at-reads.Asked, at-reads.Learnt, check-class-reads.Asked, check-class-reads.Learnt, declare-parent-below t, declare-parent.Post, is-declared-reads.Asked, is-declared-reads.Learnt, declared-meanwhile-reads.Asked, declared-meanwhile-reads.Learnt, enter-class-below t, enter-class.Post)
@@ -241,8 +241,17 @@ declare-type-calls t = (at-reads.Asked, at-reads.Learnt, end-of-reads.Asked, end
 abbrev pub enter-class-calls : ℕ → enter-class-lts.Claims
 enter-class-calls t = (start-class-reads.Asked, start-class-reads.Learnt, run-block-below t, run-block.Post)
 
+abbrev pub gather-calls : ℕ → gather-lts.Claims
+gather-calls t = (byte-at-reads.Asked, byte-at-reads.Learnt, gather-class-below t, gather-class.Post, gather-type-below t, gather-type.Post)
+
+abbrev pub gather-class-calls : ℕ → gather-class-lts.Claims
+gather-class-calls t = (end-of-reads.Asked, end-of-reads.Learnt, evaluate-attributes-reads.Asked, evaluate-attributes-reads.Learnt, two-at-reads.Asked, two-at-reads.Learnt, declare-class-below t, declare-class.Post)
+
+abbrev pub gather-type-calls : ℕ → gather-type-lts.Claims
+gather-type-calls t = (evaluate-titled-reads.Asked, evaluate-titled-reads.Learnt, declare-type-below t, declare-type.Post)
+
 abbrev pub run-begun-calls : ℕ → run-begun-lts.Claims
-run-begun-calls t = (byte-at-reads.Asked, byte-at-reads.Learnt, run-assignment-reads.Asked, run-assignment-reads.Learnt, run-if-below t, run-if.Post, run-case-below t, run-case.Post, run-resource-reads.Asked, run-resource-reads.Learnt, run-type-declaration-below t, run-type-declaration.Post, run-class-declaration-below t, run-class-declaration.Post, run-include-below t, run-include.Post)
+run-begun-calls t = (byte-at-reads.Asked, byte-at-reads.Learnt, run-assignment-reads.Asked, run-assignment-reads.Learnt, run-if-below t, run-if.Post, run-case-below t, run-case.Post, run-resource-reads.Asked, run-resource-reads.Learnt, run-type-below t, run-type.Post, run-class-below t, run-class.Post, run-include-below t, run-include.Post)
 
 abbrev pub run-block-calls : ℕ → run-block-lts.Claims
 run-block-calls t = (end-of-reads.Asked, end-of-reads.Learnt, run-statement-below t, run-statement.Post)
@@ -254,16 +263,10 @@ abbrev pub run-case-calls : ℕ → run-case-lts.Claims
 run-case-calls t = (test-case-reads.Asked, test-case-reads.Learnt, is-empty-block-reads.Asked, is-empty-block-reads.Learnt, branch-context-reads.Asked, branch-context-reads.Learnt, run-block-below t, run-block.Post)
 
 abbrev pub run-class-calls : ℕ → run-class-lts.Claims
-run-class-calls t = (end-of-reads.Asked, end-of-reads.Learnt, evaluate-attributes-reads.Asked, evaluate-attributes-reads.Learnt, two-at-reads.Asked, two-at-reads.Learnt, declare-class-below t, declare-class.Post)
-
-abbrev pub run-class-declaration-calls : ℕ → run-class-declaration-lts.Claims
-run-class-declaration-calls t = (end-of-reads.Asked, end-of-reads.Learnt, run-class-below t, run-class.Post, run-given-below t, run-given.Post)
-
-abbrev pub run-defined-calls : ℕ → run-defined-lts.Claims
-run-defined-calls t = (evaluate-titled-reads.Asked, evaluate-titled-reads.Learnt, declare-type-below t, declare-type.Post)
+run-class-calls t = (end-of-reads.Asked, end-of-reads.Learnt, gather-class-below t, gather-class.Post, run-given-below t, run-given.Post)
 
 abbrev pub run-given-calls : ℕ → run-given-lts.Claims
-run-given-calls t = (end-of-reads.Asked, end-of-reads.Learnt, has-name-from-reads.Asked, has-name-from-reads.Learnt, run-tabled-below t, run-tabled.Post)
+run-given-calls t = (end-of-reads.Asked, end-of-reads.Learnt, has-name-from-reads.Asked, has-name-from-reads.Learnt, gather-below t, gather.Post)
 
 abbrev pub run-if-calls : ℕ → run-if-lts.Claims
 run-if-calls t = (test-if-reads.Asked, test-if-reads.Learnt, chosen-block-reads.Asked, chosen-block-reads.Learnt, is-empty-block-reads.Asked, is-empty-block-reads.Learnt, branch-context-reads.Asked, branch-context-reads.Learnt, run-block-below t, run-block.Post)
@@ -274,8 +277,5 @@ run-include-calls t = (two-at-reads.Asked, two-at-reads.Learnt, is-declared-read
 abbrev pub run-statement-calls : ℕ → run-statement-lts.Claims
 run-statement-calls t = (at-reads.Asked, at-reads.Learnt, run-begun-below t, run-begun.Post)
 
-abbrev pub run-tabled-calls : ℕ → run-tabled-lts.Claims
-run-tabled-calls t = (byte-at-reads.Asked, byte-at-reads.Learnt, run-class-below t, run-class.Post, run-defined-below t, run-defined.Post)
-
-abbrev pub run-type-declaration-calls : ℕ → run-type-declaration-lts.Claims
-run-type-declaration-calls t = (end-of-reads.Asked, end-of-reads.Learnt, run-defined-below t, run-defined.Post, run-given-below t, run-given.Post)
+abbrev pub run-type-calls : ℕ → run-type-lts.Claims
+run-type-calls t = (end-of-reads.Asked, end-of-reads.Learnt, gather-type-below t, gather-type.Post, run-given-below t, run-given.Post)

@@ -4,8 +4,8 @@ use mathlib.Core.Path.{sym, _∙_}
 use native.Mathlib.Omega.{arith}
 use Rattle.execution.proofs.Statements.{is-include, include-runs-here, include-known}
 use Rattle.execution.proofs.run_begun.Reads as run-begun
-use Rattle.execution.proofs.+declare_class+declare_parent+declare_type+enter_class+run_begun+run_block+run_body+run_case+run_class+run_class_declaration+run_defined+run_given+run_if+run_include+run_statement+run_tabled+run_type_declaration.Lts-run_begun as run-begun-lts
-use Rattle.execution.proofs.+declare_class+declare_parent+declare_type+enter_class+run_begun+run_block+run_body+run_case+run_class+run_class_declaration+run_defined+run_given+run_if+run_include+run_statement+run_tabled+run_type_declaration.Proof.Measures.{run-begun-calls, run-begun-at}
+use Rattle.execution.proofs.+declare_class+declare_parent+declare_type+enter_class+gather+gather_class+gather_type+run_begun+run_block+run_body+run_case+run_class+run_given+run_if+run_include+run_statement+run_type.Lts-run_begun as run-begun-lts
+use Rattle.execution.proofs.+declare_class+declare_parent+declare_type+enter_class+gather+gather_class+gather_type+run_begun+run_block+run_body+run_case+run_class+run_given+run_if+run_include+run_statement+run_type.Proof.Measures.{run-begun-calls, run-begun-at}
 
 pub run-assignment-requires : (t : ℕ) → run-begun-lts.Need-run-assignment-requires (run-begun-calls t) (run-begun-at t) run-begun.Post
 run-assignment-requires t c κs = (c .before .before .before .before .before .before .before .pre .1, sym (c .before .before .before .byte-at .ensures) ∙ c .before .before .match .keys1)
@@ -19,11 +19,11 @@ run-case-requires t c κs = (omega (arith, c .before .before .before .before .be
 pub run-resource-requires : (t : ℕ) → run-begun-lts.Need-run-resource-requires (run-begun-calls t) (run-begun-at t) run-begun.Post
 run-resource-requires t c κs = (c .before .before .before .before .before .before .before .pre .1, sym (c .before .before .before .byte-at .ensures) ∙ c .before .before .match .keys4)
 
-pub run-type-declaration-requires : (t : ℕ) → run-begun-lts.Need-run-type-declaration-requires (run-begun-calls t) (run-begun-at t) run-begun.Post
-run-type-declaration-requires t c κs = (omega (arith, c .before .before .before .before .before .before .before .before .pre .0), (c .before .before .before .before .before .before .before .before .pre .1, sym (c .before .before .before .before .byte-at .ensures) ∙ c .before .before .before .match .keys5))
+pub run-type-requires : (t : ℕ) → run-begun-lts.Need-run-type-requires (run-begun-calls t) (run-begun-at t) run-begun.Post
+run-type-requires t c κs = (omega (arith, c .before .before .before .before .before .before .before .before .pre .0), (c .before .before .before .before .before .before .before .before .pre .1, sym (c .before .before .before .before .byte-at .ensures) ∙ c .before .before .before .match .keys5))
 
-pub run-class-declaration-requires : (t : ℕ) → run-begun-lts.Need-run-class-declaration-requires (run-begun-calls t) (run-begun-at t) run-begun.Post
-run-class-declaration-requires t c κs = (omega (arith, c .before .before .before .before .before .before .before .before .pre .0), (c .before .before .before .before .before .before .before .before .pre .1, sym (c .before .before .before .before .byte-at .ensures) ∙ c .before .before .before .match .keys6))
+pub run-class-requires : (t : ℕ) → run-begun-lts.Need-run-class-requires (run-begun-calls t) (run-begun-at t) run-begun.Post
+run-class-requires t c κs = (omega (arith, c .before .before .before .before .before .before .before .before .pre .0), (c .before .before .before .before .before .before .before .before .pre .1, sym (c .before .before .before .before .byte-at .ensures) ∙ c .before .before .before .match .keys6))
 
 pub run-include-requires : (t : ℕ) → run-begun-lts.Need-run-include-requires (run-begun-calls t) (run-begun-at t) run-begun.Post
 run-include-requires t c κs =
@@ -65,22 +65,22 @@ pub returns-4 : (t : ℕ) → run-begun-lts.Need-returns-4 (run-begun-calls t) (
 returns-4 t c = c .before .before .before .before .run-resource .ensures _ _
 
 pub same-length-9 : (t : ℕ) → run-begun-lts.Need-same-length-9 (run-begun-calls t) (run-begun-at t) run-begun.Post
-same-length-9 t c = c .before .before .before .before .run-type-declaration .kept .1 .1 .1 .0
+same-length-9 t c = c .before .before .before .before .run-type .kept .1 .1 .1 .0
 
 pub same-length-10 : (t : ℕ) → run-begun-lts.Need-same-length-10 (run-begun-calls t) (run-begun-at t) run-begun.Post
-same-length-10 t c = c .before .before .before .before .run-type-declaration .kept .1 .1 .1 .1 .0
+same-length-10 t c = c .before .before .before .before .run-type .kept .1 .1 .1 .1 .0
 
 pub returns-5 : (t : ℕ) → run-begun-lts.Need-returns-5 (run-begun-calls t) (run-begun-at t) run-begun.Post
-returns-5 t c = c .before .before .before .before .run-type-declaration .ensures
+returns-5 t c = c .before .before .before .before .run-type .ensures
 
 pub same-length-11 : (t : ℕ) → run-begun-lts.Need-same-length-11 (run-begun-calls t) (run-begun-at t) run-begun.Post
-same-length-11 t c = c .before .before .before .before .run-class-declaration .kept .1 .1 .1 .0
+same-length-11 t c = c .before .before .before .before .run-class .kept .1 .1 .1 .0
 
 pub same-length-12 : (t : ℕ) → run-begun-lts.Need-same-length-12 (run-begun-calls t) (run-begun-at t) run-begun.Post
-same-length-12 t c = c .before .before .before .before .run-class-declaration .kept .1 .1 .1 .1 .0
+same-length-12 t c = c .before .before .before .before .run-class .kept .1 .1 .1 .1 .0
 
 pub returns-6 : (t : ℕ) → run-begun-lts.Need-returns-6 (run-begun-calls t) (run-begun-at t) run-begun.Post
-returns-6 t c = c .before .before .before .before .run-class-declaration .ensures
+returns-6 t c = c .before .before .before .before .run-class .ensures
 
 pub same-length-13 : (t : ℕ) → run-begun-lts.Need-same-length-13 (run-begun-calls t) (run-begun-at t) run-begun.Post
 same-length-13 t c = c .before .before .before .before .run-include .kept .1 .1 .0

@@ -5,8 +5,8 @@ use native.Mathlib.Omega.{arith}
 use Rattle.execution.proofs.Ends.{able-kept}
 use Rattle.execution.proofs.Classes.{enter-refused, enter-runs, class-body-stands}
 use Rattle.execution.proofs.enter_class.Reads as enter-class
-use Rattle.execution.proofs.+declare_class+declare_parent+declare_type+enter_class+run_begun+run_block+run_body+run_case+run_class+run_class_declaration+run_defined+run_given+run_if+run_include+run_statement+run_tabled+run_type_declaration.Lts-enter_class as enter-class-lts
-use Rattle.execution.proofs.+declare_class+declare_parent+declare_type+enter_class+run_begun+run_block+run_body+run_case+run_class+run_class_declaration+run_defined+run_given+run_if+run_include+run_statement+run_tabled+run_type_declaration.Proof.Measures.{enter-class-calls, enter-class-at}
+use Rattle.execution.proofs.+declare_class+declare_parent+declare_type+enter_class+gather+gather_class+gather_type+run_begun+run_block+run_body+run_case+run_class+run_given+run_if+run_include+run_statement+run_type.Lts-enter_class as enter-class-lts
+use Rattle.execution.proofs.+declare_class+declare_parent+declare_type+enter_class+gather+gather_class+gather_type+run_begun+run_block+run_body+run_case+run_class+run_given+run_if+run_include+run_statement+run_type.Proof.Measures.{enter-class-calls, enter-class-at}
 
 pub start-class-requires : (t : ℕ) → enter-class-lts.Need-start-class-requires (enter-class-calls t) (enter-class-at t) enter-class.Post
 start-class-requires t c κs = (c .before .before .before .before .before .pre .1 .0 .set, c .before .before .before .before .before .pre .1 .1)

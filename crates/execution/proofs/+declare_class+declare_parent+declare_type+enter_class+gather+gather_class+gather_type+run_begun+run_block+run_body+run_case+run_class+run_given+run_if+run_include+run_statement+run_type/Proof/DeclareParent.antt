@@ -6,8 +6,8 @@ use mathlib.Core.Path.{refl, sym, _∙_}
 use native.Mathlib.Omega.{arith}
 use Rattle.execution.proofs.Classes.{parent-name, class-near, nothing-given, no-parent, parent-declared, parent-no-step, parent-declares}
 use Rattle.execution.proofs.declare_parent.Reads as declare-parent
-use Rattle.execution.proofs.+declare_class+declare_parent+declare_type+enter_class+run_begun+run_block+run_body+run_case+run_class+run_class_declaration+run_defined+run_given+run_if+run_include+run_statement+run_tabled+run_type_declaration.Lts-declare_parent as declare-parent-lts
-use Rattle.execution.proofs.+declare_class+declare_parent+declare_type+enter_class+run_begun+run_block+run_body+run_case+run_class+run_class_declaration+run_defined+run_given+run_if+run_include+run_statement+run_tabled+run_type_declaration.Proof.Measures.{declare-parent-calls, declare-parent-at}
+use Rattle.execution.proofs.+declare_class+declare_parent+declare_type+enter_class+gather+gather_class+gather_type+run_begun+run_block+run_body+run_case+run_class+run_given+run_if+run_include+run_statement+run_type.Lts-declare_parent as declare-parent-lts
+use Rattle.execution.proofs.+declare_class+declare_parent+declare_type+enter_class+gather+gather_class+gather_type+run_begun+run_block+run_body+run_case+run_class+run_given+run_if+run_include+run_statement+run_type.Proof.Measures.{declare-parent-calls, declare-parent-at}
 
 pub add-q : (t : ℕ) → declare-parent-lts.Need-add-q (declare-parent-calls t) (declare-parent-at t) declare-parent.Post
 add-q t c = omega (arith, class-near (c .before .before .before .pre .1 .0 .set) (c .before .before .before .pre .1 .1))

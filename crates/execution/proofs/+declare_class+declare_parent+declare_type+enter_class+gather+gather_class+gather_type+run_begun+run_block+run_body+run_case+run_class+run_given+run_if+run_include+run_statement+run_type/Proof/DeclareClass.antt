@@ -8,8 +8,8 @@ use native.Mathlib.Omega.{arith}
 use Rattle.execution.proofs.Ends.{able-after}
 use Rattle.execution.proofs.Classes.{class-too-deep, found-stands, check-refused, parent-refused, class-meanwhile, class-entered}
 use Rattle.execution.proofs.declare_class.Reads as declare-class
-use Rattle.execution.proofs.+declare_class+declare_parent+declare_type+enter_class+run_begun+run_block+run_body+run_case+run_class+run_class_declaration+run_defined+run_given+run_if+run_include+run_statement+run_tabled+run_type_declaration.Lts-declare_class as declare-class-lts
-use Rattle.execution.proofs.+declare_class+declare_parent+declare_type+enter_class+run_begun+run_block+run_body+run_case+run_class+run_class_declaration+run_defined+run_given+run_if+run_include+run_statement+run_tabled+run_type_declaration.Proof.Measures.{declare-class-calls, declare-class-at}
+use Rattle.execution.proofs.+declare_class+declare_parent+declare_type+enter_class+gather+gather_class+gather_type+run_begun+run_block+run_body+run_case+run_class+run_given+run_if+run_include+run_statement+run_type.Lts-declare_class as declare-class-lts
+use Rattle.execution.proofs.+declare_class+declare_parent+declare_type+enter_class+gather+gather_class+gather_type+run_begun+run_block+run_body+run_case+run_class+run_given+run_if+run_include+run_statement+run_type.Proof.Measures.{declare-class-calls, declare-class-at}
 
 pub at-requires : (t : ℕ) → declare-class-lts.Need-at-requires (declare-class-calls t) (declare-class-at t) declare-class.Post
 at-requires t c κs = c .before .before .before .before .before .pre .1 .1 .0 .0

@@ -5,8 +5,8 @@ use mathlib.Core.Path.{_∙_}
 use Rattle.execution.proofs.Ends.{able-after}
 use Rattle.execution.proofs.Types.{body-refused, body-done}
 use Rattle.execution.proofs.run_body.Reads as run-body
-use Rattle.execution.proofs.+declare_class+declare_parent+declare_type+enter_class+run_begun+run_block+run_body+run_case+run_class+run_class_declaration+run_defined+run_given+run_if+run_include+run_statement+run_tabled+run_type_declaration.Lts-run_body as run-body-lts
-use Rattle.execution.proofs.+declare_class+declare_parent+declare_type+enter_class+run_begun+run_block+run_body+run_case+run_class+run_class_declaration+run_defined+run_given+run_if+run_include+run_statement+run_tabled+run_type_declaration.Proof.Measures.{run-body-calls, run-body-at}
+use Rattle.execution.proofs.+declare_class+declare_parent+declare_type+enter_class+gather+gather_class+gather_type+run_begun+run_block+run_body+run_case+run_class+run_given+run_if+run_include+run_statement+run_type.Lts-run_body as run-body-lts
+use Rattle.execution.proofs.+declare_class+declare_parent+declare_type+enter_class+gather+gather_class+gather_type+run_begun+run_block+run_body+run_case+run_class+run_given+run_if+run_include+run_statement+run_type.Proof.Measures.{run-body-calls, run-body-at}
 
 pub run-block-requires : (t : ℕ) → run-body-lts.Need-run-block-requires (run-body-calls t) (run-body-at t) run-body.Post
 run-block-requires t c κs = (omega (arith, c .before .before .before .before .before .before .pre .0), c .before .before .before .before .before .before .pre .1)

@@ -9,8 +9,8 @@ use Rattle.rules.specs.Run.{declarationPlace}
 use Rattle.execution.proofs.Ends.{able-kept}
 use Rattle.execution.proofs.Types.{too-deep, type-refused, type-runs-body, type-body-stands}
 use Rattle.execution.proofs.declare_type.Reads as declare-type
-use Rattle.execution.proofs.+declare_class+declare_parent+declare_type+enter_class+run_begun+run_block+run_body+run_case+run_class+run_class_declaration+run_defined+run_given+run_if+run_include+run_statement+run_tabled+run_type_declaration.Lts-declare_type as declare-type-lts
-use Rattle.execution.proofs.+declare_class+declare_parent+declare_type+enter_class+run_begun+run_block+run_body+run_case+run_class+run_class_declaration+run_defined+run_given+run_if+run_include+run_statement+run_tabled+run_type_declaration.Proof.Measures.{declare-type-calls, declare-type-at}
+use Rattle.execution.proofs.+declare_class+declare_parent+declare_type+enter_class+gather+gather_class+gather_type+run_begun+run_block+run_body+run_case+run_class+run_given+run_if+run_include+run_statement+run_type.Lts-declare_type as declare-type-lts
+use Rattle.execution.proofs.+declare_class+declare_parent+declare_type+enter_class+gather+gather_class+gather_type+run_begun+run_block+run_body+run_case+run_class+run_given+run_if+run_include+run_statement+run_type.Proof.Measures.{declare-type-calls, declare-type-at}
 
 pub at-requires : (t : ℕ) → declare-type-lts.Need-at-requires (declare-type-calls t) (declare-type-at t) declare-type.Post
 at-requires t c κs = c .before .before .before .before .before .pre .1 .1 .0 .0

@@ -4,8 +4,8 @@ use mathlib.Core.Path.{ap}
 use Prim.Native.Nat.{ℕ}
 use native.Mathlib.Omega.{arith}
 use Rattle.execution.proofs.run_statement.Reads as run-statement
-use Rattle.execution.proofs.+declare_class+declare_parent+declare_type+enter_class+run_begun+run_block+run_body+run_case+run_class+run_class_declaration+run_defined+run_given+run_if+run_include+run_statement+run_tabled+run_type_declaration.Lts-run_statement as run-statement-lts
-use Rattle.execution.proofs.+declare_class+declare_parent+declare_type+enter_class+run_begun+run_block+run_body+run_case+run_class+run_class_declaration+run_defined+run_given+run_if+run_include+run_statement+run_tabled+run_type_declaration.Proof.Measures.{run-statement-calls, run-statement-at}
+use Rattle.execution.proofs.+declare_class+declare_parent+declare_type+enter_class+gather+gather_class+gather_type+run_begun+run_block+run_body+run_case+run_class+run_given+run_if+run_include+run_statement+run_type.Lts-run_statement as run-statement-lts
+use Rattle.execution.proofs.+declare_class+declare_parent+declare_type+enter_class+gather+gather_class+gather_type+run_begun+run_block+run_body+run_case+run_class+run_given+run_if+run_include+run_statement+run_type.Proof.Measures.{run-statement-calls, run-statement-at}
 use Rattle.execution.proofs.Statements.{sized, no-step, step-taken}
 
 pub at-requires : (t : ℕ) → run-statement-lts.Need-at-requires (run-statement-calls t) (run-statement-at t) run-statement.Post
