@@ -19,7 +19,7 @@ use Rattle.labels.specs.declared.Labels.{Labels}
 use Rattle.labels.specs.Sets.{bitOf, oneLabel, _∪_, wordOf, has}
 use Rattle.labels.proofs.Digits.{digit, digit-shift, digit-high, trailing-low, trailing-set}
 use Rattle.labels.proofs.Laws.{one-of, has-digit, has-union, has-one}
-use Rattle.branches.specs.Names.{bitIn, contains, inWord, fourFrom}
+use Rattle.branches.specs.Names.{bitIn, contains, inWord, fourFrom, holdsNone}
 use Rattle.branches.specs.Texts.{named, Collects}
 
 -- ---- No name
@@ -222,8 +222,9 @@ module _ (s : List ℕ) (n : ℕ) where
       let zero = four-none (getD s i 0) (getD s (i + 1) 0) (getD s (i + 2) 0) (getD s (i + 3) 0) e in
       word-none i refl (zero .0 .0) ∙ word-none (i + 1) (omega arith) (zero .0 .1) ∙ word-none (i + 2) (omega arith) (zero .1 .0) ∙ word-none (i + 3) (omega arith) (zero .1 .1)
 
--- the way of `is_empty`
-pub holds-none : (s : List ℕ) {a b c d : ℕ} → length s ≡ 16 → a ≡ fourFrom s 0 → b ≡ fourFrom s 4 → c ≡ fourFrom s 8 → d ≡ fourFrom s 12 → eqb (bitOr (bitOr (bitOr a b) c) d) 0 ≡ true → (n : ℕ) → contains s n ≡ false
-holds-none s {a} {b} {c} {d} size ea eb ec ed e n =
-    let zero = four-none a b c d (eqb-true _ 0 e) in
-    all-words s n ∙ words-none s n 0 (sym ea ∙ zero .0 .0) ∙ words-none s n 4 (sym eb ∙ zero .0 .1) ∙ words-none s n 8 (sym ec ∙ zero .1 .0) ∙ words-none s n 12 (sym ed ∙ zero .1 .1) ∙ no-words s size (omega arith) n
+-- the way of `mark_names` where nothing is to be marked
+pub holds-none : (s : List ℕ) {b : Bool} → length s ≡ 16 → b ≡ holdsNone s → b ≡ true → (n : ℕ) → contains s n ≡ false
+unfolding holdsNone
+holds-none s size told none n =
+    let zero = four-none (fourFrom s 0) (fourFrom s 4) (fourFrom s 8) (fourFrom s 12) (eqb-true _ 0 (sym told ∙ none)) in
+    all-words s n ∙ words-none s n 0 (zero .0 .0) ∙ words-none s n 4 (zero .0 .1) ∙ words-none s n 8 (zero .1 .0) ∙ words-none s n 12 (zero .1 .1) ∙ no-words s size (omega arith) n

@@ -21,3 +21,7 @@ inWord i w n = eqb (n / 64) i && bitIn w n
 -- four words joined, from word i on
 abbrev pub fourFrom : List ℕ → (i : ℕ) → ℕ
 fourFrom s i = bitOr (bitOr (bitOr (getD s i 0) (getD s (i + 1) 0)) (getD s (i + 2) 0)) (getD s (i + 3) 0)
+
+-- whether no word of the sixteen has a bit: the set then holds no name
+unfoldable pub holdsNone : List ℕ → Bool
+holdsNone s = eqb (bitOr (bitOr (bitOr (fourFrom s 0) (fourFrom s 4)) (fourFrom s 8)) (fourFrom s 12)) 0

@@ -1,14 +1,14 @@
 // What the branches of a condition hold, taken or not: read in place from the manifest's bytes, where they stand soundly. One walk collects the names that
 // they assign, and tells whether they declare; then the condition's set joins the mark of each name once.
 ghost use mathlib.Core.Path.{_≡_};
-ghost use mathlib.Core.Bool.{true, false};
-ghost use Prim.Native.Nat.{ℕ, _≤_, _<_};
+ghost use mathlib.Core.Bool.{false};
+ghost use Prim.Native.Nat.{_≤_, _<_};
 ghost use lib.ListN.{length};
 ghost use Rattle.wire.specs.Bytes.{endOf, fieldsIn};
 ghost use Rattle.rules.specs.declared.Kind.the-variants.{Statement, Block, Branch};
 ghost use Rattle.places.specs.At.{statementAt, blockAt, statementsAt, branchesAt, StandsAs, Siblings};
 ghost use Rattle.cells.specs.Scopes.{scopeOf};
-ghost use Rattle.branches.specs.Names.{contains, inWord, fourFrom};
+ghost use Rattle.branches.specs.Names.{contains, inWord, fourFrom, holdsNone};
 ghost use Rattle.branches.specs.Texts.{named, both, textOf, textIn, textAny, Small, Collects};
 ghost use Rattle.branches.specs.Marks.{Marks};
 use cells::Stored;
@@ -129,10 +129,10 @@ fn join_four(names: &[u64; 16], i: usize) -> u64
     names[i] | names[i + 1] | names[i + 2] | names[i + 3]
 }
 
-// True only if the set holds no name. Straight, since a loop of sixteen tests costs a tenth of a short condition.
+// Whether the set holds no name. Straight: with a loop of sixteen tests, short conditions take up to a tenth longer.
 fn is_empty(names: &[u64; 16]) -> bool
     requires { ⌜ length (now names) ≡ 16 ⌝ }
-    ensures { λ r. ⌜ (r ≡ true → (n : ℕ) → contains (now (names .entry)) n ≡ false) ⌝ }
+    ensures { λ r. ⌜ r ≡ holdsNone (now (names .entry)) ⌝ }
 {
     (join_four(names, 0) | join_four(names, 4) | join_four(names, 8) | join_four(names, 12)) == 0
 }

@@ -1,10 +1,12 @@
 -- Blocks: at the head of the loop, what runs the statements that are left runs the whole.
 use Prim.Native.Nat.{ℕ, _+_, _-_, _<_, _≤_}
 use mathlib.Core.Path.{_≡_, refl, sym, ap, _∙_, subst}
+use mathlib.Core.Bool.{Bool, true}
 use mathlib.Core.List.{List}
 use native.Mathlib.Omega.{arith}
 use lib.ListN.{length}
-use borrow.Author.Tests.{eqb-true}
+use lib.Dec.{leb}
+use borrow.Author.Tests.{eqb-true, leb-true}
 use Rattle.values.specs.declared.Refusal.{Refusal}
 use Rattle.wire.specs.Bytes.{byte, endOf, fieldsIn}
 use Rattle.rules.specs.Outcome.{Outcome, refused, done, _>>=_}
@@ -90,5 +92,5 @@ module _ {m w₀ w out₀ out : List ℕ} {d n q e fill₀ fill left₀ left : �
         }
 
 -- one without statements
-pub block-empty : {m w out : List ℕ} {d p fill left : ℕ} (n : ℕ) (c : Context) → Able m w out fill → StandsAs m d BlockKind p → NamesKnown m p → endOf m p ≤ p + 3 → Executes m w w out out fill left left c (Done fill) (λ k. runBlock k (declaration k n) (blockAt m d p))
-block-empty n c able s k none = block-ends (block-begins n c able s k refl) none
+pub block-empty : {m w out : List ℕ} {d p fill left : ℕ} (n : ℕ) (c : Context) → Able m w out fill → StandsAs m d BlockKind p → NamesKnown m p → {b : Bool} → b ≡ leb (endOf m p) (p + 3) → b ≡ true → Executes m w w out out fill left left c (Done fill) (λ k. runBlock k (declaration k n) (blockAt m d p))
+block-empty {m} {p = p} n c able s k told none = block-ends (block-begins n c able s k refl) (leb-true (endOf m p) (p + 3) (sym told ∙ none))

@@ -1,8 +1,9 @@
 // Blocks, statements and declarations, which call one another. What falls with each call joins the steps left, the levels left and the depth left. What an answer means is in specs/.
 ghost use mathlib.Core.Path.{_≡_};
-ghost use mathlib.Core.Bool.{true, false};
+ghost use mathlib.Core.Bool.{false};
 ghost use mathlib.Core.List.{List, []};
 ghost use Prim.Native.Nat.{ℕ, _+_, _-_, _≤_, _<_};
+ghost use lib.Dec.{leb};
 ghost use Rattle.values.specs.declared.Reason.the-variants.{DeclaredAgain};
 ghost use Rattle.values.specs.Refusals.{refusalAt};
 ghost use Rattle.wire.specs.Bytes.{pick, byte, two, endOf, fieldsIn};
@@ -188,7 +189,7 @@ fn chosen_block(m: &[u8], p: usize, yes: bool) -> usize
 // Whether the block at p has no statement: it then does nothing.
 fn is_empty_block(m: &[u8], p: usize) -> bool
     requires { ⌜ p ≤ 65535 ⌝ }
-    ensures { λ r. ⌜ (r ≡ true → endOf (now (m .entry)) p ≤ p + 3) ⌝ }
+    ensures { λ r. ⌜ r ≡ leb (endOf (now (m .entry)) p) (p + 3) ⌝ }
 {
     wire::end_of(m, p) <= p + 3
 }

@@ -1,6 +1,7 @@
 -- `is_empty` finds the sixteen words joined to be zero.
 use borrow.Author.Needs.{needs}
-use Rattle.branches.proofs.Names.{holds-none}
+use mathlib.Core.Path.{refl}
+use Rattle.branches.specs.Names.{holdsNone}
 use Rattle.branches.proofs.is_empty.Statement.{statement}
 use Rattle.branches.proofs.is_empty.Tie as tie
 
@@ -17,7 +18,8 @@ join-four-requires-4 : tie.Need-join-four-requires-4
 join-four-requires-4 c κs = search needs
 
 returns : tie.Need-returns
-returns c = holds-none _ (c .before .before .before .before .pre) (c .before .before .before .join-four .ensures) (c .before .before .join-four2 .ensures) (c .before .join-four3 .ensures) (c .join-four4 .ensures)
+unfolding holdsNone
+returns c = rw (c .before .before .before .join-four .ensures, c .before .before .join-four2 .ensures, c .before .join-four3 .ensures, c .join-four4 .ensures) refl
 
 pub is-empty-spec : {M : Type 1} → statement M
 is-empty-spec =

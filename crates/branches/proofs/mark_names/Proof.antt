@@ -4,7 +4,7 @@ use mathlib.Core.Path.{refl, _∙_}
 use native.Mathlib.Omega.{arith}
 use Rattle.cells.specs.Scopes.{scopeOf}
 use Rattle.branches.specs.Names.{contains}
-use Rattle.branches.proofs.Names.{wordsFrom, all-words, no-words, word-then}
+use Rattle.branches.proofs.Names.{holds-none, wordsFrom, all-words, no-words, word-then}
 use Rattle.branches.proofs.Marking.{ToMark, to-mark, all-marked, stops-here, goes-on, other-answer}
 use Rattle.branches.proofs.mark_names.Statement.{statement}
 use Rattle.branches.proofs.mark_names.Tie as tie
@@ -19,7 +19,7 @@ is-empty-requires : tie.Need-is-empty-requires Inv-loop μ-loop
 is-empty-requires c κs = c .before .pre .1
 
 returns : tie.Need-returns Inv-loop μ-loop
-returns c = all-marked (to-mark _ _ _ (λ n. refl)) (c .before .is-empty .ensures (c .if1 .taken))
+returns c = all-marked (to-mark _ _ _ (λ n. refl)) (holds-none _ (c .before .before .before .pre .1) (c .before .is-empty .ensures) (c .if1 .taken))
 
 loop-holds : tie.Need-loop-holds Inv-loop μ-loop
 loop-holds c = to-mark _ _ _ (all-words _)

@@ -21,7 +21,7 @@ same-length t c = c .before .before .before .before .before .before .before .tes
 pub returns : (t : ℕ) → run-case-lts.Need-returns (run-case-calls t) (run-case-at t) run-case.Post
 returns t c =
     let i = case-block (c .before .before .before .before .before .before .before .before .before .before .before .before .before .pre .1 .0 .1 .0) (c .before .before .before .before .before .before .before .before .before .before .before .before .before .pre .1 .0 .1 .1) (c .before .before .before .before .before .before .before .before .before .before .before .before .before .pre .1 .1) (c .before .before .before .t2 .given .1) (c .before .before .before .before .before .before .before .test-case .ensures .1) in
-    case-chosen _ (c .before .before .before .before .before .before .before .before .before .before .before .before .before .pre .1 .0 .1 .0) (c .before .before .before .before .before .before .before .before .before .before .before .before .before .pre .1 .1) _ (c .before .before .before .before .before .before .before .test-case .ensures .0) (c .before .before .before .t2 .given .1) refl refl (block-empty _ _ (able-preserved (c .before .before .before .before .before .before .before .test-case .ensures .0 .keeps) (c .before .before .before .before .before .before .before .test-case .kept .1 .1 .1 .0) (c .before .before .before .before .before .before .before .before .before .before .before .before .before .pre .1 .0 .0)) (i .1 .0) (i .1 .1) (c .before .is-empty-block .ensures (c .if1 .taken)))
+    case-chosen _ (c .before .before .before .before .before .before .before .before .before .before .before .before .before .pre .1 .0 .1 .0) (c .before .before .before .before .before .before .before .before .before .before .before .before .before .pre .1 .1) _ (c .before .before .before .before .before .before .before .test-case .ensures .0) (c .before .before .before .t2 .given .1) refl refl (block-empty _ _ (able-preserved (c .before .before .before .before .before .before .before .test-case .ensures .0 .keeps) (c .before .before .before .before .before .before .before .test-case .kept .1 .1 .1 .0) (c .before .before .before .before .before .before .before .before .before .before .before .before .before .pre .1 .0 .0)) (i .1 .0) (i .1 .1) (c .before .is-empty-block .ensures) (c .if1 .taken))
 
 pub sub-run-block : (t : ℕ) → run-case-lts.Need-sub-run-block (run-case-calls t) (run-case-at t) run-case.Post
 sub-run-block t c = case-block (c .before .before .before .before .before .before .before .before .before .before .before .before .before .before .pre .1 .0 .1 .0) (c .before .before .before .before .before .before .before .before .before .before .before .before .before .before .pre .1 .0 .1 .1) (c .before .before .before .before .before .before .before .before .before .before .before .before .before .before .pre .1 .1) (c .before .before .before .before .t2 .given .1) (c .before .before .before .before .before .before .before .before .test-case .ensures .1) .0

@@ -25,7 +25,7 @@ same-length t c = c .before .before .before .before .before .before .before .bef
 pub returns : (t : ℕ) → run-if-lts.Need-returns (run-if-calls t) (run-if-at t) run-if.Post
 returns t c =
     let block = if-block (c .before .before .before .before .t2 .given .0 .0) (c .before .before .before .before .before .before .before .before .before .before .before .before .before .before .pre .1 .0 .1 .0) (c .before .before .before .before .before .before .before .before .before .before .before .before .before .before .pre .1 .0 .1 .1) (c .before .before .before .before .before .before .before .before .before .before .before .before .before .before .pre .1 .1) (c .before .before .chosen-block .ensures) in
-    if-goes-on _ (c .before .before .before .before .before .before .before .before .before .before .before .before .before .before .pre .1 .0 .1 .0) (c .before .before .before .before .before .before .before .before .before .before .before .before .before .before .pre .1 .1) _ (c .before .before .before .before .before .before .before .before .test-if .ensures) (c .before .before .before .before .t2 .given .1) (c .before .before .chosen-block .ensures) refl (block-empty _ _ (able-preserved (c .before .before .before .before .before .before .before .before .test-if .ensures .keeps) (c .before .before .before .before .before .before .before .before .test-if .kept .1 .1 .1 .0) (c .before .before .before .before .before .before .before .before .before .before .before .before .before .before .pre .1 .0 .0)) (block .0) (block .1) (c .before .is-empty-block .ensures (c .if1 .taken)))
+    if-goes-on _ (c .before .before .before .before .before .before .before .before .before .before .before .before .before .before .pre .1 .0 .1 .0) (c .before .before .before .before .before .before .before .before .before .before .before .before .before .before .pre .1 .1) _ (c .before .before .before .before .before .before .before .before .test-if .ensures) (c .before .before .before .before .t2 .given .1) (c .before .before .chosen-block .ensures) refl (block-empty _ _ (able-preserved (c .before .before .before .before .before .before .before .before .test-if .ensures .keeps) (c .before .before .before .before .before .before .before .before .test-if .kept .1 .1 .1 .0) (c .before .before .before .before .before .before .before .before .before .before .before .before .before .before .pre .1 .0 .0)) (block .0) (block .1) (c .before .is-empty-block .ensures) (c .if1 .taken))
 
 pub sub-run-block : (t : ℕ) → run-if-lts.Need-sub-run-block (run-if-calls t) (run-if-at t) run-if.Post
 sub-run-block t c = omega (arith, has-level (c .before .before .before .before .before .before .before .before .before .before .before .before .before .before .before .pre .1 .0 .1 .0))
