@@ -454,14 +454,18 @@ fn check_named_once(attributes: &Attributes) -> Result<(), Refusal> {
     }
 }
 
-/// "Patterns are tried in written order and default matches where it is
-/// reached." Gives what is chosen, if anything, and the set of the patterns
-/// tried, the matching one among them (reading 22).
+/// Patterns are tried in written order, but "a default in a case or selector is
+/// tried only after every other pattern"; "With two defaults the first counts."
+/// "The patterns tried, and so the label sets, follow the new order": where a
+/// default is chosen, every constant was tried. Gives what is chosen, if
+/// anything, and the set of the patterns tried, the matching one among them
+/// (reading 22).
 fn choose<'a, Chosen>(arms: &'a [Arm<Chosen>], value: &Value) -> (Option<&'a Chosen>, Labels) {
     let mut tried = Labels::EMPTY;
+    let mut default = None;
     for arm in arms {
         match &arm.pattern {
-            Pattern::Default => return (Some(&arm.chosen), tried),
+            Pattern::Default => default = default.or(Some(&arm.chosen)),
             Pattern::Constant(constant) => {
                 tried.join(Labels::one(constant.label));
                 if constant.value == *value {
@@ -470,7 +474,7 @@ fn choose<'a, Chosen>(arms: &'a [Arm<Chosen>], value: &Value) -> (Option<&'a Cho
             }
         }
     }
-    (None, tried)
+    (default, tried)
 }
 
 /// Expressions.

@@ -1,6 +1,7 @@
 //! The program made apart: device catalogs from a manifest, with label sets.
 //!
-//! It implements the scope paper (document 01) and our readings of it, and shares nothing with
+//! It implements the scope paper (document 01), what is asked first in document
+//! 02 (default goes last) and our readings of both, and shares nothing with
 //! the compiler it is compared with. Plain Rust, edition 2021, the standard
 //! library only.
 //!

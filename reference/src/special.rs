@@ -1,4 +1,5 @@
-//! Named inputs: the cases of document 01, and large ones for timing.
+//! Named inputs: the cases of document 01, those on defaults for document 02,
+//! and large ones for timing.
 
 use crate::assemble::*;
 use crate::case::Case;
@@ -7,7 +8,7 @@ use crate::case::Case;
 type Named = (&'static str, fn() -> Case);
 
 /// Every named input, in order.
-pub const NAMED: [Named; 35] = [
+pub const NAMED: [Named; 62] = [
     ("schedule", || ordinary(whole_schedule(false))),
     ("schedule-peak-true", || ordinary(whole_schedule(true))),
     ("schedule-limit-4", || limited(whole_schedule(false), 4)),
@@ -34,6 +35,65 @@ pub const NAMED: [Named; 35] = [
     ("cells-512", || ordinary(cells(512))),
     ("cells-513", || ordinary(cells(513))),
     ("no-item", || ordinary(Manifest::default())),
+    ("default-first-selector", || ordinary(selector(default_first(7)))),
+    ("default-first-selector-no-match", || {
+        ordinary(selector(default_first(8)))
+    }),
+    ("default-first-case", || ordinary(by_case(default_first(7)))),
+    ("default-first-case-no-match", || {
+        ordinary(by_case(default_first(8)))
+    }),
+    ("default-middle-selector", || {
+        ordinary(selector(default_middle(8, 7)))
+    }),
+    ("default-middle-selector-match-before", || {
+        ordinary(selector(default_middle(7, 7)))
+    }),
+    ("default-middle-selector-no-match", || {
+        ordinary(selector(default_middle(8, 9)))
+    }),
+    ("default-middle-case", || ordinary(by_case(default_middle(8, 7)))),
+    ("default-middle-case-match-before", || {
+        ordinary(by_case(default_middle(7, 7)))
+    }),
+    ("default-middle-case-no-match", || {
+        ordinary(by_case(default_middle(8, 9)))
+    }),
+    ("two-defaults-selector", || ordinary(selector(two_defaults(8, 9)))),
+    ("two-defaults-selector-match-between", || {
+        ordinary(selector(two_defaults(7, 7)))
+    }),
+    ("two-defaults-selector-match-behind", || {
+        ordinary(selector(two_defaults(8, 7)))
+    }),
+    ("two-defaults-case", || ordinary(by_case(two_defaults(8, 9)))),
+    ("two-defaults-case-match-between", || {
+        ordinary(by_case(two_defaults(7, 7)))
+    }),
+    ("two-defaults-case-match-behind", || {
+        ordinary(by_case(two_defaults(8, 7)))
+    }),
+    ("default-first-other-kinds", || {
+        ordinary(selector(default_and_other_kinds()))
+    }),
+    ("default-first-equal-constants", || {
+        ordinary(selector(default_and_equal_constants()))
+    }),
+    ("default-first-not-evaluated", || {
+        ordinary(selector(default_without_value(7)))
+    }),
+    ("default-first-refused", || {
+        ordinary(selector(default_without_value(8)))
+    }),
+    ("default-first-trail", || ordinary(default_first_trail())),
+    ("two-defaults-second-not-evaluated", || {
+        ordinary(selector(second_default_without_value()))
+    }),
+    ("two-defaults-mark", || ordinary(second_default_mark(8))),
+    ("two-defaults-mark-match", || ordinary(second_default_mark(7))),
+    ("two-defaults-trail", || ordinary(second_default_trail())),
+    ("two-defaults-cells-512", || ordinary(second_default_cells(512))),
+    ("two-defaults-cells-513", || ordinary(second_default_cells(513))),
     ("time-expression", || ordinary(large_expression())),
     ("time-variables", || ordinary(many_reads())),
     ("time-parent-chain", || ordinary(parent_chain())),
@@ -176,6 +236,130 @@ pub fn cells(count: usize) -> Manifest {
     }
     items.push(built_in("kiosk", text(1, "front"), vec![given("x", var("v001"))]));
     Manifest::new(items)
+}
+
+/// Patterns, each with the value it chooses.
+type Choices = Vec<(Field, Field)>;
+
+/// kiosk "front" (1), its x chosen by a selector over 7 (2).
+pub fn selector(choices: Choices) -> Manifest {
+    Manifest::new(vec![front(select(int(2, 7), choices))])
+}
+
+/// The same by a case over 7 (2), whose blocks assign x.
+pub fn by_case(choices: Choices) -> Manifest {
+    let assigning = |(pattern, value)| (pattern, vec![assign("x", value)]);
+    let arms = choices.into_iter().map(assigning).collect();
+    Manifest::new(vec![case(int(2, 7), arms), front(var("x"))])
+}
+
+fn front(value: Field) -> Field {
+    built_in("kiosk", text(1, "front"), vec![given("x", value)])
+}
+
+pub fn default_first(behind: i64) -> Choices {
+    vec![(default(), int(3, 30)), (int(4, behind), int(5, 50))]
+}
+
+pub fn default_middle(before: i64, behind: i64) -> Choices {
+    vec![
+        (int(3, before), int(4, 40)),
+        (default(), int(5, 50)),
+        (int(6, behind), int(7, 70)),
+    ]
+}
+
+pub fn two_defaults(between: i64, behind: i64) -> Choices {
+    vec![
+        (default(), int(3, 30)),
+        (int(4, between), int(5, 50)),
+        (default(), int(6, 60)),
+        (int(7, behind), int(8, 80)),
+    ]
+}
+
+/// Behind the default no constant is an integer.
+pub fn default_and_other_kinds() -> Choices {
+    vec![
+        (default(), int(3, 30)),
+        (boolean(4, true), int(5, 50)),
+        (text(6, "7"), int(7, 70)),
+    ]
+}
+
+/// Behind the default both constants match.
+pub fn default_and_equal_constants() -> Choices {
+    vec![
+        (default(), int(3, 30)),
+        (int(4, 7), int(5, 50)),
+        (int(6, 7), int(7, 70)),
+    ]
+}
+
+/// The default's expression is refused 13 wherever it is evaluated, at the mark
+/// "unset".
+pub fn default_without_value(behind: i64) -> Choices {
+    vec![
+        (default(), var("unset").at("unset")),
+        (int(4, behind), int(5, 50)),
+    ]
+}
+
+/// The second default's expression would be refused 13 if it were evaluated.
+pub fn second_default_without_value() -> Choices {
+    vec![
+        (default(), int(3, 30)),
+        (default(), var("unset")),
+        (int(4, 8), int(5, 50)),
+    ]
+}
+
+/// The default's block holds an include, and the constant behind it matches.
+pub fn default_first_trail() -> Manifest {
+    let arms = vec![(default(), vec![include("extra")]), (int(3, 7), vec![])];
+    Manifest::new(vec![
+        class_definition("extra", None, vec![], vec![]),
+        case(int(2, 7), arms),
+        front(int(4, 40)),
+    ])
+}
+
+/// A case over 7 (2) with a constant (3) between two defaults; only the second
+/// default's block holds a statement. The case has the mark "case".
+fn second_default(between: i64, statement: Field) -> Field {
+    let arms = vec![
+        (default(), vec![]),
+        (int(3, between), vec![]),
+        (default(), vec![statement]),
+    ];
+    case(int(2, 7), arms).at("case")
+}
+
+/// The second default's block assigns x, which has a value already.
+pub fn second_default_mark(between: i64) -> Manifest {
+    Manifest::new(vec![
+        assign("x", int(4, 40)),
+        second_default(between, assign("x", int(5, 50))),
+        front(var("x")),
+    ])
+}
+
+/// The second default's block holds an include.
+pub fn second_default_trail() -> Manifest {
+    Manifest::new(vec![
+        class_definition("extra", None, vec![], vec![]),
+        second_default(8, include("extra")),
+        front(int(4, 40)),
+    ])
+}
+
+/// The mark of a name in the second default's block takes the last of so many
+/// cells.
+pub fn second_default_cells(count: usize) -> Manifest {
+    let mut manifest = cells(count - 1);
+    let marking = second_default(8, assign("x", int(5, 50)));
+    manifest.items.push(marking);
+    manifest
 }
 
 /// Runs a type body 2^levels times: each type declares the next twice, and the

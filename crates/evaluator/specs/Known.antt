@@ -2,31 +2,29 @@
 use Prim.Native.Nat.{ℕ, _<_, _≤_}
 use lib.ListN.{length}
 use mathlib.Core.Path.{_≡_}
-use mathlib.Core.Bool.{true, not}
+use mathlib.Core.Bool.{not}
 use mathlib.Core.List.{List, [], _∷_}
 use mathlib.Core.Option.{Option, none, some}
 use lib.Dec.{eqb}
 use Rattle.labels.specs.declared.Labels.{Labels}
-use Rattle.labels.specs.Sets.{noLabels, oneLabel}
 use Rattle.values.specs.declared.Value.{Value}
 use Rattle.values.specs.declared.Labelled.{Labelled}
 use Rattle.wire.specs.Bytes.{pick, byte}
 use Rattle.values.specs.declared.Reason.the-variants.{Unknown}
 use Rattle.rules.specs.Outcome.{Outcome, _>>=_, refuseIf, at}
-use Rattle.rules.specs.Arithmetic.{stringIn, sameValue}
+use Rattle.rules.specs.Arithmetic.{stringIn}
 use Rattle.rules.specs.Tree.{TypeDefinition, ClassDefinition, typeDefinition, classDefinition, definition}
 use Rattle.rules.specs.State.{Entry, State, Context, Known, Cells, classScope}
 use Rattle.rules.specs.Evaluate.{findType, findClass, isType, isClass, readIn, readAttribute}
 use Rattle.rules.specs.Compile.{onto}
 use Rattle.rules.specs.declared.Kind.the-variants.{Item}
 use Rattle.rules.specs.Once.{UniqueEntries}
-use Rattle.places.specs.At.{constantAt, itemAt, StandsAs}
+use Rattle.places.specs.At.{itemAt, StandsAs}
 use Rattle.cells.specs.Memory.{definitionOf, builtInOf, stateOf}
 use Rattle.memory.specs.declared.Scope.{Scope}
 use Rattle.memory.specs.Contexts.{contextIn}
 use Rattle.catalog.specs.Finding.{Written}
 use Rattle.catalog_index.specs.Index.{Indexed}
-use Rattle.evaluator.specs.declared.Tried.{Tried}
 
 -- what the definition at a place says of its name: none at 0, and else a type or a class, as read there
 pub data DefinedAt (m : List ℕ) (p : ℕ) : Option TypeDefinition → Option ClassDefinition → Type 0 where
@@ -53,10 +51,6 @@ pub record Tells {A : Type 0} (m w out : List ℕ) (fill : ℕ) (scope : Scope) 
 -- the tag of a name's definition, 0 if there is none
 unfoldable pub definedTag : (m w : List ℕ) → (name : ℕ) → ℕ
 definedTag m w n = pick (eqb (definitionOf w n) 0) 0 (byte m (definitionOf w n))
-
--- a pattern at q tried on a value: a default matches with no label
-unfoldable pub triedAt : List ℕ → (q : ℕ) → Value → Tried
-triedAt m q x = pick (eqb (byte m q) 0x1b) (record { matches = true; labels = noLabels }) (record { matches = sameValue x (constantAt m q .value); labels = oneLabel (constantAt m q .label) })
 
 -- ---- The parts of `evaluate` that need no other expression
 

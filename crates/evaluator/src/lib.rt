@@ -18,9 +18,10 @@ ghost use Rattle.cells.specs.Memory.{cellsOf, classesOf, baseFor};
 ghost use Rattle.evaluator.specs.Answers.{evaluated};
 ghost use Rattle.evaluator.specs.Operators.{beginInteger, beginBoolean, arithmetic, bothIntegers, rightBoolean, resultOf, computedAt};
 ghost use Rattle.evaluator.specs.Operators as operators;
-ghost use Rattle.evaluator.specs.Known.{KnownIn, Ready, Tells, Sized, definedTag, triedAt, classRead, attributeOf};
+ghost use Rattle.evaluator.specs.Known.{KnownIn, Ready, Tells, Sized, definedTag, classRead, attributeOf};
 use labels::Labels;
 use memory::Scope;
+use patterns::Choice;
 use values::Computed;
 use values::Labelled;
 use values::Reason;
@@ -38,12 +39,6 @@ enum Begun {
     WrongKind,
     Decided,
     Open,
-}
-
-// What a pattern makes of a value.
-struct Tried {
-    matches: bool,
-    labels: Labels,
 }
 
 // ---- Answers
@@ -322,23 +317,6 @@ fn attribute_of(
     }
 }
 
-fn try_pattern(m: &[u8], q: usize, x: Value) -> Tried
-    requires { ⌜ q < 4294967296 ⌝ }
-    ensures { λ r. ⌜ r ≡ triedAt (now (m .entry)) q x ⌝ }
-{
-    if wire::byte_at(m, q) == 0x1b {
-        return Tried {
-            matches: true,
-            labels: Labels::EMPTY,
-        };
-    }
-    let pattern = constant_at(m, q);
-    let value = pattern.value;
-    let labels = pattern.labels;
-    let matches = values::same_value(x, value);
-    Tried { matches, labels }
-}
-
 // ---- Expressions
 
 // An operator whose left value is x. `below` is how many levels are left for its operands.
@@ -449,7 +427,7 @@ fn attribute_read(
     }
 }
 
-// The first of the arms between two places whose pattern matches x, for the selector at p; an arm has one level more than what is in it.
+// What the arm chosen by x gives, of those between two places, for the selector at p; an arm has one level more than what is in it.
 fn choose(
     m: &[u8],
     inner: u8,
@@ -463,22 +441,18 @@ fn choose(
     scope: Scope,
 ) -> Evaluated
     requires { ⌜ (Sized (now m) (now work) (now out) fill p) × (end ≤ 65535) ⌝ }
-    ensures { λ r. ⌜ ((d : ℕ) → d ≡ suc inner → Siblings (now (m .entry)) d Arm first end → Tells (now (m .entry)) (now (work .entry)) (now (out .entry)) fill scope (evaluated r) (λ k c st. rules.select k c st (armsAt (now (m .entry)) d (fieldsIn (now (m .entry)) first end)) p x)) ⌝ }
+    ensures { λ r. ⌜ ((d : ℕ) → d ≡ suc inner → Siblings (now (m .entry)) d Arm first end → Tells (now (m .entry)) (now (work .entry)) (now (out .entry)) fill scope (evaluated r) (λ k c st. rules.select (rules.armPatterns k c st (armsAt (now (m .entry)) d (fieldsIn (now (m .entry)) first end))) p x)) ⌝ }
 {
-    let mut tried = Labels::EMPTY;
-    let mut q = first;
-    while q < end {
-        let arm = try_pattern(m, q + 3, x);
-        let labels = arm.labels;
-        tried = tried.union(labels);
-        if arm.matches {
-            let chosen = place(wire::end_of(m, q + 3));
-            let e = evaluate(m, inner, chosen, work, out, fill, scope);
-            return joined(tried, e);
-        }
-        q = wire::end_of(m, q);
+    let matched = patterns::try_patterns(m, first, end, x);
+    let tried = matched.labels;
+    let at = matched.at;
+    match at {
+        Choice::Nothing => Evaluated::Refused(Refusal::at(Reason::NoMatch, p)),
+        Choice::At(chosen) => joined(
+            tried,
+            evaluate(m, inner, place(chosen), work, out, fill, scope),
+        ),
     }
-    Evaluated::Refused(Refusal::at(Reason::NoMatch, p))
 }
 
 fn selector(

@@ -1,4 +1,4 @@
--- The laws of label sets: members, words and bytes. Assumes nothing.
+-- The laws of label sets: members, unions, words and bytes. Assumes nothing.
 use mathlib.Core.Path.{_≡_, refl, sym, ap, _∙_}
 use mathlib.Core.Bool.{Bool, true, false, _||_}
 use mathlib.Core.List.{List, [], _∷_, _++_, append-assoc}
@@ -6,7 +6,7 @@ use Prim.Native.Nat.{ℕ, zero, suc, _+_, _-_, _*_, _/_, _%_, _^_, _≤_, _<_}
 use native.Mathlib.Nat.{mod-lt, zero-lt-suc, zero-div, div-self, pow-suc, suc-add, one-mul}
 use native.Mathlib.Omega.{arith}
 use borrow.Author.Tests.{ltb-true, ltb-false, lt-ltb, le-ltb, eqb-true, eqb-false, ne-eqb, eq-eqb}
-use lib.Bits.{bitOr, or-shr, or-mod, or-lt}
+use lib.Bits.{bitOr, or-shr, or-mod, or-lt, or-zero-l, or-zero-r}
 use lib.Dec.{eqb, ltb, lit<}
 use lib.ListN.{length, getD, length-append, List·getD-append}
 use lib.Pow.{pow-pos, pow-lt, shl-exact, field, mod-mod-pow}
@@ -220,6 +220,43 @@ same-members a b u v same =
         sym (has-digit a p j (omega arith)) ∙ m ∙ has-digit b p j (omega arith) in
         ap (λ (i : ℕ). digit (wordOf a p) i) (sym e)
         ∙ same-digit _ _ (digit-lt (wordOf a p) (p % 64 + j)) (digit-lt (wordOf b p) (p % 64 + j)) f ∙ ap (λ (i : ℕ). digit (wordOf b p) i) e)
+
+-- ---- unions
+
+-- of three digits
+digit-or-assoc : (x y z : ℕ) → x < 2 → y < 2 → z < 2 → bitOr (bitOr x y) z ≡ bitOr x (bitOr y z)
+digit-or-assoc zero y z p q r = ap (λ (w : ℕ). bitOr w z) (or-zero-l y) ∙ sym (or-zero-l (bitOr y z))
+digit-or-assoc (suc zero) zero z p q r = ap (bitOr 1) (sym (or-zero-l z))
+digit-or-assoc (suc zero) (suc zero) zero p q r = refl
+digit-or-assoc (suc zero) (suc zero) (suc zero) p q r = refl
+digit-or-assoc (suc zero) (suc zero) (suc (suc z)) p q r = absurd (omega arith)
+digit-or-assoc (suc zero) (suc (suc y)) z p q r = absurd (omega arith)
+digit-or-assoc (suc (suc x)) y z p q r = absurd (omega arith)
+
+-- by the halves of a, which n bounds
+or-assoc-up : (n a b c : ℕ) → a ≤ n → bitOr (bitOr a b) c ≡ bitOr a (bitOr b c)
+or-assoc-up zero a b c h = let none : a ≡ 0 = omega arith in rw (none, or-zero-l b, or-zero-l (bitOr b c))
+or-assoc-up (suc n) a b c h =
+    let halves : bitOr (bitOr a b) c / 2 ≡ bitOr a (bitOr b c) / 2 =
+    or-shr (bitOr a b) c 1 ∙ ap (λ (x : ℕ). bitOr x (c / 2)) (or-shr a b 1) ∙ or-assoc-up n (a / 2) (b / 2) (c / 2) (omega arith) ∙ sym (or-shr a (bitOr b c) 1 ∙ ap (bitOr (a / 2)) (or-shr b c 1)) in
+    let digits : bitOr (bitOr a b) c % 2 ≡ bitOr a (bitOr b c) % 2 =
+    or-mod (bitOr a b) c 1 ∙ ap (λ (x : ℕ). bitOr x (c % 2)) (or-mod a b 1) ∙ digit-or-assoc (a % 2) (b % 2) (c % 2) (omega arith) (omega arith) (omega arith) ∙ sym (or-mod a (bitOr b c) 1 ∙ ap (bitOr (a % 2)) (or-mod b c 1)) in
+    omega arith
+
+or-assoc : (a b c : ℕ) → bitOr (bitOr a b) c ≡ bitOr a (bitOr b c)
+or-assoc a b c = or-assoc-up a a b c (omega arith)
+
+pub union-assoc : (a b c : Labels) → (a ∪ b) ∪ c ≡ a ∪ (b ∪ c)
+unfolding _∪_
+union-assoc a b c = λ i. record { w0 = or-assoc (a .w0) (b .w0) (c .w0) i; w1 = or-assoc (a .w1) (b .w1) (c .w1) i; w2 = or-assoc (a .w2) (b .w2) (c .w2) i; w3 = or-assoc (a .w3) (b .w3) (c .w3) i }
+
+pub union-none : (a : Labels) → noLabels ∪ a ≡ a
+unfolding _∪_ noLabels
+union-none a = λ i. record { w0 = or-zero-l (a .w0) i; w1 = or-zero-l (a .w1) i; w2 = or-zero-l (a .w2) i; w3 = or-zero-l (a .w3) i }
+
+pub union-none-after : (a : Labels) → a ∪ noLabels ≡ a
+unfolding _∪_ noLabels
+union-none-after a = λ i. record { w0 = or-zero-r (a .w0) i; w1 = or-zero-r (a .w1) i; w2 = or-zero-r (a .w2) i; w3 = or-zero-r (a .w3) i }
 
 -- ---- bytes
 

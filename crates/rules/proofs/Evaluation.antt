@@ -1,6 +1,6 @@
 -- An expression in two runs of one tree: both sets are high, that is, hold a label of a differing constant; or value and set are the same.
 use Prim.Native.Nat.{ℕ}
-use mathlib.Core.Path.{_≡_, refl, sym, ap, _∙_}
+use mathlib.Core.Path.{_≡_, refl, ap}
 use mathlib.Core.Logic.{inl, inr}
 use mathlib.Core.Bool.{Bool, true, false, _||_, Bool·beq, true≢false}
 use mathlib.Core.List.{List, [], _∷_}
@@ -8,33 +8,22 @@ use mathlib.Core.Option.{Option, none, some}
 use lib.Dec.{eqb}
 use lib.IntN.{ℤ}
 use Rattle.labels.specs.declared.Labels.{Labels}
-use Rattle.labels.specs.Sets.{oneLabel, _∪_, has}
-use Rattle.labels.proofs.Laws.{has-own, has-union}
 use Rattle.values.specs.declared.Value.{Value}
 use Rattle.values.specs.declared.Labelled.{Labelled}
 use Rattle.values.specs.declared.Reason.{Reason}
 use Rattle.rules.specs.Outcome.{Outcome, _>>=_, orRefuse, Result, at, under, joining}
-use Rattle.rules.specs.Arithmetic.{integerIn, stringIn, booleanIn, sum, difference, quotient, isGreater, sameValue}
+use Rattle.rules.specs.Arithmetic.{integerIn, stringIn, booleanIn, sum, difference, quotient, isGreater}
 use Rattle.rules.specs.Tree.{Constant, Operator, plus, minus, divide, greater, equal, and, or, Expression, Arms}
 use Rattle.rules.specs.State.{Scope, topScope, classScope, DeclaredClass, upward, Cell, Cells, Attribute, Entry, State, Context, Known, scopesTried}
-use Rattle.rules.specs.Evaluate.{any, firstWith, isEntry, isAttribute, orElse, readIn, readAttribute, integers, booleans, equality, operate, ofConstant, evaluate, select}
-use Rattle.rules.proofs.Same.{Edit, High, Pairwise, nonePaired, paired, Optional, bothNone, bothSome, SameConstant, sameConstant, SameExpression, sameConstants, sameVariable, sameTopVariable, sameClassVariable, sameOperation, sameNegation, sameAttributeRead, sameSelector, sameUnreadable, SameArms, sameNoArm, sameArm, sameDefaultArm}
+use Rattle.rules.specs.Evaluate.{any, firstWith, isEntry, isAttribute, orElse, readIn, readAttribute, integers, booleans, equality, operate, ofConstant, select, evaluate, armPatterns}
+use Rattle.rules.specs.Patterns.{Patterns}
+use Rattle.rules.proofs.Same.{Edit, High, high-one, high-left, high-right, Pairwise, nonePaired, paired, Optional, bothNone, bothSome, SameConstant, sameConstant, SameExpression, sameConstants, sameVariable, sameTopVariable, sameClassVariable, sameOperation, sameNegation, sameAttributeRead, sameSelector, sameUnreadable, SameArms, sameNoArm, sameArm, sameDefaultArm}
+use Rattle.rules.proofs.Patterns.{SamePatterns, sameNoPattern, sameConstantPattern, sameDefaultPattern, SameChoice, highPatterns, samePatterns, choice-same}
 use Rattle.rules.proofs.Outcome.{All, allDone, allAny, Two, leftRefused, rightRefused, bothDone, apart, twoBind, twoAny, twoAt, twoIf}
-use Rattle.rules.proofs.Lists.{either-right, or-true-left, or-true-right, Perhaps, notThere, there, Each, found}
+use Rattle.rules.proofs.Lists.{either-right, Perhaps, notThere, there, Each, found}
 use Rattle.rules.proofs.Unique.{UniqueEntries, UniqueNames, unique, Key, keyOf, hasKey, only-key}
 
 module _ (D : Edit) where
-  -- ---- Sets: the three laws that are used from here on
-
-  pub high-one : {l : ℕ} → D .differs l → High D (oneLabel l)
-  high-one {l} d = record { label = l; differs = d; within = has-own l }
-
-  pub high-left : {a : Labels} (b : Labels) → High D a → High D (a ∪ b)
-  high-left {a} b h = record { label = h .label; differs = h .differs; within = has-union a b (h .label) ∙ or-true-left (has a (h .label)) (has b (h .label)) (h .within) }
-
-  pub high-right : (a : Labels) {b : Labels} → High D b → High D (a ∪ b)
-  high-right a {b} h = record { label = h .label; differs = h .differs; within = has-union a b (h .label) ∙ or-true-right (has a (h .label)) (has b (h .label)) (h .within) }
-
   -- ---- Values with their sets
 
   pub data SameLabelled : Labelled → Labelled → Type 0 where
@@ -46,15 +35,15 @@ module _ (D : Edit) where
 
   pub same-constant : {v w : Constant} → SameConstant D v w → SameLabelled (ofConstant v) (ofConstant w)
   unfolding ofConstant
-  same-constant (sameConstant z (inl d)) = bothHigh (high-one d) (high-one d)
+  same-constant (sameConstant z (inl d)) = bothHigh (high-one D d) (high-one D d)
   same-constant (sameConstant z (inr e)) = rw e equals
 
   pub joining-high : {k : Labels} (m : Outcome Labelled) → High D k → All HighLabelled (joining k m)
   unfolding joining
-  joining-high m h = allAny m λ y. allDone (high-left _ h)
+  joining-high m h = allAny m λ y. allDone (high-left D _ h)
 
   pub under-same : (k : Labels) {x y : Labelled} → SameLabelled x y → SameLabelled (under k x) (under k y)
-  under-same k (bothHigh h g) = bothHigh (high-right k h) (high-right k g)
+  under-same k (bothHigh h g) = bothHigh (high-right D k h) (high-right D k g)
   under-same k equals = equals
 
   pub joining-same : (k : Labels) {m n : Outcome Labelled} → Two SameLabelled m n → Two SameLabelled (joining k m) (joining k n)
@@ -70,11 +59,14 @@ module _ (D : Edit) where
       go (bothHigh h h′) = apart (joining-high _ h) (joining-high _ h′) λ a b p q. bothHigh p q
       go (equals {x = x}) = joining-same _ (k x)
 
-  -- a pattern, then the rest under its label
-  pattern-same : {v w : Constant} {f g : Value → Outcome Labelled} → SameConstant D v w → ((x : Value) → Two SameLabelled (f x) (g x))
-      → Two SameLabelled (joining (oneLabel (v .label)) (f (v .value))) (joining (oneLabel (w .label)) (g (w .value)))
-  pattern-same (sameConstant z (inl d)) k = apart (joining-high _ (high-one d)) (joining-high _ (high-one d)) λ a b p q. bothHigh p q
-  pattern-same (sameConstant {v = v} z (inr e)) k = rw (sym e) (joining-same _ (k v))
+  -- the patterns tried, then what is chosen under their set
+  select-same : {ps qs : Patterns (Outcome Labelled)} → SamePatterns D (Two SameLabelled) ps qs → (p q : ℕ) (x : Value) → Two SameLabelled (select ps p x) (select qs q x)
+  unfolding select
+  select-same s p q x = go (choice-same D (Two SameLabelled) s x leftRefused)
+    where
+      go : {k k′ : Labels} {m n : Outcome Labelled} → SameChoice D (Two SameLabelled) k k′ m n → Two SameLabelled (joining k m) (joining k′ n)
+      go (highPatterns h h′) = apart (joining-high _ h) (joining-high _ h′) λ a b p q. bothHigh p q
+      go (samePatterns e r) = rw e (joining-same _ r)
 
   -- ---- Cells
 
@@ -276,10 +268,10 @@ module _ (D : Edit) where
       evaluate-same (sameOperation {o = o} a b) = then-same (evaluate-same a) λ x. operate-same o _ _ _ _ _ _ (x .value) (evaluate-same b)
       evaluate-same (sameNegation a) = then-same (evaluate-same a) λ x. twoAt _ _ (booleanIn (x .value)) λ t. bothDone equals
       evaluate-same (sameAttributeRead {p = p} {q = q} {t = t} {n = n} a) = then-same (evaluate-same a) λ x. twoAt _ _ (stringIn (x .value)) λ m. twoAny _ _ λ _ _. read-attribute-same p q t m n (view .catalogs) (view .once) (view .once′)
-      evaluate-same (sameSelector {p = p} {q = q} a s) = then-same (evaluate-same a) λ x. select-same s p q (x .value)
+      evaluate-same (sameSelector {p = p} {q = q} a s) = then-same (evaluate-same a) λ x. select-same (arms-same s) p q (x .value)
       evaluate-same sameUnreadable = leftRefused
 
-      select-same : {s s′ : Arms} → SameArms D s s′ → (p q : ℕ) (x : Value) → Two SameLabelled (select k c st s p x) (select k′ c st′ s′ q x)
-      select-same sameNoArm p q x = leftRefused
-      select-same (sameArm v a s) p q x = pattern-same v λ w. twoIf (sameValue x w) (evaluate-same a) (select-same s p q x)
-      select-same (sameDefaultArm a s) p q x = evaluate-same a
+      arms-same : {s s′ : Arms} → SameArms D s s′ → SamePatterns D (Two SameLabelled) (armPatterns k c st s) (armPatterns k′ c st′ s′)
+      arms-same sameNoArm = sameNoPattern
+      arms-same (sameArm v a s) = sameConstantPattern v (evaluate-same a) (arms-same s)
+      arms-same (sameDefaultArm a s) = sameDefaultPattern (evaluate-same a) (arms-same s)

@@ -9,15 +9,15 @@ use lib.Dec.{eqb}
 use Rattle.labels.specs.declared.Labels.{Labels}
 use Rattle.values.specs.declared.Value.{Value}
 use Rattle.values.specs.declared.Labelled.{Labelled}
-use Rattle.rules.specs.Arithmetic.{sameValue}
 use Rattle.rules.specs.Tree.{Statement, assignment, conditional, choice, builtInResource, definedResource, classWithAttributes, include, Block, end, next, Branches, noBranch, branch, defaultBranch}
 use Rattle.rules.specs.Tree
+use Rattle.rules.specs.Patterns.{chosen}
 use Rattle.rules.specs.State.{Scope, sameScope, DeclaredClass, Cell, Cells, Entry, State, Context, Known, valueInto, markInto, assign, trailWith, tested, withEntry}
-use Rattle.rules.specs.Run.{assigns, assignsIn, assignsAny, declares, declaresIn, declaresAny, inBranch, store, addEntry, addResource, afterTest, Declare, run, runBlock, runBranch}
-use Rattle.rules.proofs.Same.{Edit, High}
+use Rattle.rules.specs.Run.{assigns, assignsIn, assignsAny, declares, declaresIn, declaresAny, inBranch, store, addEntry, addResource, afterTest, Declare, doNothing, run, runBlock, branchPatterns}
+use Rattle.rules.proofs.Same.{Edit, High, high-right}
+use Rattle.rules.proofs.Patterns.{everyNone, everyConstant, everyDefault, EveryBranch, branch-holds}
 use Rattle.rules.proofs.Outcome.{All, allRefused, allDone, allBind, allAny, allThen, allMap, allIf, allStep, withSteps}
 use Rattle.rules.proofs.Lists.{either-left, either-right, or-true-left, or-true-right, both-left, both-right, scope-only}
-use Rattle.rules.proofs.Evaluation.{high-right}
 
 abbrev pub mk : Cells → ℕ → (ℕ → Option DeclaredClass) → Labels → List Entry → ℕ → ℕ → State
 mk c u q t es n r = record { cells = c; used = u; classes = q; trail = t; entries = es; stepsLeft = n; room = r }
@@ -92,7 +92,7 @@ module _ (D : Edit) where
       run-frame (choice p e bs) c st h i m = allAny _ λ x.
           allThen _ _ _
           (let f = tested-frame (c .scope) (assignsAny bs) (declaresAny bs) _ st i m in
-          allMap (branch-frame bs (x .value) _ _ (high-right D _ h) i (frame-marked (c .scope) (assignsAny bs) f m)) λ st′ g. frame-trans f g)
+          allMap (branch-holds (branches-frame bs _ _ (high-right D _ h) i (frame-marked (c .scope) (assignsAny bs) f m)) (x .value) (frame λ s n. keptCell)) λ st′ g. frame-trans f g)
       run-frame (builtInResource p t e fs) c st h i m = allAny _ λ x. allAny _ λ l. allAny _ λ gs. allAny _ λ _. allAny _ λ _. allAny _ λ _. allAny _ λ _. allDone (frame λ s n. keptCell)
       run-frame (definedResource p t e fs) c st h i m = absurd (true≢false i)
       run-frame (classWithAttributes p q fs) c st h i m = absurd (true≢false i)
@@ -105,9 +105,15 @@ module _ (D : Edit) where
           allBind (run-frame s c (withSteps l st) h (either-left (declares s) (declaresIn b) i) (λ n e. m n (or-true-left (assigns s n) (assignsIn b n) e))) λ st′ f.
           allMap (block-frame b c st′ h (either-right (declares s) (declaresIn b) i) (frame-marked (c .scope) (assignsIn b) f (λ n e. m n (or-true-right (assigns s n) (assignsIn b n) e)))) λ st″ g. frame-trans f g
 
-      pub branch-frame : (bs : Branches) (x : Value) (c : Context) (st : State) → High D (c .path) → declaresAny bs ≡ false → Marked (c .scope) (assignsAny bs) (st .cells) → All (FrameFrom st) (runBranch k declare bs x c st)
-      branch-frame noBranch x c st h i m = allDone (frame λ s n. keptCell)
-      branch-frame (branch v b bs) x c st h i m = allIf (sameValue x (v .value))
+      branches-frame : (bs : Branches) (c : Context) (st : State) → High D (c .path) → declaresAny bs ≡ false → Marked (c .scope) (assignsAny bs) (st .cells) → EveryBranch (FrameFrom st) c st (branchPatterns k declare bs)
+      branches-frame noBranch c st h i m = everyNone
+      branches-frame (branch v b bs) c st h i m = everyConstant
           (block-frame b c st h (either-left (declaresIn b) (declaresAny bs) i) (λ n e. m n (or-true-left (assignsIn b n) (assignsAny bs n) e)))
-          (branch-frame bs x c st h (either-right (declaresIn b) (declaresAny bs) i) (λ n e. m n (or-true-right (assignsIn b n) (assignsAny bs n) e)))
-      branch-frame (defaultBranch b bs) x c st h i m = block-frame b c st h (either-left (declaresIn b) (declaresAny bs) i) (λ n e. m n (or-true-left (assignsIn b n) (assignsAny bs n) e))
+          (branches-frame bs c st h (either-right (declaresIn b) (declaresAny bs) i) (λ n e. m n (or-true-right (assignsIn b n) (assignsAny bs n) e)))
+      branches-frame (defaultBranch b bs) c st h i m = everyDefault
+          (block-frame b c st h (either-left (declaresIn b) (declaresAny bs) i) (λ n e. m n (or-true-left (assignsIn b n) (assignsAny bs n) e)))
+          (branches-frame bs c st h (either-right (declaresIn b) (declaresAny bs) i) (λ n e. m n (or-true-right (assignsIn b n) (assignsAny bs n) e)))
+
+    -- the branch chosen
+    pub branch-frame : (bs : Branches) (x : Value) (c : Context) (st : State) → High D (c .path) → declaresAny bs ≡ false → Marked (c .scope) (assignsAny bs) (st .cells) → All (FrameFrom st) (chosen (branchPatterns k declare bs) x doNothing c st)
+    branch-frame bs x c st h i m = branch-holds (branches-frame bs c st h i m) x (frame λ s n. keptCell)

@@ -11,19 +11,19 @@ use borrow.Author.Tests.{ltb-false}
 use lib.Dec.{eqb, ltb}
 use lib.ListN.{length, length-append}
 use Rattle.labels.specs.declared.Labels.{Labels}
-use Rattle.labels.specs.Sets.{oneLabel, _∪_, Words64}
-use Rattle.labels.proofs.Laws.{words-none, words-one, words-union}
-use Rattle.values.specs.declared.Value.{Value}
+use Rattle.labels.specs.Sets.{_∪_, Words64}
+use Rattle.labels.proofs.Laws.{words-none, words-union}
 use Rattle.values.specs.declared.Labelled.{Labelled}
 use Rattle.values.specs.declared.Reason.the-variants.{StepLimit}
 use Rattle.rules.specs.Outcome.{refused, done}
-use Rattle.rules.specs.Arithmetic.{sameValue}
-use Rattle.rules.specs.Tree.{Constant, Expression, AttributeField, Statement, Block, Branches, noBranch, branch, defaultBranch, Parameter, Parent, TypeDefinition, ClassDefinition, Definition, Item}
+use Rattle.rules.specs.Tree.{Constant, Expression, AttributeField, Statement, Block, Branches, Parameter, Parent, TypeDefinition, ClassDefinition, Definition, Item}
 use Rattle.rules.specs.State.{Scope, sameScope, bodyScope, DeclaredClass, Cell, noCell, valueInto, markInto, freed, Entry, State, Context, Known, isDeclared, takeStep, assign, trailWith, tested, markDeclared, free, withEntry}
 use Rattle.rules.specs.Evaluate.{any, isEntry, findType, findClass, evaluate}
 use Rattle.rules.specs.Catalog.{entryBytes, catalogBytes}
-use Rattle.rules.specs.Run.{assignsIn, assignsAny, declaresIn, declaresAny, pathAndTrail, withPathAndTrail, inBranch, stored, store, Given as GivenValue, isGiven, evaluateAll, defaultOf, givenOr, parameterValues, storeAll, storeTitle, attributesUnder, entryFrom, addEntry, addResource, triedLabels, afterTest, Declaration, ofType, ofClass, included, Declare, statementPlace, run, runBlock, runBranch, placedUnder, inClass, inBody, parentFirst, enterClass, declaration, runAtTop, topContext, nodeContext, withDefinition, runItems}
+use Rattle.rules.specs.Run.{assignsIn, assignsAny, declaresIn, declaresAny, pathAndTrail, withPathAndTrail, inBranch, stored, store, Given as GivenValue, isGiven, evaluateAll, defaultOf, givenOr, parameterValues, storeAll, storeTitle, attributesUnder, entryFrom, addEntry, addResource, afterTest, Declaration, ofType, ofClass, included, Declare, statementPlace, run, runBlock, branchPatterns, placedUnder, inClass, inBody, parentFirst, enterClass, declaration, runAtTop, topContext, nodeContext, withDefinition, runItems}
 use Rattle.rules.proofs.Lists.{Perhaps, notThere, there, Each, noneLeft, also, found}
+use Rattle.rules.specs.Patterns.{triedLabels}
+use Rattle.rules.proofs.Patterns.{everyNone, everyConstant, everyDefault, EveryBranch, branch-holds, tried-labels-fit}
 use Rattle.rules.proofs.Outcome.{All, allRefused, allDone, allBind, allAny, allIf, allPassed, allFound, allAt}
 use Rattle.rules.proofs.ReadBack.{FitsAttribute, FitsEntry}
 use Rattle.rules.proofs.Fits.{FitsName, FitsConstant, FitsExpression, FitsAttributeField, FitsStatement, fitsAssignment, fitsConditional, fitsChoice, fitsResource, fitsDefined, fitsClass, fitsInclude, fitsUnreadableStatement, FitsBlock, fitsEnd, fitsNext, FitsBranches, fitsNoBranch, fitsBranch, fitsDefaultBranch, FitsParameter, FitsParent, FitsType, FitsClassDefinition, FitsDefinition, fitsTypeDefinition, fitsClassDefinitions, FitsItem, fitsStatementItem, fitsNode, fitsDefinitionItem}
@@ -230,16 +230,6 @@ module _ (Given : Type 0) (limit room : ℕ) where
   pub record Keeps (declare : Declare) : Type 0 where
     pub sound : {d : Declaration} → DeclarationFits d → (c : Context) (st : State) → PathFits c → Sound st → All Sound (declare d c st)
 
-  tried-labels-fit : (bs : Branches) (x : Value) → Words64 (triedLabels bs x)
-  unfolding triedLabels
-  tried-labels-fit noBranch x = words-none
-  tried-labels-fit (branch v b bs) x = go (sameValue x (v .value)) (tried-labels-fit bs x)
-    where
-      go : (t : Bool) → Words64 (triedLabels bs x) → Words64 (elim t [ true ↦ oneLabel (v .label) | false ↦ oneLabel (v .label) ∪ triedLabels bs x ])
-      go true w = words-one (v .label)
-      go false w = words-union (oneLabel (v .label)) (triedLabels bs x) (words-one (v .label)) w
-  tried-labels-fit (defaultBranch b bs) x = words-none
-
   after-test-sound : (p : ℕ) (c : Context) (names : ℕ → Bool) (declares : Bool) (k : Labels) (st : State) → (Given → Words64 k) → Sound st → All Sound (afterTest p c names declares k st)
   unfolding afterTest
   after-test-sound p c names declares k st f h = allAny _ λ _. allDone (tested-sound (c .scope) names declares k st f h)
@@ -258,12 +248,12 @@ module _ (Given : Type 0) (limit room : ℕ) where
           allIf t (block-sound fa (inBranch (withPathAndTrail c st (x .labels)) c) st′ w′ h′) (block-sound fb (inBranch (withPathAndTrail c st (x .labels)) c) st′ w′ h′)
       run-sound (fitsChoice {p = p} {bs = bs} e fb) c st w h =
           allBind (value-fits k c st e h) λ x f.
-          let set : Labels = x .labels ∪ triedLabels bs (x .value) in
+          let set : Labels = x .labels ∪ triedLabels (branchPatterns k declare bs) (x .value) in
           let l : Given → Words64 (withPathAndTrail c st set) =
-          with-path-and-trail-fit c st set w h (λ y. words-union (x .labels) (triedLabels bs (x .value)) (f y .labels) (tried-labels-fit bs (x .value))) in
+          with-path-and-trail-fit c st set w h (λ y. words-union (x .labels) (triedLabels (branchPatterns k declare bs) (x .value)) (f y .labels) (tried-labels-fit (branchPatterns k declare bs) (x .value))) in
           let w′ : PathFits (inBranch (withPathAndTrail c st set) c) = branch-path-fits (withPathAndTrail c st set) c l w in
           allBind (after-test-sound p c (assignsAny bs) (declaresAny bs) (withPathAndTrail c st set) st l h) λ st′ h′.
-          branch-sound fb (x .value) (inBranch (withPathAndTrail c st set) c) st′ w′ h′
+          branch-holds (branches-sound fb (inBranch (withPathAndTrail c st set) c) st′ w′ h′) (x .value) h′
       run-sound (fitsResource {p = p} {t = t} tf e fs) c st w h =
           allBind (value-fits k c st e h) λ x f. allBind (allAt _ (string-fits Given (x .value) (λ y. f y .value))) λ m mf.
           allBind (given-fits k c st fs h) λ gs gf. resource-sound k p t m (x .labels) c st tf mf (λ y. f y .labels) gf w h
@@ -278,10 +268,10 @@ module _ (Given : Type 0) (limit room : ℕ) where
       block-sound (fitsNext {s = s} f fs) c st w h =
           allBind (step-sound (statementPlace s) st h) λ st₁ h₁. allBind (run-sound f c st₁ w h₁) λ st₂ h₂. block-sound fs c st₂ w h₂
 
-      branch-sound : {bs : Branches} → FitsBranches Given bs → (x : Value) (c : Context) (st : State) → PathFits c → Sound st → All Sound (runBranch k declare bs x c st)
-      branch-sound fitsNoBranch x c st w h = allDone h
-      branch-sound (fitsBranch {v = v} _ f fs) x c st w h = allIf (sameValue x (v .value)) (block-sound f c st w h) (branch-sound fs x c st w h)
-      branch-sound (fitsDefaultBranch f fs) x c st w h = block-sound f c st w h
+      branches-sound : {bs : Branches} → FitsBranches Given bs → (c : Context) (st : State) → PathFits c → Sound st → EveryBranch Sound c st (branchPatterns k declare bs)
+      branches-sound fitsNoBranch c st w h = everyNone
+      branches-sound (fitsBranch _ f fs) c st w h = everyConstant (block-sound f c st w h) (branches-sound fs c st w h)
+      branches-sound (fitsDefaultBranch f fs) c st w h = everyDefault (block-sound f c st w h) (branches-sound fs c st w h)
 
     -- ---- Declarations
 

@@ -3,6 +3,7 @@ pub mod Computing
 pub mod Rows
 pub mod Cases
 pub mod Same
+pub mod Patterns
 pub mod Lists
 pub mod Outcome
 pub mod Unique

@@ -8,20 +8,21 @@ use mathlib.Core.Bool.{Bool, true, false, _||_, _&&_, true≢false, false≢true
 use mathlib.Core.List.{List}
 use mathlib.Core.Option.{Option, none, some}
 use Rattle.labels.specs.declared.Labels.{Labels}
-use Rattle.labels.specs.Sets.{oneLabel, _∪_}
+use Rattle.labels.specs.Sets.{_∪_}
 use Rattle.values.specs.declared.Value.{Value}
 use Rattle.values.specs.declared.Labelled.{Labelled}
 use Rattle.values.specs.declared.Reason.{Reason}
 use Rattle.rules.specs.Outcome.{Outcome, _>>=_, refuseIf}
-use Rattle.rules.specs.Arithmetic.{sameValue}
-use Rattle.rules.specs.Tree.{Constant, AttributeField, Statement, Block, Branches, branch}
+use Rattle.rules.specs.Tree.{AttributeField, Statement, Block, Branches}
+use Rattle.rules.specs.Patterns.{chosen, triedLabels}
 use Rattle.rules.specs.State.{Scope, sameScope, DeclaredClass, Cell, Cells, Entry, State, Context, Known, isDeclared, valueInto, markInto, assign, trailWith, tested, withEntry}
-use Rattle.rules.specs.Run.{assigns, assignsIn, assignsAny, declares, declaresIn, declaresAny, withPathAndTrail, inBranch, stored, store, Given, evaluateAll, attributesUnder, entryFrom, addEntry, addResource, triedLabels, afterTest, Declaration, ofType, ofClass, included, Declare, run, runBlock, runBranch}
-use Rattle.rules.proofs.Same.{Edit, High, Pairwise, nonePaired, paired, bothSome, sameConstant, SameAttributeField, sameAttributeField, SameStatement, sameAssignment, sameConditional, sameChoice, sameResource, sameDefined, sameClass, sameInclude, sameUnreadableStatement, SameBlock, sameEnd, sameNext, SameBranches, sameNoBranch, sameBranch, sameDefaultBranch}
+use Rattle.rules.specs.Run.{assigns, assignsIn, assignsAny, declares, declaresIn, declaresAny, withPathAndTrail, inBranch, stored, store, Given, evaluateAll, attributesUnder, entryFrom, addEntry, addResource, afterTest, Declaration, ofType, ofClass, included, Declare, doNothing, run, runBlock, branchPatterns}
+use Rattle.rules.proofs.Same.{Edit, High, high-left, high-right, Pairwise, nonePaired, paired, bothSome, SameAttributeField, sameAttributeField, SameStatement, sameAssignment, sameConditional, sameChoice, sameResource, sameDefined, sameClass, sameInclude, sameUnreadableStatement, SameBlock, sameEnd, sameNext, SameBranches, sameNoBranch, sameBranch, sameDefaultBranch}
+use Rattle.rules.proofs.Patterns.{SamePatterns, sameNoPattern, sameConstantPattern, sameDefaultPattern, SameChoice, highPatterns, samePatterns, choice-same}
 use Rattle.rules.proofs.Outcome.{All, allThen, allMap, allBoth, allIf, allPassed, Two, leftRefused, rightRefused, bothDone, apart, twoBind, twoAny, twoAll, twoThen, twoAt, twoIf, twoStep}
 use Rattle.rules.proofs.Lists.{or-true-left, or-true-right, either-left, either-right, both-true, scope-same}
 use Rattle.rules.proofs.Unique.{UniqueEntries, unique, named-once, unique-under}
-use Rattle.rules.proofs.Evaluation.{high-one, high-left, high-right, under-same, SameLabelled, bothHigh, equals, SameCell, highCell, lowCell, SameCells, SameAttribute, sameAttribute, sameEntry, SameCatalog, entryBoth, entryLeft, entryRight, SameView, evaluate-same}
+use Rattle.rules.proofs.Evaluation.{under-same, SameLabelled, bothHigh, equals, SameCell, highCell, lowCell, SameCells, SameAttribute, sameAttribute, sameEntry, SameCatalog, entryBoth, entryLeft, entryRight, SameView, evaluate-same}
 use Rattle.rules.proofs.Quiet.{Growth, growth-left, growth-right, growth-unique, QuietFrom, QuietDeclare, entry-high, block-quiet, branch-quiet}
 use Rattle.rules.proofs.Frame.{mk, Keeps, keptCell, markedCell, keeps-high, Frame, frame, FrameFrom, block-frame, branch-frame}
 
@@ -216,7 +217,7 @@ module _ (D : Edit) where
         (block-condition a (λ n. assignsIn a n || assignsIn b n) (declaresIn a || declaresIn b) s c st h (λ n g. or-true-left (assignsIn a n) (assignsIn b n) g) (λ z. either-left (declaresIn a) (declaresIn b) z))
         (block-condition b (λ n. assignsIn a n || assignsIn b n) (declaresIn a || declaresIn b) s c st h (λ n g. or-true-right (assignsIn a n) (assignsIn b n) g) (λ z. either-right (declaresIn a) (declaresIn b) z)))
 
-    case-condition : (p : ℕ) (bs : Branches) (x : Value) (s : Labels) (c : Context) (st : State) → High D s → All (Cond (c .scope) (assignsAny bs) (declaresAny bs) st) (afterTest p c (assignsAny bs) (declaresAny bs) s st >>= λ st′. runBranch k declare bs x (inBranch s c) st′)
+    case-condition : (p : ℕ) (bs : Branches) (x : Value) (s : Labels) (c : Context) (st : State) → High D s → All (Cond (c .scope) (assignsAny bs) (declaresAny bs) st) (afterTest p c (assignsAny bs) (declaresAny bs) s st >>= λ st′. chosen (branchPatterns k declare bs) x doNothing (inBranch s c) st′)
     unfolding afterTest inBranch tested
     case-condition p bs x s c st h = allThen _ _ _ (condition (c .scope) (assignsAny bs) (declaresAny bs) s st h (branch-quiet D k declare quietly bs x _ _ (inl (high-left D _ h))) λ z. branch-frame D k declare bs x _ _ (high-left D _ h) z λ n g. mark-high _ s _ h (both-true (sameScope (c .scope) (c .scope)) (assignsAny bs n) (scope-same (c .scope)) g))
 
@@ -235,55 +236,6 @@ module _ (D : Edit) where
   tested-same : (s : Scope) (names names′ : ℕ → Bool) (i i′ : Bool) (k : Labels) {st st′ : State} → ((n : ℕ) → names n ≡ names′ n) → i ≡ i′ → Low st st′ → Related (tested s names i k st) (tested s names′ i′ k st′)
   unfolding tested
   tested-same s f f′ i i′ k e e′ (low hc hk u u′) = rw e′ (relatedLow (low (λ t n. mark-same _ _ k (ap (λ (b : Bool). sameScope t s && b) (e n)) (hc t n)) hk u u′))
-
-  -- the patterns of a case give the same answers up to the one that matches
-  data Agree (x : Value) : Branches → Branches → Type 0 where
-    agreeNone : Agree x Branches.noBranch Branches.noBranch
-    agreeHere : {v w : Constant} {b b′ : Block} {bs bs′ : Branches} → sameValue x (v .value) ≡ true → sameValue x (w .value) ≡ true → Agree x (branch v b bs) (branch w b′ bs′)
-    agreeLater : {v w : Constant} {b b′ : Block} {bs bs′ : Branches} → sameValue x (v .value) ≡ false → sameValue x (w .value) ≡ false → Agree x bs bs′ → Agree x (branch v b bs) (branch w b′ bs′)
-    agreeDefault : {b b′ : Block} {bs bs′ : Branches} → Agree x (Branches.defaultBranch b bs) (Branches.defaultBranch b′ bs′)
-
-  -- both sets of patterns tried are high, or they are one set and the patterns agree
-  data Tried (x : Value) (bs bs′ : Branches) : Type 0 where
-    highTried : High D (triedLabels bs x) → High D (triedLabels bs′ x) → Tried x bs bs′
-    sameTried : triedLabels bs x ≡ triedLabels bs′ x → Agree x bs bs′ → Tried x bs bs′
-
-  tried-high : (b : Bool) (l : ℕ) (k : Labels) → D .differs l → High D (elim b [ true ↦ oneLabel l | false ↦ oneLabel l ∪ k ])
-  tried-high true l k d = high-one D d
-  tried-high false l k d = high-left D k (high-one D d)
-
-  tried-true : (b : Bool) (l : ℕ) (k k′ : Labels) → b ≡ true → _≡_ {A = Labels} (elim b [ true ↦ oneLabel l | false ↦ oneLabel l ∪ k ]) (elim b [ true ↦ oneLabel l | false ↦ oneLabel l ∪ k′ ])
-  tried-true true l k k′ e = refl
-  tried-true false l k k′ e = absurd (false≢true e)
-
-  tried-false : (b : Bool) (l : ℕ) {k : Labels} → b ≡ false → High D k → High D (elim b [ true ↦ oneLabel l | false ↦ oneLabel l ∪ k ])
-  tried-false true l e h = absurd (true≢false e)
-  tried-false false l e h = high-right D _ h
-
-  -- one pattern, the same on both sides but for its place, before the others
-  tried-first : (x : Value) (p q l : ℕ) (v : Value) {b b′ : Block} {bs bs′ : Branches} (t : Bool) → sameValue x v ≡ t → Tried x bs bs′
-      → Tried x (branch (record { place = p; label = l; value = v }) b bs) (branch (record { place = q; label = l; value = v }) b′ bs′)
-  unfolding triedLabels
-  tried-first x p q l v {bs = bs} {bs′ = bs′} true e r = sameTried (tried-true (sameValue x v) l (triedLabels bs x) (triedLabels bs′ x) e) (agreeHere e e)
-  tried-first x p q l v false e (highTried h h′) = highTried (tried-false (sameValue x v) l e h) (tried-false (sameValue x v) l e h′)
-  tried-first x p q l v false e (sameTried g a) = sameTried (ap (λ (k : Labels). elim (sameValue x v) [ true ↦ oneLabel l | false ↦ oneLabel l ∪ k ]) g) (agreeLater e e a)
-
-  tried-same : {bs bs′ : Branches} (x : Value) → SameBranches D bs bs′ → Tried x bs bs′
-  unfolding triedLabels
-  tried-same x sameNoBranch = sameTried refl agreeNone
-  tried-same x (sameDefaultBranch b bs) = sameTried refl agreeDefault
-  tried-same x (sameBranch (sameConstant {l = l} {v = v} {w = w} z (inl d)) b bs) = highTried (tried-high (sameValue x v) l _ d) (tried-high (sameValue x w) l _ d)
-  tried-same x (sameBranch (sameConstant {l = l} {v = v} {w = w} z (inr e)) b bs) = rw e (tried-first x _ _ l w (sameValue x w) refl (tried-same x bs))
-
-  chosen : {A B : Type 0} {S : A → B → Type 0} (b b′ : Bool) {m : Outcome A} (m′ : Outcome A) {n : Outcome B} (n′ : Outcome B) → b ≡ true → b′ ≡ true → Two S m n → Two S (elim b [ true ↦ m | false ↦ m′ ]) (elim b′ [ true ↦ n | false ↦ n′ ])
-  chosen true true m′ n′ e e′ h = h
-  chosen true false m′ n′ e e′ h = absurd (false≢true e′)
-  chosen false b′ m′ n′ e e′ h = absurd (false≢true e)
-
-  passed-over : {A B : Type 0} {S : A → B → Type 0} (b b′ : Bool) (m : Outcome A) {m′ : Outcome A} (n : Outcome B) {n′ : Outcome B} → b ≡ false → b′ ≡ false → Two S m′ n′ → Two S (elim b [ true ↦ m | false ↦ m′ ]) (elim b′ [ true ↦ n | false ↦ n′ ])
-  passed-over true b′ m n e e′ h = absurd (true≢false e)
-  passed-over false true m n e e′ h = absurd (true≢false e′)
-  passed-over false false m n e e′ h = h
 
   abbrev pub declaredIn : (ℕ → Option DeclaredClass) → ℕ → Bool
   declaredIn q n = elim (q n) [ none ↦ false | some d ↦ true ]
@@ -307,24 +259,32 @@ module _ (D : Edit) where
     quiet-block′ : (b : Block) (c : Context) → QuietRun (runBlock k′ declare′ b c)
     quiet-block′ b c st h = block-quiet D k′ declare′ quietly′ b c st (inr h)
 
-    quiet-branch : (bs : Branches) (x : Value) (c : Context) → QuietRun (runBranch k declare bs x c)
+    quiet-branch : (bs : Branches) (x : Value) (c : Context) → QuietRun (chosen (branchPatterns k declare bs) x doNothing c)
     quiet-branch bs x c st h = branch-quiet D k declare quietly bs x c st (inr h)
 
-    quiet-branch′ : (bs : Branches) (x : Value) (c : Context) → QuietRun (runBranch k′ declare′ bs x c)
+    quiet-branch′ : (bs : Branches) (x : Value) (c : Context) → QuietRun (chosen (branchPatterns k′ declare′ bs) x doNothing c)
     quiet-branch′ bs x c st h = branch-quiet D k′ declare′ quietly′ bs x c st (inr h)
 
-    -- a case whose scrutinee is the same on both sides; `inside` runs its branches where the patterns agree
+    -- what two branches do
+    abbrev SameBranch : (Context → State → Outcome State) → (Context → State → Outcome State) → Type 0
+    SameBranch f g = (c : Context) (st st′ : State) → Low st st′ → Two Related (f c st) (g c st′)
+
+    nothing-same : SameBranch doNothing doNothing
+    unfolding doNothing
+    nothing-same c st st′ l = bothDone (relatedLow l)
+
+    -- a case whose scrutinee is the same on both sides
     choice-low : (p q : ℕ) {bs bs′ : Branches} → SameBranches D bs bs′ → (c : Context) (x : Value) (s : Labels) {st st′ : State} → Low st st′
-        → ((a : Agree x bs bs′) (c : Context) (st st′ : State) → Low st st′ → Two Related (runBranch k declare bs x c st) (runBranch k′ declare′ bs′ x c st′)) → Tried x bs bs′
-        → Two Related (afterTest p c (assignsAny bs) (declaresAny bs) (withPathAndTrail c st (s ∪ triedLabels bs x)) st >>= λ st₁. runBranch k declare bs x (inBranch (withPathAndTrail c st (s ∪ triedLabels bs x)) c) st₁)
-        (afterTest q c (assignsAny bs′) (declaresAny bs′) (withPathAndTrail c st′ (s ∪ triedLabels bs′ x)) st′ >>= λ st₁. runBranch k′ declare′ bs′ x (inBranch (withPathAndTrail c st′ (s ∪ triedLabels bs′ x)) c) st₁)
+        → SameChoice D SameBranch (triedLabels (branchPatterns k declare bs) x) (triedLabels (branchPatterns k′ declare′ bs′) x) (chosen (branchPatterns k declare bs) x doNothing) (chosen (branchPatterns k′ declare′ bs′) x doNothing)
+        → Two Related (afterTest p c (assignsAny bs) (declaresAny bs) (withPathAndTrail c st (s ∪ triedLabels (branchPatterns k declare bs) x)) st >>= λ st₁. chosen (branchPatterns k declare bs) x doNothing (inBranch (withPathAndTrail c st (s ∪ triedLabels (branchPatterns k declare bs) x)) c) st₁)
+        (afterTest q c (assignsAny bs′) (declaresAny bs′) (withPathAndTrail c st′ (s ∪ triedLabels (branchPatterns k′ declare′ bs′) x)) st′ >>= λ st₁. chosen (branchPatterns k′ declare′ bs′) x doNothing (inBranch (withPathAndTrail c st′ (s ∪ triedLabels (branchPatterns k′ declare′ bs′) x)) c) st₁)
     unfolding withPathAndTrail afterTest
-    choice-low p q {bs} {bs′} rs c x s l inside (highTried h h′) = condition-two (c .scope) (assignsAny bs) (assignsAny bs′) (declaresAny bs) (declaresAny bs′) (declares-same-any rs) (assigns-same-any rs) l
+    choice-low p q {bs} {bs′} rs c x s l (highPatterns h h′) = condition-two (c .scope) (assignsAny bs) (assignsAny bs′) (declaresAny bs) (declaresAny bs′) (declares-same-any rs) (assigns-same-any rs) l
         (case-condition k declare quietly p bs x _ c _ (high-right D _ (high-right D _ h))) (case-condition k′ declare′ quietly′ q bs′ x _ c _ (high-right D _ (high-right D _ h′)))
-    choice-low p q {bs} {bs′} rs c x s (low {t = t} hc hk u u′) inside (sameTried e a) =
-        let k : Labels = (c .path ∪ t) ∪ (s ∪ triedLabels bs′ x) in
-        rw e (twoThen _ _ _ _ _ _ (go-on (quiet-branch bs x (inBranch k c)) (quiet-branch′ bs′ x (inBranch k c)) (λ st st′ l. inside a (inBranch k c) st st′ l)
-        (tested-same (c .scope) (assignsAny bs) (assignsAny bs′) _ _ k (assigns-same-any rs) (declares-same-any rs) (low hc hk u u′))))
+    choice-low p q {bs} {bs′} rs c x s (low {t = t} hc hk u u′) (samePatterns e inside) =
+        let set : Labels = (c .path ∪ t) ∪ (s ∪ triedLabels (branchPatterns k′ declare′ bs′) x) in
+        rw e (twoThen _ _ _ _ _ _ (go-on (quiet-branch bs x (inBranch set c)) (quiet-branch′ bs′ x (inBranch set c)) (λ st st′ l. inside (inBranch set c) st st′ l)
+        (tested-same (c .scope) (assignsAny bs) (assignsAny bs′) _ _ set (assigns-same-any rs) (declares-same-any rs) (low hc hk u u′))))
 
     mutual
       unfolding run withPathAndTrail afterTest isDeclared
@@ -343,7 +303,7 @@ module _ (D : Edit) where
       run-low (sameChoice {p = p} {q = q} {bs = bs} {bs′ = bs′} e rs) c (low {t = t} hc hk u u′) = by-value (evaluate-same D k k′ c (low-view (low hc hk u u′)) e)
           (λ x y h h′. condition-two (c .scope) (assignsAny bs) (assignsAny bs′) (declaresAny bs) (declaresAny bs′) (declares-same-any rs) (assigns-same-any rs) (low hc hk u u′)
           (case-condition k declare quietly p bs (x .value) _ c _ (high-right D _ (high-left D _ h))) (case-condition k′ declare′ quietly′ q bs′ (y .value) _ c _ (high-right D _ (high-left D _ h′))))
-          (λ x. choice-low p q rs c (x .value) (x .labels) (low hc hk u u′) (λ a c st st′ l. branch-low rs (x .value) a c l) (tried-same (x .value) rs))
+          (λ x. choice-low p q rs c (x .value) (x .labels) (low hc hk u u′) (choice-same D SameBranch (branches-low rs) (x .value) nothing-same))
       run-low (sameResource {p = p} {q = q} {t = t} e fs) c l = by-value (evaluate-same D k k′ c (low-view l) e)
           (λ x y h h′. twoAny _ _ λ m m′. twoAny _ _ λ gs gs′. add-high k k′ p q t m m′ (x .labels) (y .labels) gs gs′ c l h h′)
           (λ x. twoAt _ _ _ λ m. twoBind (evaluate-all-same k k′ c (low-view l) fs) λ gs gs′ g. add-low k k′ p q t m (x .labels) c l g)
@@ -356,11 +316,10 @@ module _ (D : Edit) where
       block-low sameEnd c l = bothDone (relatedLow l)
       block-low (sameNext {b = b} {b′ = b′} s rb) c (low hc hk u u′) = twoStep _ _ _ _ _ _ λ n n′. twoBind (run-low s c (low hc hk u u′)) λ st st′ h. go-on (quiet-block b c) (quiet-block′ b′ c) (λ st st′ l. block-low rb c l) h
 
-      branch-low : {bs bs′ : Branches} → SameBranches D bs bs′ → (x : Value) → Agree x bs bs′ → (c : Context) {st st′ : State} → Low st st′ → Two Related (runBranch k declare bs x c st) (runBranch k′ declare′ bs′ x c st′)
-      branch-low sameNoBranch x a c l = bothDone (relatedLow l)
-      branch-low (sameBranch v rb rs) x (agreeHere e e′) c l = chosen _ _ _ _ e e′ (block-low rb c l)
-      branch-low (sameBranch v rb rs) x (agreeLater e e′ a) c l = passed-over _ _ _ _ e e′ (branch-low rs x a c l)
-      branch-low (sameDefaultBranch rb rs) x a c l = block-low rb c l
+      branches-low : {bs bs′ : Branches} → SameBranches D bs bs′ → SamePatterns D SameBranch (branchPatterns k declare bs) (branchPatterns k′ declare′ bs′)
+      branches-low sameNoBranch = sameNoPattern
+      branches-low (sameBranch v rb rs) = sameConstantPattern v (λ c st st′ l. block-low rb c l) (branches-low rs)
+      branches-low (sameDefaultBranch rb rs) = sameDefaultPattern (λ c st st′ l. block-low rb c l) (branches-low rs)
 
     -- a block after two related states
     pub block-related : {b b′ : Block} → SameBlock D b b′ → (c : Context) {st st′ : State} → Related st st′ → Two Related (runBlock k declare b c st) (runBlock k′ declare′ b′ c st′)

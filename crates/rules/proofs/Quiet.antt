@@ -10,18 +10,18 @@ use Rattle.labels.specs.Sets.{_∪_}
 use Rattle.values.specs.declared.Value.{Value}
 use Rattle.values.specs.declared.Labelled.{Labelled}
 use Rattle.rules.specs.Outcome.{Outcome, _>>=_}
-use Rattle.rules.specs.Arithmetic.{sameValue}
 use Rattle.rules.specs.Tree.{Statement, assignment, conditional, choice, builtInResource, definedResource, classWithAttributes, include, Block, end, next, Branches, noBranch, branch, defaultBranch, Parent, ClassDefinition}
 use Rattle.rules.specs.Tree
+use Rattle.rules.specs.Patterns.{chosen}
 use Rattle.rules.specs.State.{Entry, State, Context, Known, isDeclared, assign, trailWith, tested, markDeclared, free, withEntry}
 use Rattle.rules.specs.Evaluate.{any}
-use Rattle.rules.specs.Run.{withPathAndTrail, inBranch, store, Given, storeAll, storeTitle, attributesUnder, entryFrom, addEntry, addResource, afterTest, Declaration, ofType, ofClass, included, Declare, run, runBlock, runBranch, placedUnder, inClass, inBody, parentFirst, enterClass, declaration}
-use Rattle.rules.proofs.Same.{Edit, High}
+use Rattle.rules.specs.Run.{withPathAndTrail, inBranch, store, Given, storeAll, storeTitle, attributesUnder, entryFrom, addEntry, addResource, afterTest, Declaration, ofType, ofClass, included, Declare, doNothing, run, runBlock, branchPatterns, placedUnder, inClass, inBody, parentFirst, enterClass, declaration}
+use Rattle.rules.proofs.Same.{Edit, High, high-left, high-right}
+use Rattle.rules.proofs.Patterns.{everyNone, everyConstant, everyDefault, EveryBranch, branch-holds}
 use Rattle.rules.proofs.Outcome.{All, allRefused, allDone, allBind, allAny, allThen, allMap, allIf, allPassed, allStep, withSteps}
 use Rattle.rules.proofs.Lists.{Each, noneLeft, also}
-use Rattle.rules.proofs.Lists.{Each, noneLeft, also}
 use Rattle.rules.proofs.Unique.{UniqueEntries, unique, keyOf, hasKey}
-use Rattle.rules.proofs.Evaluation.{high-left, high-right, HighAttribute, HighEntry, SameCatalog, entryLeft, entryRight}
+use Rattle.rules.proofs.Evaluation.{HighAttribute, HighEntry, SameCatalog, entryLeft, entryRight}
 
 module _ (D : Edit) where
   -- ---- A catalog that has grown by high entries only
@@ -137,7 +137,7 @@ module _ (D : Edit) where
       pub run-quiet : (s : Statement) (c : Context) (st : State) → Under (c .path) (st .trail) → All (QuietFrom st) (run k declare s c st)
       run-quiet (assignment p n e) c st h = allAny _ λ x. store-quiet c p n x st
       run-quiet (conditional p e a b) c st h = allAny _ λ x. allAny _ λ t. after-test-quiet p c _ _ _ st _ (allIf t (block-quiet a _ _ (inl (high-left D _ (stored-high (x .labels) c st h)))) (block-quiet b _ _ (inl (high-left D _ (stored-high (x .labels) c st h)))))
-      run-quiet (choice p e bs) c st h = allAny _ λ x. after-test-quiet p c _ _ _ st _ (branch-quiet bs (x .value) _ _ (inl (high-left D _ (stored-high _ c st h))))
+      run-quiet (choice p e bs) c st h = allAny _ λ x. after-test-quiet p c _ _ _ st _ (branch-holds (branches-quiet bs _ _ (inl (high-left D _ (stored-high _ c st h)))) (x .value) (quiet noGrowth λ g. g))
       run-quiet (builtInResource p t e fs) c st h = allAny _ λ x. allAny _ λ m. allAny _ λ gs. add-resource-quiet k p t m (x .labels) gs c st (stored-high _ c st h)
       run-quiet (definedResource p t e fs) c st h = allAny _ λ x. allAny _ λ m. allAny _ λ gs. quietly _ c st h
       run-quiet (classWithAttributes p q fs) c st h = allAny _ λ gs. quietly _ c st h
@@ -148,10 +148,14 @@ module _ (D : Edit) where
       block-quiet end c st h = allDone (quiet noGrowth λ g. g)
       block-quiet (next s b) c st h = allStep _ st _ λ n. allBind (run-quiet s c (withSteps n st) h) λ st′ q. allMap (block-quiet b c st′ (still-under q h)) λ st″ q′. quiet-trans q q′
 
-      pub branch-quiet : (bs : Branches) (x : Value) (c : Context) (st : State) → Under (c .path) (st .trail) → All (QuietFrom st) (runBranch k declare bs x c st)
-      branch-quiet noBranch x c st h = allDone (quiet noGrowth λ g. g)
-      branch-quiet (branch v b bs) x c st h = allIf (sameValue x (v .value)) (block-quiet b c st h) (branch-quiet bs x c st h)
-      branch-quiet (defaultBranch b bs) x c st h = block-quiet b c st h
+      branches-quiet : (bs : Branches) (c : Context) (st : State) → Under (c .path) (st .trail) → EveryBranch (QuietFrom st) c st (branchPatterns k declare bs)
+      branches-quiet noBranch c st h = everyNone
+      branches-quiet (branch v b bs) c st h = everyConstant (block-quiet b c st h) (branches-quiet bs c st h)
+      branches-quiet (defaultBranch b bs) c st h = everyDefault (block-quiet b c st h) (branches-quiet bs c st h)
+
+    -- the branch chosen
+    pub branch-quiet : (bs : Branches) (x : Value) (c : Context) (st : State) → Under (c .path) (st .trail) → All (QuietFrom st) (chosen (branchPatterns k declare bs) x doNothing c st)
+    branch-quiet bs x c st h = branch-holds (branches-quiet bs c st h) x (quiet noGrowth λ g. g)
 
     -- ---- A level
 

@@ -14,13 +14,15 @@ use Rattle.values.specs.declared.Value.the-variants.{Integer, String, Boolean}
 use Rattle.values.specs.declared.Labelled.{Labelled}
 use Rattle.values.specs.declared.Reason.the-variants.{Overflow, DivisionByZero}
 use Rattle.rules.specs.Outcome.{Outcome, Result, fails, gives, at, plain, joining, _>>=_}
-use Rattle.rules.specs.Arithmetic.{integerIn, stringIn, booleanIn, fits64, inRange, isZero, floorDivide, sum, difference, quotient, isGreater, sameValue}
+use Rattle.rules.specs.Arithmetic.{integerIn, stringIn, booleanIn, fits64, inRange, isZero, floorDivide, sum, difference, quotient, isGreater}
 use Rattle.rules.specs.Tree.{Constant, Operator, plus, minus, divide, greater, equal, and, or, Expression, Arms, placeOf}
 use Rattle.rules.specs.State.{Scope, topScope, classScope, Cell, Cells, Entry, State, Context, Known, scopesTried}
-use Rattle.rules.specs.Evaluate.{isEntry, isAttribute, orElse, readIn, readAttribute, integers, booleans, equality, operate, ofConstant, evaluate, select}
+use Rattle.rules.specs.Evaluate.{isEntry, isAttribute, orElse, readIn, readAttribute, integers, booleans, equality, operate, ofConstant, select, evaluate, armPatterns}
 use Rattle.rules.proofs.Lists.{Perhaps, notThere, there, Each, found, each-under}
 use Rattle.rules.proofs.Outcome.{All, allRefused, allDone, allBind, allAny, allIf, allFound, Gives, givesNone, givesOne, allAt}
 use Rattle.rules.proofs.ReadBack.{FitsValue, fitsInteger, fitsString, fitsBoolean, FitsLabelled, FitsEntry}
+use Rattle.rules.specs.Patterns.{Patterns}
+use Rattle.rules.proofs.Patterns.{Every, everyNone, everyConstant, everyDefault, chosen-holds, tried-labels-fit}
 use Rattle.rules.proofs.Fits.{FitsConstant, FitsExpression, fitsConstant, fitsVariable, fitsTopVariable, fitsClassVariable, fitsOperation, fitsNegation, fitsAttributeRead, fitsSelector, fitsUnreadable, FitsArms, fitsNoArm, fitsArm, fitsDefaultArm}
 
 -- ---- Operations on values
@@ -120,6 +122,11 @@ module _ (Given : Type 0) where
       allBind (allFound _ _ (found (isEntry t m) f)) λ e g.
       allBind (allFound _ _ (found (isAttribute n) (each-under (e .attributes) (λ y. g y .attributes)))) λ a h. allDone (λ y. h y .content)
 
+  -- the patterns tried and what is chosen
+  select-fits : {ps : Patterns (Outcome Labelled)} → Every (All Ranged) ps → (p : ℕ) (x : Value) → All Ranged (select ps p x)
+  unfolding select
+  select-fits {ps} h p x = joining-fits _ (λ y. tried-labels-fit ps x) (chosen-holds (All Ranged) h x allRefused)
+
   module _ (k : Known) (c : Context) (st : State) (cells : CellsFit (st .cells)) (entries : Each (λ (e : Entry). Given → FitsEntry e) (st .entries)) where
     mutual
       unfolding evaluate
@@ -132,10 +139,10 @@ module _ (Given : Type 0) where
       evaluate-fits (fitsOperation {p = p} {o = o} {a = a} {b = b} f g) = operand-fits (evaluate-fits f) λ x. operate-fits o p (placeOf a) (placeOf b) (x .value) (evaluate-fits g)
       evaluate-fits (fitsNegation f) = operand-fits (evaluate-fits f) λ x. allAny _ λ b. plain-fits fitsBoolean
       evaluate-fits (fitsAttributeRead {p = p} {t = t} {n = n} f g h) = operand-fits (evaluate-fits h) λ x. allAny _ λ m. allAny _ λ _. attribute-read-fits p t m n (st .entries) entries
-      evaluate-fits (fitsSelector {p = p} f g) = operand-fits (evaluate-fits f) λ x. select-fits g p (x .value)
+      evaluate-fits (fitsSelector {p = p} f g) = operand-fits (evaluate-fits f) λ x. select-fits (arms-fit g) p (x .value)
       evaluate-fits fitsUnreadable = allRefused
 
-      select-fits : {s : Arms} → FitsArms Given s → (p : ℕ) (x : Value) → All Ranged (select k c st s p x)
-      select-fits fitsNoArm p x = allRefused
-      select-fits (fitsArm {v = v} w f g) p x = joining-fits _ (λ y. words-one (v .label)) (allIf (sameValue x (v .value)) (evaluate-fits f) (select-fits g p x))
-      select-fits (fitsDefaultArm f g) p x = evaluate-fits f
+      arms-fit : {s : Arms} → FitsArms Given s → Every (All Ranged) (armPatterns k c st s)
+      arms-fit fitsNoArm = everyNone
+      arms-fit (fitsArm w f g) = everyConstant (evaluate-fits f) (arms-fit g)
+      arms-fit (fitsDefaultArm f g) = everyDefault (evaluate-fits f) (arms-fit g)

@@ -2,6 +2,9 @@
 -- expected bytes are literal numbers. Tags are in hexadecimal in the comments, other numbers decimal; a number in brackets after a constant is its label.
 -- After a refusal the whole output is zero; a catalog is followed by zeros up to the output's end. "Kills" names the wrong rules under
 -- which the row would be false.
+--
+-- Rows 29 to 36 and row 16 are of the request that a default goes last. No starred row has a default before another pattern, so the starred
+-- ones stand as they were.
 use Prim.Native.Nat.{ℕ}
 use mathlib.Core.List.{List, [], _∷_}
 
@@ -375,10 +378,10 @@ row15 = record {
 }
 
 -- 16. kiosk "a" (1): fee = 5 (2) ? {"a" (3) => 10 (4), default => 20 (5), 5 (6) => 30 (7)}.
--- "Patterns are tried in written order and default matches where it is reached", so the later 5 is never tried: fee is 20. "A selector's is
--- scrutinee, patterns tried and chosen expression": 2, then 3, which is tried though of another kind, then 5; default has no label. With the
--- resource's 1 that is 1,2,3,5.
--- Kills: default not matching where it is reached (30 with 6,7); a title's labels missing in its attributes (fee loses 1).
+-- "A default in a case or selector is tried only after every other pattern", so the 5 behind it is tried and is equal: fee is 30. "A selector's is
+-- scrutinee, patterns tried and chosen expression": 2, then 3, which is tried though of another kind, and 6, then 7. With the resource's 1 that is
+-- 1,2,3,6,7.
+-- Kills: default matching where it is reached (20 with 1,2,3,5); a title's labels missing in its attributes (fee loses 1).
 unfoldable pub row16 : Row
 row16 = record {
   manifest =
@@ -395,8 +398,8 @@ row16 = record {
       64 ∷ 0 ∷ 84 ∷ 0 ∷ 2 ∷ 0 ∷ 0 ∷
       2 ∷ 0 ∷ 0 ∷ 0 ∷ 0 ∷ 0 ∷ 0 ∷ 0 ∷ 0 ∷ 0 ∷ 0 ∷ 0 ∷ 0 ∷ 0 ∷ 0 ∷ 0 ∷ 0 ∷ 0 ∷ 0 ∷ 0 ∷ 0 ∷ 0 ∷ 0 ∷ 0 ∷ 0 ∷ 0 ∷ 0 ∷ 0 ∷ 0 ∷ 0 ∷ 0 ∷ 0 ∷
       65 ∷ 0 ∷ 45 ∷ 0 ∷ 1 ∷
-      46 ∷ 0 ∷ 0 ∷ 0 ∷ 0 ∷ 0 ∷ 0 ∷ 0 ∷ 0 ∷ 0 ∷ 0 ∷ 0 ∷ 0 ∷ 0 ∷ 0 ∷ 0 ∷ 0 ∷ 0 ∷ 0 ∷ 0 ∷ 0 ∷ 0 ∷ 0 ∷ 0 ∷ 0 ∷ 0 ∷ 0 ∷ 0 ∷ 0 ∷ 0 ∷ 0 ∷ 0 ∷
-      66 ∷ 0 ∷ 8 ∷ 0 ∷ 0 ∷ 0 ∷ 0 ∷ 0 ∷ 0 ∷ 0 ∷ 20 ∷ []);
+      206 ∷ 0 ∷ 0 ∷ 0 ∷ 0 ∷ 0 ∷ 0 ∷ 0 ∷ 0 ∷ 0 ∷ 0 ∷ 0 ∷ 0 ∷ 0 ∷ 0 ∷ 0 ∷ 0 ∷ 0 ∷ 0 ∷ 0 ∷ 0 ∷ 0 ∷ 0 ∷ 0 ∷ 0 ∷ 0 ∷ 0 ∷ 0 ∷ 0 ∷ 0 ∷ 0 ∷ 0 ∷
+      66 ∷ 0 ∷ 8 ∷ 0 ∷ 0 ∷ 0 ∷ 0 ∷ 0 ∷ 0 ∷ 0 ∷ 30 ∷ []);
 }
 
 -- 17. case 5 (1) {7 (2): {x = 9 (3)}; 5 (4): {kiosk "a" (5)}; true (6): {}}; x = 8 (7); kiosk "b" (8): fee = x.
@@ -651,11 +654,205 @@ row28 = record {
       66 ∷ 0 ∷ 8 ∷ 0 ∷ 0 ∷ 0 ∷ 0 ∷ 0 ∷ 0 ∷ 0 ∷ 5 ∷ []);
 }
 
+-- 29. kiosk "a" (1): fee = 5 (2) ? {default => 20 (3), 7 (4) => 10 (5)}.
+-- "A default in a case or selector is tried only after every other pattern": the 7 behind it is tried first and is not equal, so fee is 20. When the
+-- default is chosen, every constant was tried. The set is the scrutinee's 2, the pattern's 4, the chosen 3 and the resource's 1.
+-- Kills: default matching where it is reached (fee loses 4); a default that adds only the patterns written before it (the same).
+unfoldable pub row29 : Row
+row29 = record {
+  manifest =
+      1 ∷ 0 ∷ 18 ∷ 2 ∷ 0 ∷ 1 ∷ 97 ∷ 2 ∷ 0 ∷ 3 ∷ 102 ∷ 101 ∷ 101 ∷ 2 ∷ 0 ∷ 5 ∷ 107 ∷ 105 ∷ 111 ∷ 115 ∷ 107 ∷
+      37 ∷ 0 ∷ 73 ∷ 0 ∷ 2 ∷ 17 ∷ 0 ∷ 3 ∷ 1 ∷ 0 ∷ 0 ∷
+      38 ∷ 0 ∷ 62 ∷ 0 ∷ 1 ∷ 25 ∷ 0 ∷ 57 ∷ 16 ∷ 0 ∷ 9 ∷ 2 ∷ 0 ∷ 0 ∷ 0 ∷ 0 ∷ 0 ∷ 0 ∷ 0 ∷ 5 ∷
+      26 ∷ 0 ∷ 15 ∷ 27 ∷ 0 ∷ 0 ∷ 16 ∷ 0 ∷ 9 ∷ 3 ∷ 0 ∷ 0 ∷ 0 ∷ 0 ∷ 0 ∷ 0 ∷ 0 ∷ 20 ∷
+      26 ∷ 0 ∷ 24 ∷ 16 ∷ 0 ∷ 9 ∷ 4 ∷ 0 ∷ 0 ∷ 0 ∷ 0 ∷ 0 ∷ 0 ∷ 0 ∷ 7 ∷ 16 ∷ 0 ∷ 9 ∷ 5 ∷ 0 ∷ 0 ∷ 0 ∷ 0 ∷ 0 ∷ 0 ∷ 0 ∷ 10 ∷ [];
+  device = 100 ∷ 101 ∷ 115 ∷ 107 ∷ [];
+  limit = 65535;
+  output = 200;
+  memory = 65536;
+  expected = accepted 1 (
+      64 ∷ 0 ∷ 84 ∷ 0 ∷ 2 ∷ 0 ∷ 0 ∷
+      2 ∷ 0 ∷ 0 ∷ 0 ∷ 0 ∷ 0 ∷ 0 ∷ 0 ∷ 0 ∷ 0 ∷ 0 ∷ 0 ∷ 0 ∷ 0 ∷ 0 ∷ 0 ∷ 0 ∷ 0 ∷ 0 ∷ 0 ∷ 0 ∷ 0 ∷ 0 ∷ 0 ∷ 0 ∷ 0 ∷ 0 ∷ 0 ∷ 0 ∷ 0 ∷ 0 ∷ 0 ∷
+      65 ∷ 0 ∷ 45 ∷ 0 ∷ 1 ∷
+      30 ∷ 0 ∷ 0 ∷ 0 ∷ 0 ∷ 0 ∷ 0 ∷ 0 ∷ 0 ∷ 0 ∷ 0 ∷ 0 ∷ 0 ∷ 0 ∷ 0 ∷ 0 ∷ 0 ∷ 0 ∷ 0 ∷ 0 ∷ 0 ∷ 0 ∷ 0 ∷ 0 ∷ 0 ∷ 0 ∷ 0 ∷ 0 ∷ 0 ∷ 0 ∷ 0 ∷ 0 ∷
+      66 ∷ 0 ∷ 8 ∷ 0 ∷ 0 ∷ 0 ∷ 0 ∷ 0 ∷ 0 ∷ 0 ∷ 20 ∷ []);
+}
+
+-- 30. Row 29 with 5 (4) for 7 (4): the edit of one constant, whose label is in the set of row 29's fee.
+-- The constant behind the default is equal: fee is 10, with 2, then 4 and 5, and the resource's 1. The default is not tried.
+-- Kills: default matching where it is reached (20 with 1,2,3), under which the edit would move nothing.
+unfoldable pub row30 : Row
+row30 = record {
+  manifest =
+      1 ∷ 0 ∷ 18 ∷ 2 ∷ 0 ∷ 1 ∷ 97 ∷ 2 ∷ 0 ∷ 3 ∷ 102 ∷ 101 ∷ 101 ∷ 2 ∷ 0 ∷ 5 ∷ 107 ∷ 105 ∷ 111 ∷ 115 ∷ 107 ∷
+      37 ∷ 0 ∷ 73 ∷ 0 ∷ 2 ∷ 17 ∷ 0 ∷ 3 ∷ 1 ∷ 0 ∷ 0 ∷
+      38 ∷ 0 ∷ 62 ∷ 0 ∷ 1 ∷ 25 ∷ 0 ∷ 57 ∷ 16 ∷ 0 ∷ 9 ∷ 2 ∷ 0 ∷ 0 ∷ 0 ∷ 0 ∷ 0 ∷ 0 ∷ 0 ∷ 5 ∷
+      26 ∷ 0 ∷ 15 ∷ 27 ∷ 0 ∷ 0 ∷ 16 ∷ 0 ∷ 9 ∷ 3 ∷ 0 ∷ 0 ∷ 0 ∷ 0 ∷ 0 ∷ 0 ∷ 0 ∷ 20 ∷
+      26 ∷ 0 ∷ 24 ∷ 16 ∷ 0 ∷ 9 ∷ 4 ∷ 0 ∷ 0 ∷ 0 ∷ 0 ∷ 0 ∷ 0 ∷ 0 ∷ 5 ∷ 16 ∷ 0 ∷ 9 ∷ 5 ∷ 0 ∷ 0 ∷ 0 ∷ 0 ∷ 0 ∷ 0 ∷ 0 ∷ 10 ∷ [];
+  device = 100 ∷ 101 ∷ 115 ∷ 107 ∷ [];
+  limit = 65535;
+  output = 200;
+  memory = 65536;
+  expected = accepted 1 (
+      64 ∷ 0 ∷ 84 ∷ 0 ∷ 2 ∷ 0 ∷ 0 ∷
+      2 ∷ 0 ∷ 0 ∷ 0 ∷ 0 ∷ 0 ∷ 0 ∷ 0 ∷ 0 ∷ 0 ∷ 0 ∷ 0 ∷ 0 ∷ 0 ∷ 0 ∷ 0 ∷ 0 ∷ 0 ∷ 0 ∷ 0 ∷ 0 ∷ 0 ∷ 0 ∷ 0 ∷ 0 ∷ 0 ∷ 0 ∷ 0 ∷ 0 ∷ 0 ∷ 0 ∷ 0 ∷
+      65 ∷ 0 ∷ 45 ∷ 0 ∷ 1 ∷
+      54 ∷ 0 ∷ 0 ∷ 0 ∷ 0 ∷ 0 ∷ 0 ∷ 0 ∷ 0 ∷ 0 ∷ 0 ∷ 0 ∷ 0 ∷ 0 ∷ 0 ∷ 0 ∷ 0 ∷ 0 ∷ 0 ∷ 0 ∷ 0 ∷ 0 ∷ 0 ∷ 0 ∷ 0 ∷ 0 ∷ 0 ∷ 0 ∷ 0 ∷ 0 ∷ 0 ∷ 0 ∷
+      66 ∷ 0 ∷ 8 ∷ 0 ∷ 0 ∷ 0 ∷ 0 ∷ 0 ∷ 0 ∷ 0 ∷ 10 ∷ []);
+}
+
+-- 31. kiosk "a" (1): fee = 5 (2) ? {"a" (3) => 10 (4), default => 20 (5), 6 (6) => 30 (7)}.
+-- As row 16, where no constant is equal: both are tried, the one behind the default too. So fee is 20 with 1,2,3,5,6.
+-- Kills: default matching where it is reached, or a default that adds only the patterns written before it (fee loses 6).
+unfoldable pub row31 : Row
+row31 = record {
+  manifest =
+      1 ∷ 0 ∷ 18 ∷ 2 ∷ 0 ∷ 1 ∷ 97 ∷ 2 ∷ 0 ∷ 3 ∷ 102 ∷ 101 ∷ 101 ∷ 2 ∷ 0 ∷ 5 ∷ 107 ∷ 105 ∷ 111 ∷ 115 ∷ 107 ∷
+      37 ∷ 0 ∷ 94 ∷ 0 ∷ 2 ∷ 17 ∷ 0 ∷ 3 ∷ 1 ∷ 0 ∷ 0 ∷
+      38 ∷ 0 ∷ 83 ∷ 0 ∷ 1 ∷ 25 ∷ 0 ∷ 78 ∷ 16 ∷ 0 ∷ 9 ∷ 2 ∷ 0 ∷ 0 ∷ 0 ∷ 0 ∷ 0 ∷ 0 ∷ 0 ∷ 5 ∷
+      26 ∷ 0 ∷ 18 ∷ 17 ∷ 0 ∷ 3 ∷ 3 ∷ 0 ∷ 0 ∷ 16 ∷ 0 ∷ 9 ∷ 4 ∷ 0 ∷ 0 ∷ 0 ∷ 0 ∷ 0 ∷ 0 ∷ 0 ∷ 10 ∷
+      26 ∷ 0 ∷ 15 ∷ 27 ∷ 0 ∷ 0 ∷ 16 ∷ 0 ∷ 9 ∷ 5 ∷ 0 ∷ 0 ∷ 0 ∷ 0 ∷ 0 ∷ 0 ∷ 0 ∷ 20 ∷
+      26 ∷ 0 ∷ 24 ∷ 16 ∷ 0 ∷ 9 ∷ 6 ∷ 0 ∷ 0 ∷ 0 ∷ 0 ∷ 0 ∷ 0 ∷ 0 ∷ 6 ∷ 16 ∷ 0 ∷ 9 ∷ 7 ∷ 0 ∷ 0 ∷ 0 ∷ 0 ∷ 0 ∷ 0 ∷ 0 ∷ 30 ∷ [];
+  device = 100 ∷ 101 ∷ 115 ∷ 107 ∷ [];
+  limit = 65535;
+  output = 200;
+  memory = 65536;
+  expected = accepted 1 (
+      64 ∷ 0 ∷ 84 ∷ 0 ∷ 2 ∷ 0 ∷ 0 ∷
+      2 ∷ 0 ∷ 0 ∷ 0 ∷ 0 ∷ 0 ∷ 0 ∷ 0 ∷ 0 ∷ 0 ∷ 0 ∷ 0 ∷ 0 ∷ 0 ∷ 0 ∷ 0 ∷ 0 ∷ 0 ∷ 0 ∷ 0 ∷ 0 ∷ 0 ∷ 0 ∷ 0 ∷ 0 ∷ 0 ∷ 0 ∷ 0 ∷ 0 ∷ 0 ∷ 0 ∷ 0 ∷
+      65 ∷ 0 ∷ 45 ∷ 0 ∷ 1 ∷
+      110 ∷ 0 ∷ 0 ∷ 0 ∷ 0 ∷ 0 ∷ 0 ∷ 0 ∷ 0 ∷ 0 ∷ 0 ∷ 0 ∷ 0 ∷ 0 ∷ 0 ∷ 0 ∷ 0 ∷ 0 ∷ 0 ∷ 0 ∷ 0 ∷ 0 ∷ 0 ∷ 0 ∷ 0 ∷ 0 ∷ 0 ∷ 0 ∷ 0 ∷ 0 ∷ 0 ∷ 0 ∷
+      66 ∷ 0 ∷ 8 ∷ 0 ∷ 0 ∷ 0 ∷ 0 ∷ 0 ∷ 0 ∷ 0 ∷ 20 ∷ []);
+}
+
+-- 32. kiosk "a" (1): fee = 5 (2) ? {default => 20 (3), 7 (4) => 10 (5), default => 40 (6)}.
+-- "With two defaults the first counts": fee is 20 with 1,2,3,4; the second one's 6 is not evaluated.
+-- Kills: the second default chosen (40 with 1,2,4,6).
+unfoldable pub row32 : Row
+row32 = record {
+  manifest =
+      1 ∷ 0 ∷ 18 ∷ 2 ∷ 0 ∷ 1 ∷ 97 ∷ 2 ∷ 0 ∷ 3 ∷ 102 ∷ 101 ∷ 101 ∷ 2 ∷ 0 ∷ 5 ∷ 107 ∷ 105 ∷ 111 ∷ 115 ∷ 107 ∷
+      37 ∷ 0 ∷ 91 ∷ 0 ∷ 2 ∷ 17 ∷ 0 ∷ 3 ∷ 1 ∷ 0 ∷ 0 ∷
+      38 ∷ 0 ∷ 80 ∷ 0 ∷ 1 ∷ 25 ∷ 0 ∷ 75 ∷ 16 ∷ 0 ∷ 9 ∷ 2 ∷ 0 ∷ 0 ∷ 0 ∷ 0 ∷ 0 ∷ 0 ∷ 0 ∷ 5 ∷
+      26 ∷ 0 ∷ 15 ∷ 27 ∷ 0 ∷ 0 ∷ 16 ∷ 0 ∷ 9 ∷ 3 ∷ 0 ∷ 0 ∷ 0 ∷ 0 ∷ 0 ∷ 0 ∷ 0 ∷ 20 ∷
+      26 ∷ 0 ∷ 24 ∷ 16 ∷ 0 ∷ 9 ∷ 4 ∷ 0 ∷ 0 ∷ 0 ∷ 0 ∷ 0 ∷ 0 ∷ 0 ∷ 7 ∷ 16 ∷ 0 ∷ 9 ∷ 5 ∷ 0 ∷ 0 ∷ 0 ∷ 0 ∷ 0 ∷ 0 ∷ 0 ∷ 10 ∷
+      26 ∷ 0 ∷ 15 ∷ 27 ∷ 0 ∷ 0 ∷ 16 ∷ 0 ∷ 9 ∷ 6 ∷ 0 ∷ 0 ∷ 0 ∷ 0 ∷ 0 ∷ 0 ∷ 0 ∷ 40 ∷ [];
+  device = 100 ∷ 101 ∷ 115 ∷ 107 ∷ [];
+  limit = 65535;
+  output = 200;
+  memory = 65536;
+  expected = accepted 1 (
+      64 ∷ 0 ∷ 84 ∷ 0 ∷ 2 ∷ 0 ∷ 0 ∷
+      2 ∷ 0 ∷ 0 ∷ 0 ∷ 0 ∷ 0 ∷ 0 ∷ 0 ∷ 0 ∷ 0 ∷ 0 ∷ 0 ∷ 0 ∷ 0 ∷ 0 ∷ 0 ∷ 0 ∷ 0 ∷ 0 ∷ 0 ∷ 0 ∷ 0 ∷ 0 ∷ 0 ∷ 0 ∷ 0 ∷ 0 ∷ 0 ∷ 0 ∷ 0 ∷ 0 ∷ 0 ∷
+      65 ∷ 0 ∷ 45 ∷ 0 ∷ 1 ∷
+      30 ∷ 0 ∷ 0 ∷ 0 ∷ 0 ∷ 0 ∷ 0 ∷ 0 ∷ 0 ∷ 0 ∷ 0 ∷ 0 ∷ 0 ∷ 0 ∷ 0 ∷ 0 ∷ 0 ∷ 0 ∷ 0 ∷ 0 ∷ 0 ∷ 0 ∷ 0 ∷ 0 ∷ 0 ∷ 0 ∷ 0 ∷ 0 ∷ 0 ∷ 0 ∷ 0 ∷ 0 ∷
+      66 ∷ 0 ∷ 8 ∷ 0 ∷ 0 ∷ 0 ∷ 0 ∷ 0 ∷ 0 ∷ 0 ∷ 20 ∷ []);
+}
+
+-- 33. case 5 (1) {default: {kiosk "a" (2)}; 7 (3): {kiosk "b" (4)}}.
+-- As row 29, of a case: the 7 is tried and is not equal, so the default's block runs. The set is 1 and the pattern tried, 3, and is the path of
+-- kiosk "a", which has 1,2,3. Steps: 23, 25.
+-- Kills: default matching where it is reached, or a default that adds only the patterns written before it (the kiosk loses 3).
+unfoldable pub row33 : Row
+row33 = record {
+  manifest =
+      1 ∷ 0 ∷ 16 ∷ 2 ∷ 0 ∷ 1 ∷ 97 ∷ 2 ∷ 0 ∷ 1 ∷ 98 ∷ 2 ∷ 0 ∷ 5 ∷ 107 ∷ 105 ∷ 111 ∷ 115 ∷ 107 ∷
+      35 ∷ 0 ∷ 61 ∷ 16 ∷ 0 ∷ 9 ∷ 1 ∷ 0 ∷ 0 ∷ 0 ∷ 0 ∷ 0 ∷ 0 ∷ 0 ∷ 5 ∷
+      36 ∷ 0 ∷ 17 ∷ 27 ∷ 0 ∷ 0 ∷ 32 ∷ 0 ∷ 11 ∷
+      37 ∷ 0 ∷ 8 ∷ 0 ∷ 2 ∷ 17 ∷ 0 ∷ 3 ∷ 2 ∷ 0 ∷ 0 ∷
+      36 ∷ 0 ∷ 26 ∷ 16 ∷ 0 ∷ 9 ∷ 3 ∷ 0 ∷ 0 ∷ 0 ∷ 0 ∷ 0 ∷ 0 ∷ 0 ∷ 7 ∷ 32 ∷ 0 ∷ 11 ∷
+      37 ∷ 0 ∷ 8 ∷ 0 ∷ 2 ∷ 17 ∷ 0 ∷ 3 ∷ 4 ∷ 0 ∷ 1 ∷ [];
+  device = 100 ∷ 101 ∷ 115 ∷ 107 ∷ [];
+  limit = 65535;
+  output = 200;
+  memory = 65536;
+  expected = accepted 2 (
+      64 ∷ 0 ∷ 36 ∷ 0 ∷ 2 ∷ 0 ∷ 0 ∷
+      14 ∷ 0 ∷ 0 ∷ 0 ∷ 0 ∷ 0 ∷ 0 ∷ 0 ∷ 0 ∷ 0 ∷ 0 ∷ 0 ∷ 0 ∷ 0 ∷ 0 ∷ 0 ∷ 0 ∷ 0 ∷ 0 ∷ 0 ∷ 0 ∷ 0 ∷ 0 ∷ 0 ∷ 0 ∷ 0 ∷ 0 ∷ 0 ∷ 0 ∷ 0 ∷ 0 ∷ 0 ∷ []);
+}
+
+-- 34. Row 33 with 5 (3) for 7 (3): the constant behind the default is equal, so its block runs: kiosk "b" has 1,3,4.
+-- Kills: default matching where it is reached (kiosk "a" with 1,2).
+unfoldable pub row34 : Row
+row34 = record {
+  manifest =
+      1 ∷ 0 ∷ 16 ∷ 2 ∷ 0 ∷ 1 ∷ 97 ∷ 2 ∷ 0 ∷ 1 ∷ 98 ∷ 2 ∷ 0 ∷ 5 ∷ 107 ∷ 105 ∷ 111 ∷ 115 ∷ 107 ∷
+      35 ∷ 0 ∷ 61 ∷ 16 ∷ 0 ∷ 9 ∷ 1 ∷ 0 ∷ 0 ∷ 0 ∷ 0 ∷ 0 ∷ 0 ∷ 0 ∷ 5 ∷
+      36 ∷ 0 ∷ 17 ∷ 27 ∷ 0 ∷ 0 ∷ 32 ∷ 0 ∷ 11 ∷
+      37 ∷ 0 ∷ 8 ∷ 0 ∷ 2 ∷ 17 ∷ 0 ∷ 3 ∷ 2 ∷ 0 ∷ 0 ∷
+      36 ∷ 0 ∷ 26 ∷ 16 ∷ 0 ∷ 9 ∷ 3 ∷ 0 ∷ 0 ∷ 0 ∷ 0 ∷ 0 ∷ 0 ∷ 0 ∷ 5 ∷ 32 ∷ 0 ∷ 11 ∷
+      37 ∷ 0 ∷ 8 ∷ 0 ∷ 2 ∷ 17 ∷ 0 ∷ 3 ∷ 4 ∷ 0 ∷ 1 ∷ [];
+  device = 100 ∷ 101 ∷ 115 ∷ 107 ∷ [];
+  limit = 65535;
+  output = 200;
+  memory = 65536;
+  expected = accepted 2 (
+      64 ∷ 0 ∷ 36 ∷ 0 ∷ 2 ∷ 0 ∷ 1 ∷
+      26 ∷ 0 ∷ 0 ∷ 0 ∷ 0 ∷ 0 ∷ 0 ∷ 0 ∷ 0 ∷ 0 ∷ 0 ∷ 0 ∷ 0 ∷ 0 ∷ 0 ∷ 0 ∷ 0 ∷ 0 ∷ 0 ∷ 0 ∷ 0 ∷ 0 ∷ 0 ∷ 0 ∷ 0 ∷ 0 ∷ 0 ∷ 0 ∷ 0 ∷ 0 ∷ 0 ∷ 0 ∷ []);
+}
+
+-- 35. case 5 (1) {7 (2): {}; default: {kiosk "a" (3)}; 6 (4): {kiosk "b" (5)}}.
+-- The default in the middle: 7 and 6 are tried before it, so kiosk "a" has 1,2,3,4.
+-- Kills: default matching where it is reached, or a default that adds only the patterns written before it (the kiosk loses 4).
+unfoldable pub row35 : Row
+row35 = record {
+  manifest =
+      1 ∷ 0 ∷ 16 ∷ 2 ∷ 0 ∷ 1 ∷ 97 ∷ 2 ∷ 0 ∷ 1 ∷ 98 ∷ 2 ∷ 0 ∷ 5 ∷ 107 ∷ 105 ∷ 111 ∷ 115 ∷ 107 ∷
+      35 ∷ 0 ∷ 79 ∷ 16 ∷ 0 ∷ 9 ∷ 1 ∷ 0 ∷ 0 ∷ 0 ∷ 0 ∷ 0 ∷ 0 ∷ 0 ∷ 5 ∷
+      36 ∷ 0 ∷ 15 ∷ 16 ∷ 0 ∷ 9 ∷ 2 ∷ 0 ∷ 0 ∷ 0 ∷ 0 ∷ 0 ∷ 0 ∷ 0 ∷ 7 ∷ 32 ∷ 0 ∷ 0 ∷
+      36 ∷ 0 ∷ 17 ∷ 27 ∷ 0 ∷ 0 ∷ 32 ∷ 0 ∷ 11 ∷
+      37 ∷ 0 ∷ 8 ∷ 0 ∷ 2 ∷ 17 ∷ 0 ∷ 3 ∷ 3 ∷ 0 ∷ 0 ∷
+      36 ∷ 0 ∷ 26 ∷ 16 ∷ 0 ∷ 9 ∷ 4 ∷ 0 ∷ 0 ∷ 0 ∷ 0 ∷ 0 ∷ 0 ∷ 0 ∷ 6 ∷ 32 ∷ 0 ∷ 11 ∷
+      37 ∷ 0 ∷ 8 ∷ 0 ∷ 2 ∷ 17 ∷ 0 ∷ 3 ∷ 5 ∷ 0 ∷ 1 ∷ [];
+  device = 100 ∷ 101 ∷ 115 ∷ 107 ∷ [];
+  limit = 65535;
+  output = 200;
+  memory = 65536;
+  expected = accepted 2 (
+      64 ∷ 0 ∷ 36 ∷ 0 ∷ 2 ∷ 0 ∷ 0 ∷
+      30 ∷ 0 ∷ 0 ∷ 0 ∷ 0 ∷ 0 ∷ 0 ∷ 0 ∷ 0 ∷ 0 ∷ 0 ∷ 0 ∷ 0 ∷ 0 ∷ 0 ∷ 0 ∷ 0 ∷ 0 ∷ 0 ∷ 0 ∷ 0 ∷ 0 ∷ 0 ∷ 0 ∷ 0 ∷ 0 ∷ 0 ∷ 0 ∷ 0 ∷ 0 ∷ 0 ∷ 0 ∷ []);
+}
+
+-- 36. class k {}; case 5 (1) {default: {kiosk "a" (2)}; 7 (3): {}; default: {x = 9 (4); include k}}; x = 8 (5); kiosk "b" (6): fee = x.
+-- "With two defaults the first counts": kiosk "a" has 1,2,3, and k is not declared. The block of the second one counts all the same for marks and
+-- trail, "each name assigned anywhere in any of its branches, taken or not", "if any branch holds a 27, 28 or 29 at any depth": {1,3} joins the mark
+-- of x and the trail, which kiosk "a", stored after the test, has already by its path. So kiosk "b" has 1,3,6 and its fee 8, stored with 5 and the trail,
+-- has 1,3,5,6. Steps: 23, 25, 21, 25.
+-- Kills: the second default chosen (x twice, 14); a branch that is never reached left out of marks and trail (kiosk "b" and fee lose 1 and 3).
+unfoldable pub row36 : Row
+row36 = record {
+  manifest =
+      1 ∷ 0 ∷ 30 ∷ 2 ∷ 0 ∷ 1 ∷ 97 ∷ 2 ∷ 0 ∷ 1 ∷ 98 ∷ 2 ∷ 0 ∷ 3 ∷ 102 ∷ 101 ∷ 101 ∷ 2 ∷ 0 ∷ 1 ∷ 107 ∷ 2 ∷ 0 ∷ 5 ∷ 107 ∷ 105 ∷ 111 ∷ 115 ∷ 107 ∷ 2 ∷ 0 ∷ 1 ∷ 120 ∷
+      52 ∷ 0 ∷ 5 ∷ 0 ∷ 3 ∷ 32 ∷ 0 ∷ 0 ∷
+      35 ∷ 0 ∷ 81 ∷ 16 ∷ 0 ∷ 9 ∷ 1 ∷ 0 ∷ 0 ∷ 0 ∷ 0 ∷ 0 ∷ 0 ∷ 0 ∷ 5 ∷
+      36 ∷ 0 ∷ 17 ∷ 27 ∷ 0 ∷ 0 ∷ 32 ∷ 0 ∷ 11 ∷
+      37 ∷ 0 ∷ 8 ∷ 0 ∷ 4 ∷ 17 ∷ 0 ∷ 3 ∷ 2 ∷ 0 ∷ 0 ∷
+      36 ∷ 0 ∷ 15 ∷ 16 ∷ 0 ∷ 9 ∷ 3 ∷ 0 ∷ 0 ∷ 0 ∷ 0 ∷ 0 ∷ 0 ∷ 0 ∷ 7 ∷ 32 ∷ 0 ∷ 0 ∷
+      36 ∷ 0 ∷ 28 ∷ 27 ∷ 0 ∷ 0 ∷ 32 ∷ 0 ∷ 22 ∷
+      33 ∷ 0 ∷ 14 ∷ 0 ∷ 5 ∷ 16 ∷ 0 ∷ 9 ∷ 4 ∷ 0 ∷ 0 ∷ 0 ∷ 0 ∷ 0 ∷ 0 ∷ 0 ∷ 9 ∷
+      41 ∷ 0 ∷ 2 ∷ 0 ∷ 3 ∷
+      33 ∷ 0 ∷ 14 ∷ 0 ∷ 5 ∷ 16 ∷ 0 ∷ 9 ∷ 5 ∷ 0 ∷ 0 ∷ 0 ∷ 0 ∷ 0 ∷ 0 ∷ 0 ∷ 8 ∷
+      37 ∷ 0 ∷ 18 ∷ 0 ∷ 4 ∷ 17 ∷ 0 ∷ 3 ∷ 6 ∷ 0 ∷ 1 ∷
+      38 ∷ 0 ∷ 7 ∷ 0 ∷ 2 ∷ 19 ∷ 0 ∷ 2 ∷ 0 ∷ 5 ∷ [];
+  device = 100 ∷ 101 ∷ 115 ∷ 107 ∷ [];
+  limit = 65535;
+  output = 300;
+  memory = 65536;
+  expected = accepted 4 (
+      64 ∷ 0 ∷ 36 ∷ 0 ∷ 4 ∷ 0 ∷ 0 ∷
+      14 ∷ 0 ∷ 0 ∷ 0 ∷ 0 ∷ 0 ∷ 0 ∷ 0 ∷ 0 ∷ 0 ∷ 0 ∷ 0 ∷ 0 ∷ 0 ∷ 0 ∷ 0 ∷ 0 ∷ 0 ∷ 0 ∷ 0 ∷ 0 ∷ 0 ∷ 0 ∷ 0 ∷ 0 ∷ 0 ∷ 0 ∷ 0 ∷ 0 ∷ 0 ∷ 0 ∷ 0 ∷
+      64 ∷ 0 ∷ 84 ∷ 0 ∷ 4 ∷ 0 ∷ 1 ∷
+      74 ∷ 0 ∷ 0 ∷ 0 ∷ 0 ∷ 0 ∷ 0 ∷ 0 ∷ 0 ∷ 0 ∷ 0 ∷ 0 ∷ 0 ∷ 0 ∷ 0 ∷ 0 ∷ 0 ∷ 0 ∷ 0 ∷ 0 ∷ 0 ∷ 0 ∷ 0 ∷ 0 ∷ 0 ∷ 0 ∷ 0 ∷ 0 ∷ 0 ∷ 0 ∷ 0 ∷ 0 ∷
+      65 ∷ 0 ∷ 45 ∷ 0 ∷ 2 ∷
+      106 ∷ 0 ∷ 0 ∷ 0 ∷ 0 ∷ 0 ∷ 0 ∷ 0 ∷ 0 ∷ 0 ∷ 0 ∷ 0 ∷ 0 ∷ 0 ∷ 0 ∷ 0 ∷ 0 ∷ 0 ∷ 0 ∷ 0 ∷ 0 ∷ 0 ∷ 0 ∷ 0 ∷ 0 ∷ 0 ∷ 0 ∷ 0 ∷ 0 ∷ 0 ∷ 0 ∷ 0 ∷
+      66 ∷ 0 ∷ 8 ∷ 0 ∷ 0 ∷ 0 ∷ 0 ∷ 0 ∷ 0 ∷ 0 ∷ 8 ∷ []);
+}
+
 unfoldable pub table : List Row
 table =
     row1 ∷ row2 ∷ row3 ∷ row4 ∷ row5 ∷ row6 ∷ row7 ∷ row8 ∷ row9 ∷ row10 ∷ row11 ∷ row12 ∷ row13 ∷
     row14 ∷ row15 ∷ row16 ∷ row17 ∷ row18 ∷ row19 ∷ row20 ∷ row21 ∷ row22 ∷ row23 ∷ row24 ∷ row25 ∷ row26 ∷
-    row27 ∷ row28 ∷ []
+    row27 ∷ row28 ∷ row29 ∷ row30 ∷ row31 ∷ row32 ∷ row33 ∷ row34 ∷ row35 ∷ row36 ∷ []
 
 -- What the schedule printer writes for the manifests of rows 1 and 2 and device "desk". Each line ends in a line feed.
 

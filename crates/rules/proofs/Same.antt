@@ -1,15 +1,17 @@
 -- Two trees that are one tree: the same but for places, and for constants whose labels are those of differing constants.
 use Prim.Native.Nat.{ℕ}
-use mathlib.Core.Path.{_≡_}
+use mathlib.Core.Path.{_≡_, _∙_}
 use mathlib.Core.Logic.{_⊎_}
 use mathlib.Core.List.{List, [], _∷_}
 use mathlib.Core.Option.{Option, none, some}
 use Rattle.labels.specs.declared.Labels.{Labels}
-use Rattle.labels.specs.Sets.{has}
+use Rattle.labels.specs.Sets.{oneLabel, _∪_, has}
+use Rattle.labels.proofs.Laws.{has-own, has-union}
 use Rattle.values.specs.declared.Value.{Value}
 use mathlib.Core.Bool.{true}
 use Rattle.rules.specs.Tree.{Constant, Operator, Expression, constant, variable, topVariable, classVariable, operation, negation, attributeRead, selector, Arms, noArm, arm, defaultArm, AttributeField, Statement, assignment, conditional, choice, builtInResource, definedResource, classWithAttributes, include, Block, end, next, Branches, noBranch, branch, defaultBranch, Parameter, Parent, TypeDefinition, ClassDefinition, Definition, typeDefinition, classDefinition, Devices, Item, statement, node, definition}
 use Rattle.rules.specs.Tree
+use Rattle.rules.proofs.Lists.{or-true-left, or-true-right}
 
 -- the elements of two lists, pairwise
 pub data Pairwise {A : Type 0} (R : A → A → Type 0) : List A → List A → Type 0 where
@@ -36,6 +38,16 @@ module _ (D : Edit) where
     pub label : ℕ
     pub differs : D .differs label
     pub within : has s label ≡ true
+
+  -- the three laws of such sets that are used from here on
+  pub high-one : {l : ℕ} → D .differs l → High (oneLabel l)
+  high-one {l} d = record { label = l; differs = d; within = has-own l }
+
+  pub high-left : {a : Labels} (b : Labels) → High a → High (a ∪ b)
+  high-left {a} b h = record { label = h .label; differs = h .differs; within = has-union a b (h .label) ∙ or-true-left (has a (h .label)) (has b (h .label)) (h .within) }
+
+  pub high-right : (a : Labels) {b : Labels} → High b → High (a ∪ b)
+  high-right a {b} h = record { label = h .label; differs = h .differs; within = has-union a b (h .label) ∙ or-true-right (has a (h .label)) (has b (h .label)) (h .within) }
 
   pub data SameConstant : Constant → Constant → Type 0 where
     sameConstant : {p q l : ℕ} {v w : Value} → D .places p q → D .differs l ⊎ (v ≡ w) → SameConstant (record { place = p; label = l; value = v }) (record { place = q; label = l; value = w })

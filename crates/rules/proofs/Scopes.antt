@@ -9,17 +9,16 @@ use mathlib.Core.Option.{Option, none, some}
 use lib.Dec.{eqb}
 use borrow.Author.Tests.{ne-eqb}
 use Rattle.labels.specs.declared.Labels.{Labels}
-use Rattle.values.specs.declared.Value.{Value}
 use Rattle.values.specs.declared.Labelled.{Labelled}
 use Rattle.rules.specs.Outcome.{done, _>>=_}
 use Rattle.rules.specs.Tree.{Statement, assignment, conditional, choice, builtInResource, definedResource, classWithAttributes, include, Block, end, next, Branches, noBranch, branch, defaultBranch, Parent, ClassDefinition, Definition, typeDefinition, classDefinition, Devices, Item, statement, node, definition}
 use Rattle.rules.specs.Tree
-use Rattle.rules.specs.Arithmetic.{sameValue}
 use Rattle.rules.specs.State.{Scope, topScope, nodeScope, classScope, bodyScope, sameScope, Base, topBase, nodeBase, baseScope, DeclaredClass, parentOfClass, parentOf, upward, Cell, noCell, valueInto, markInto, freed, count, State, Context, Known, scopesTried, isDeclared, takeStep, assign, tested, markDeclared, free, withEntry}
 use Rattle.rules.specs.Evaluate.{findClass}
-use Rattle.rules.specs.Run.{inBranch, store, Given, storeAll, storeTitle, addEntry, addResource, afterTest, Declaration, ofType, ofClass, included, Declare, run, runBlock, runBranch, placedUnder, inClass, inBody, parentFirst, enterClass, declaration, runAtTop, topContext, nodeContext, definedName, withDefinition, runItems}
+use Rattle.rules.specs.Run.{inBranch, store, Given, storeAll, storeTitle, addEntry, addResource, afterTest, Declaration, ofType, ofClass, included, Declare, run, runBlock, branchPatterns, placedUnder, inClass, inBody, parentFirst, enterClass, declaration, runAtTop, topContext, nodeContext, definedName, withDefinition, runItems}
 use Rattle.rules.specs.Compile.{start}
 use Rattle.rules.proofs.Lists.{Perhaps, notThere, there, Each, noneLeft, also, eqb-true, eqb-same, both-left, both-right, both-true}
+use Rattle.rules.proofs.Patterns.{everyNone, everyConstant, everyDefault, EveryBranch, branch-holds}
 use Rattle.rules.proofs.Outcome.{All, allRefused, allDone, allBind, allAny, allMap, allBoth, allIf, allPassed, allFound, allStep, withSteps}
 use Rattle.rules.proofs.Counting.{count-le, count-new}
 
@@ -253,7 +252,7 @@ module _ (known : Known) (n : ℕ) (declare : Declare) (below : Orderly n declar
     run-tidy (assignment p name e) here st o t = allAny _ λ x. assign-tidy vacant p (here .scope) name _ st o t
     run-tidy (conditional p e a b) here st o t = allAny _ λ x. allAny _ λ z. allBind (test-tidy vacant p here _ _ _ st o t) λ st′ h.
         allMap (allIf z (block-tidy a _ st′ o (h .tidy)) (block-tidy b _ st′ o (h .tidy))) λ st″ g. onward vacant h g
-    run-tidy (choice p e bs) here st o t = allAny _ λ x. allBind (test-tidy vacant p here _ _ _ st o t) λ st′ h. allMap (branch-tidy bs _ _ st′ o (h .tidy)) λ st″ g. onward vacant h g
+    run-tidy (choice p e bs) here st o t = allAny _ λ x. allBind (test-tidy vacant p here _ _ _ st o t) λ st′ h. allMap (branch-holds (branches-tidy bs _ st′ o (h .tidy)) _ (unchanged vacant st′ (h .tidy))) λ st″ g. onward vacant h g
     run-tidy (builtInResource p type e ats) here st o t = allAny _ λ x. allAny _ λ m. allAny _ λ gs. resource-tidy vacant known p type m _ gs here st t
     run-tidy (definedResource p type e ats) here st o t = allAny _ λ x. allAny _ λ m. allAny _ λ gs. below .orderly vacant all _ here st o t
     run-tidy (classWithAttributes p q ats) here st o t = allAny _ λ gs. below .orderly vacant all _ here st o t
@@ -265,10 +264,10 @@ module _ (known : Known) (n : ℕ) (declare : Declare) (below : Orderly n declar
     block-tidy (next s b) here st o t = allStep _ st _ λ m.
         allBind (run-tidy s here (withSteps m st) o (step-tidy vacant m st t .tidy)) λ st₂ h. allMap (block-tidy b here st₂ o (h .tidy)) λ st₃ g. onward vacant (step-tidy vacant m st t) (onward vacant h g)
 
-    branch-tidy : (bs : Branches) (x : Value) (here : Context) (st : State) → Outside vacant (here .scope) → Tidy vacant st → All (After vacant st) (runBranch known declare bs x here st)
-    branch-tidy noBranch x here st o t = allDone (unchanged vacant st t)
-    branch-tidy (branch v b bs) x here st o t = allIf (sameValue x (v .value)) (block-tidy b here st o t) (branch-tidy bs x here st o t)
-    branch-tidy (defaultBranch b bs) x here st o t = block-tidy b here st o t
+    branches-tidy : (bs : Branches) (here : Context) (st : State) → Outside vacant (here .scope) → Tidy vacant st → EveryBranch (After vacant st) here st (branchPatterns known declare bs)
+    branches-tidy noBranch here st o t = everyNone
+    branches-tidy (branch v b bs) here st o t = everyConstant (block-tidy b here st o t) (branches-tidy bs here st o t)
+    branches-tidy (defaultBranch b bs) here st o t = everyDefault (block-tidy b here st o t) (branches-tidy bs here st o t)
 
   -- ---- Classes
 

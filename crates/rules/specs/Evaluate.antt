@@ -13,6 +13,7 @@ use Rattle.values.specs.declared.Reason.the-variants.{Malformed, Unknown, NoVal
 use Rattle.rules.specs.Outcome.{Outcome, refused, done, _>>=_, refuseIf, orRefuse, Result, at, plain, joining}
 use Rattle.rules.specs.Arithmetic.{integerIn, stringIn, booleanIn, sum, difference, quotient, isGreater, sameValue}
 use Rattle.rules.specs.Tree.{Constant, Operator, plus, minus, divide, greater, equal, and, or, Expression, constant, variable, topVariable, classVariable, operation, negation, attributeRead, selector, Arms, noArm, arm, defaultArm, placeOf, TypeDefinition, ClassDefinition, Definition, typeDefinition, classDefinition}
+use Rattle.rules.specs.Patterns.{Patterns, noPattern, constantPattern, defaultPattern, chosen, triedLabels}
 use Rattle.rules.specs.State.{Scope, topScope, classScope, Cells, Attribute, Entry, State, Context, Known, scopesTried, isSome}
 use Rattle.rules.specs.Tree
 
@@ -119,6 +120,10 @@ operate or p l r x evaluateRight = booleans true l r x evaluateRight
 unfoldable pub ofConstant : Constant → Labelled
 ofConstant v = record { value = v .value; labels = oneLabel (v .label) }
 
+-- the patterns tried and what the chosen one gives; "No pattern of a selector matches" (18)
+unfoldable pub select : Patterns (Outcome Labelled) → (place : ℕ) → Value → Outcome Labelled
+select patterns p x = joining (triedLabels patterns x) (chosen patterns x (refused NoMatch p))
+
 -- with what is known so far, in the context `here` and a state
 module _ (known : Known) (here : Context) (st : State) where
   unfoldable mutual
@@ -149,11 +154,11 @@ module _ (known : Known) (here : Context) (st : State) where
     -- "a selector's is scrutinee, patterns tried and chosen expression"
     evaluate (selector p a arms) = do
       scrutinee ← evaluate a
-      joining (scrutinee .labels) (select arms p (scrutinee .value))
+      joining (scrutinee .labels) (select (armPatterns arms) p (scrutinee .value))
     evaluate (Expression.unreadable p) = refused Malformed p
 
-    -- "Patterns are tried in written order and default matches where it is reached."; "No pattern of a selector matches" (18)
-    pub select : Arms → (place : ℕ) → Value → Outcome Labelled
-    select noArm p x = refused NoMatch p
-    select (arm pattern a arms) p x = joining (oneLabel (pattern .label)) (elim (sameValue x (pattern .value)) [ true ↦ evaluate a | false ↦ select arms p x ])
-    select (defaultArm a arms) p x = evaluate a
+    -- the patterns of a selector, each with what its expression gives
+    pub armPatterns : Arms → Patterns (Outcome Labelled)
+    armPatterns noArm = noPattern
+    armPatterns (arm pattern a arms) = constantPattern pattern (evaluate a) (armPatterns arms)
+    armPatterns (defaultArm a arms) = defaultPattern (evaluate a) (armPatterns arms)

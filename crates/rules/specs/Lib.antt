@@ -6,6 +6,7 @@ pub mod Tree
 pub mod Read
 pub mod Outcome
 pub mod Arithmetic
+pub mod Patterns
 pub mod State
 pub mod Evaluate
 pub mod Catalog

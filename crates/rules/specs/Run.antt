@@ -6,14 +6,14 @@ use mathlib.Core.Option.{Option, none, some}
 use lib.Dec.{eqb, ltb}
 use lib.ListN.{length}
 use Rattle.labels.specs.declared.Labels.{Labels}
-use Rattle.labels.specs.Sets.{noLabels, oneLabel, _∪_}
-use Rattle.values.specs.declared.Value.{Value}
+use Rattle.labels.specs.Sets.{noLabels, _∪_}
 use Rattle.values.specs.declared.Labelled.{Labelled}
 use Rattle.values.specs.declared.Reason.the-variants.{Malformed, LevelLimit, DefinedAgain, Unknown, DeclaredAgain, UnknownParameter, MissingParameter, ResourceAgain, AttributeAgain, OutputFull}
 use Rattle.rules.specs.Outcome.{Outcome, refused, done, _>>=_, refuseIf, orRefuse, at, under}
-use Rattle.rules.specs.Arithmetic.{stringIn, booleanIn, sameValue}
+use Rattle.rules.specs.Arithmetic.{stringIn, booleanIn}
 use Rattle.rules.specs.Tree.{Constant, placeOf, AttributeField, Statement, assignment, conditional, choice, builtInResource, definedResource, classWithAttributes, include, Block, end, next, Branches, noBranch, branch, defaultBranch, Parameter, Parent, ClassDefinition, Definition, typeDefinition, classDefinition, Item, statement, node, definition}
 use Rattle.rules.specs.Tree
+use Rattle.rules.specs.Patterns.{Patterns, noPattern, constantPattern, defaultPattern, chosen, triedLabels}
 use Rattle.rules.specs.State.{topScope, nodeScope, classScope, bodyScope, Base, topBase, nodeBase, baseScope, DeclaredClass, newCells, Attribute, Entry, State, Context, Known, isDeclared, takeStep, cellsFor, assign, tested, markDeclared, free, withEntry}
 use Rattle.rules.specs.Evaluate.{any, firstWith, isEntry, findType, findClass, ofConstant, evaluate}
 use Rattle.rules.specs.Catalog.{entryBytes}
@@ -181,20 +181,15 @@ addResource known p type title set givens here st = do
 
 -- ---- Conditions
 
--- the patterns tried of a case, the one that matches included
-unfoldable pub triedLabels : Branches → Value → Labels
-triedLabels noBranch x = noLabels
-triedLabels (branch pattern block branches) x = elim (sameValue x (pattern .value)) [
-  | true ↦ oneLabel (pattern .label)
-  | false ↦ oneLabel (pattern .label) ∪ triedLabels branches x
-]
-triedLabels (defaultBranch block branches) x = noLabels
-
 -- after the test: the marks, which may need cells (22), and the trail
 unfoldable pub afterTest : (place : ℕ) → Context → (names : ℕ → Bool) → (declares : Bool) → Labels → State → Outcome State
 afterTest p here names declares set st = do
   _ ← cellsFor (st .used) (newCells names (st .cells (here .scope))) p
   done (tested (here .scope) names declares set st)
+
+-- "A case without a match does nothing."
+unfoldable pub doNothing : Context → State → Outcome State
+doNothing here st = done st
 
 -- ---- Statements
 
@@ -233,9 +228,9 @@ module _ (known : Known) (declare : Declare) where
       elim holds [ true ↦ runBlock ifTrue (inBranch set here) st′ | false ↦ runBlock ifFalse (inBranch set here) st′ ]
     run (choice p e branches) here st = do
       x ← evaluate known here st e
-      let set : Labels = withPathAndTrail here st (x .labels ∪ triedLabels branches (x .value))
+      let set : Labels = withPathAndTrail here st (x .labels ∪ triedLabels (branchPatterns branches) (x .value))
       st′ ← afterTest p here (assignsAny branches) (declaresAny branches) set st
-      runBranch branches (x .value) (inBranch set here) st′
+      chosen (branchPatterns branches) (x .value) doNothing (inBranch set here) st′
     run (builtInResource p type e attributes) here st = do
       x ← evaluate known here st e
       title ← at (placeOf e) (stringIn (x .value))
@@ -261,11 +256,11 @@ module _ (known : Known) (declare : Declare) where
       st₂ ← run s here st₁
       runBlock block here st₂
 
-    -- "A case without a match does nothing."
-    pub runBranch : Branches → Value → Context → State → Outcome State
-    runBranch noBranch x here st = done st
-    runBranch (branch pattern block branches) x here st = elim (sameValue x (pattern .value)) [ true ↦ runBlock block here st | false ↦ runBranch branches x here st ]
-    runBranch (defaultBranch block branches) x here st = runBlock block here st
+    -- the branches of a case, each with what its block does
+    pub branchPatterns : Branches → Patterns (Context → State → Outcome State)
+    branchPatterns noBranch = noPattern
+    branchPatterns (branch pattern block branches) = constantPattern pattern (λ here st. runBlock block here st) (branchPatterns branches)
+    branchPatterns (defaultBranch block branches) = defaultPattern (λ here st. runBlock block here st) (branchPatterns branches)
 
 -- ---- Declarations
 

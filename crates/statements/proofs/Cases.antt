@@ -1,8 +1,7 @@
 -- The law of a case, `run` is its test and then the block chosen; and one law for each way through `decide_case` and `test_case`.
-use Prim.Native.Nat.{ℕ, _+_, _-_}
+use Prim.Native.Nat.{ℕ, _+_, _-_, _<_}
 use mathlib.Core.Path.{_≡_, refl, sym, ap, ap₂, _∙_, subst}
-use mathlib.Core.Bool.{Bool, true, false}
-use mathlib.Core.List.{List}
+use mathlib.Core.List.{List, [], _∷_}
 use Rattle.labels.specs.declared.Labels.{Labels}
 use Rattle.labels.specs.Sets.{_∪_}
 use Rattle.values.specs.declared.Labelled.{Labelled}
@@ -10,14 +9,20 @@ use Rattle.values.specs.declared.Value.{Value}
 use Rattle.values.specs.declared.Refusal.{Refusal}
 use Rattle.wire.specs.Bytes.{byte, endOf, fieldsIn}
 use Rattle.rules.specs.Outcome.{Outcome, refused, done, _>>=_}
-use Rattle.rules.specs.Arithmetic.{sameValue}
-use Rattle.rules.specs.Tree.{Expression, Statement, Block, Branches, noBranch, branch, defaultBranch, choice}
+use Rattle.rules.specs.Patterns.{Patterns, constantPattern, defaultPattern, chosen, triedLabels}
+use Rattle.rules.specs.Tree.{Expression, Statement, Block, end, Branches, noBranch, branch, defaultBranch, choice}
 use Rattle.rules.specs.State.{Entry, State, Context, Known}
 use Rattle.rules.specs.Evaluate.{evaluate}
-use Rattle.rules.specs.Run.{Declare, run, runBlock, runBranch, inBranch, triedLabels, withPathAndTrail, afterTest, assignsAny, declaresAny}
+use Rattle.rules.specs.Run.{Declare, doNothing, run, runBlock, branchPatterns, inBranch, withPathAndTrail, afterTest, assignsAny, declaresAny}
+use Rattle.rules.proofs.Patterns.{mapPatterns, tried-mapped, chosen-mapped, chosen-holds}
 use Rattle.rules.specs.declared.Kind.the-variants.{Statement as StatementKind, Expression as ExpressionKind, Branch as BranchKind}
-use Rattle.places.specs.At.{expressionAt, statementAt, blockAt, branchesAt, StandsAs, Siblings}
+use Rattle.places.specs.At.{constantAt, expressionAt, statementAt, blockAt, branchAt, branchesAt, StandsAs, Siblings}
 use Rattle.places.proofs.Statements.{ChoiceAt, choice-opens}
+use Rattle.patterns.specs.declared.Choice.{Choice}
+use Rattle.patterns.specs.declared.Choice.the-variants.{At, Nothing}
+use Rattle.patterns.specs.declared.Matched.{Matched}
+use Rattle.patterns.specs.Tried.{patternsAt, Matches}
+use Rattle.patterns.proofs.Follows.{mapped-first, every-follows}
 use Rattle.cells.specs.Layout.{trailOf}
 use Rattle.cells.specs.Memory.{stateOf}
 use Rattle.memory.specs.declared.Context.{Context as Here}
@@ -28,19 +33,16 @@ use Rattle.evaluator.specs.declared.Evaluated.the-variants.{Value as Yields, Re
 use Rattle.evaluator.specs.Answers.{evaluated}
 use Rattle.evaluator.specs.Known.{Ready, Tells}
 use Rattle.branches.specs.Texts.{textOf}
-use Rattle.branches.proofs.Standing.{has-level}
+use Rattle.branches.proofs.Standing.{has-level, branch-block}
 use Rattle.branches.proofs.Texts.{choice-text}
 use Rattle.statements.specs.declared.Ran.{Ran}
 use Rattle.statements.specs.declared.Ran.the-variants.{Done as Entered, Refused as Stopped}
 use Rattle.statements.specs.Answers.{ranAs}
 use Rattle.statements.proofs.Entering.{preserves-same}
-use Rattle.statements.specs.declared.Choice.{Choice}
-use Rattle.statements.specs.declared.Choice.the-variants.{At, Nothing}
-use Rattle.statements.specs.declared.Matched.{Matched}
 use Rattle.statements.specs.declared.TestedCase.{TestedCase}
 use Rattle.statements.specs.declared.TestedCase.the-variants.{Branch, Nothing as NoBlock, Refused}
 use Rattle.statements.specs.Tests.{Passed, passed, afterText, Decides, Tests}
-use Rattle.statements.specs.Cases.{branchesOf, chosenBlock, blockFor, choiceStands, Matches, afterCase, decideCase, testCase, testCaseAt, caseAs, blockStands}
+use Rattle.statements.specs.Cases.{branchesOf, blocksIn, chosenBlock, blockFor, blockHere, blockLater, choiceStands, afterCase, decideCase, testCase, testCaseAt, caseAs, blockStands}
 
 -- ---- The law
 
@@ -48,15 +50,22 @@ use Rattle.statements.specs.Cases.{branchesOf, chosenBlock, blockFor, ch
 abbrev pub intoBlock : Known → Declare → Context → Passed Block → Outcome State
 intoBlock k declare c x = runBlock k declare (x .chosen) (inBranch (x .set) c) (x .state)
 
-branch-runs : (k : Known) (declare : Declare) (bs : Branches) (x : Value) (c : Context) (st : State) → runBranch k declare bs x c st ≡ runBlock k declare (chosenBlock bs x) c st
-unfolding run chosenBlock
-branch-runs k declare noBranch x c st = refl
-branch-runs k declare (branch v b bs) x c st = go (sameValue x (v .value)) (branch-runs k declare bs x c st)
-  where
-    go : (t : Bool) → runBranch k declare bs x c st ≡ runBlock k declare (chosenBlock bs x) c st → elim t [ true ↦ runBlock k declare b c st | false ↦ runBranch k declare bs x c st ] ≡ runBlock k declare (elim t [ true ↦ b | false ↦ chosenBlock bs x ]) c st
-    go true later = refl
-    go false later = later
-branch-runs k declare (defaultBranch b bs) x c st = refl
+-- a block, run
+abbrev ranBlock : Known → Declare → Block → Context → State → Outcome State
+ranBlock k declare b c st = runBlock k declare b c st
+
+branches-run : (k : Known) (declare : Declare) (bs : Branches) → branchPatterns k declare bs ≡ mapPatterns (ranBlock k declare) (blocksIn bs)
+unfolding run blocksIn mapPatterns
+branches-run k declare noBranch = refl
+branches-run k declare (branch v b bs) = ap (constantPattern v (ranBlock k declare b)) (branches-run k declare bs)
+branches-run k declare (defaultBranch b bs) = ap (defaultPattern (ranBlock k declare b)) (branches-run k declare bs)
+
+branch-tried : (k : Known) (declare : Declare) (bs : Branches) (x : Value) → triedLabels (branchPatterns k declare bs) x ≡ triedLabels (blocksIn bs) x
+branch-tried k declare bs x = ap (λ (ps : Patterns (Context → State → Outcome State)). triedLabels ps x) (branches-run k declare bs) ∙ tried-mapped (ranBlock k declare) (blocksIn bs) x
+
+branch-runs : (k : Known) (declare : Declare) (bs : Branches) (x : Value) → chosen (branchPatterns k declare bs) x doNothing ≡ ranBlock k declare (chosenBlock bs x)
+unfolding run doNothing
+branch-runs k declare bs x = ap (λ (ps : Patterns (Context → State → Outcome State)). chosen ps x doNothing) (branches-run k declare bs) ∙ chosen-mapped (ranBlock k declare) (blocksIn bs) x end
 
 pub case-runs : (k : Known) (declare : Declare) (p : ℕ) (e : Expression) (bs : Branches) (c : Context) (st : State) → run k declare (choice p e bs) c st ≡ (testCase p e bs k c st >>= intoBlock k declare c)
 unfolding run testCase decideCase afterCase _>>=_
@@ -65,16 +74,24 @@ case-runs k declare p e bs c st = go (evaluate k c st e)
     after : Labels → Outcome State
     after set = afterTest p c (assignsAny bs) (declaresAny bs) set st
 
-    entered : (v : Value) (set : Labels) (o : Outcome State) → (o >>= λ st′. runBranch k declare bs v (inBranch set c) st′) ≡ ((o >>= λ st′. done (passed (chosenBlock bs v) set st′)) >>= intoBlock k declare c)
-    entered v set (refused r q) = refl
-    entered v set (done st′) = branch-runs k declare bs v (inBranch set c) st′
+    -- the set, by the labels of the patterns tried
+    setOf : Labelled → Labels → Labels
+    setOf x tried = withPathAndTrail c st (x .labels ∪ tried)
 
-    setOf : Labelled → Labels
-    setOf x = withPathAndTrail c st (x .labels ∪ triedLabels bs (x .value))
+    entered : (b : Block) (set : Labels) (o : Outcome State) → (o >>= λ st′. ranBlock k declare b (inBranch set c) st′) ≡ ((o >>= λ st′. done (passed b set st′)) >>= intoBlock k declare c)
+    entered b set (refused r q) = refl
+    entered b set (done st′) = refl
 
-    go : (o : Outcome Labelled) → (o >>= λ x. after (setOf x) >>= λ st′. runBranch k declare bs (x .value) (inBranch (setOf x) c) st′) ≡ ((o >>= λ x. after (setOf x) >>= λ st′. done (passed (chosenBlock bs (x .value)) (setOf x) st′)) >>= intoBlock k declare c)
+    decided : (x : Labelled) (tried : Labels) (then : Context → State → Outcome State) → tried ≡ triedLabels (blocksIn bs) (x .value) → then ≡ ranBlock k declare (chosenBlock bs (x .value))
+        → (after (setOf x tried) >>= λ st′. then (inBranch (setOf x tried) c) st′) ≡ (decideCase p bs x c st >>= intoBlock k declare c)
+    decided x tried then e f = let set : Labels = setOf x (triedLabels (blocksIn bs) (x .value)) in rw (e, f) (entered (chosenBlock bs (x .value)) set (after set))
+
+    patterns : Patterns (Context → State → Outcome State)
+    patterns = branchPatterns k declare bs
+
+    go : (o : Outcome Labelled) → (o >>= λ x. after (setOf x (triedLabels patterns (x .value))) >>= λ st′. chosen patterns (x .value) doNothing (inBranch (setOf x (triedLabels patterns (x .value))) c) st′) ≡ ((o >>= λ x. decideCase p bs x c st) >>= intoBlock k declare c)
     go (refused r q) = refl
-    go (done x) = entered (x .value) (setOf x) (after (setOf x))
+    go (done x) = decided x _ _ (branch-tried k declare bs (x .value)) (branch-runs k declare bs (x .value))
 
 -- ---- The ways of `decide_case`
 
@@ -82,16 +99,48 @@ case-runs k declare p e bs c st = go (evaluate k c st e)
 pub branches-from : {m : List ℕ} {d f e a b : ℕ} → f ≡ a → e ≡ b → Siblings m d BranchKind a b → Siblings m d BranchKind f e
 branches-from found ends i = rw (found, ends) i
 
+-- the blocks at their places
+blocks-at : (m : List ℕ) (d : ℕ) (qs : List ℕ) → blocksIn (branchesAt m d qs) ≡ mapPatterns (blockFor m (d - 1)) (patternsAt m qs)
+unfolding branchesAt branchAt patternsAt blocksIn mapPatterns blockFor
+blocks-at m d [] = refl
+blocks-at m d (q ∷ qs) =
+    let b : Block = blockAt m (d - 1) (endOf m (q + 3)) in
+    let after : Branches = branchesAt m d qs in
+    mapped-first blocksIn (blockFor m (d - 1)) m q qs (defaultBranch b after) (branch (constantAt m (q + 3)) b after) (ap (defaultPattern b) (blocks-at m d qs)) (ap (constantPattern (constantAt m (q + 3)) b) (blocks-at m d qs))
+
+module _ {m : List ℕ} {f e : ℕ} {x : Value} {r : Matched} (d : ℕ) (i : Matches m f e x r) where
+  block-chosen : blockFor m (d - 1) (r .at) ≡ chosenBlock (branchesAt m d (fieldsIn m f e)) x
+  unfolding blockFor
+  block-chosen =
+      ap (blockFor m (d - 1)) (i .at) ∙ sym (chosen-mapped (blockFor m (d - 1)) (patternsAt m (fieldsIn m f e)) x Nothing)
+      ∙ ap (λ (ps : Patterns Block). chosen ps x end) (sym (blocks-at m d (fieldsIn m f e)))
+
+  labels-tried : r .labels ≡ triedLabels (blocksIn (branchesAt m d (fieldsIn m f e))) x
+  labels-tried =
+      i .labels ∙ sym (tried-mapped (blockFor m (d - 1)) (patternsAt m (fieldsIn m f e)) x)
+      ∙ ap (λ (ps : Patterns Block). triedLabels ps x) (sym (blocks-at m d (fieldsIn m f e)))
+
+  block-stands : Siblings m d BranchKind f e → choiceStands m (d - 1) f e (r .at)
+  unfolding choiceStands
+  block-stands s = rw (i .at) (chosen-holds (choiceStands m (d - 1) f e) (every-follows (λ q y. choiceStands m (d - 1) q e y) here later s) x tt)
+    where
+      here : (q : ℕ) → q < e → StandsAs m d BranchKind q → choiceStands m (d - 1) q e (At (endOf m (q + 3)))
+      here q l h = (branch-block h refl, blockHere l refl)
+
+      later : (q : ℕ) (y : Choice) → q < e → choiceStands m (d - 1) (endOf m q) e y → choiceStands m (d - 1) q e y
+      later q (At y) l h = (h .0, blockLater l (h .1))
+      later q Nothing l h = tt
+
 -- what the marks and the trail come to, by its branches
 pub case-after : {m w w′ : List ℕ} {d p f e : ℕ} {here : Here} {answer : State → Outcome State} (set : Labels) → StandsAs m d StatementKind p → byte m p ≡ 0x23 → f ≡ endOf m (p + 3) → e ≡ endOf m p → Decides m w w′ here answer (afterText p (textOf (statementAt m d p)) set) → Decides m w w′ here answer (afterCase p (branchesAt m (d - 1) (fieldsIn m f e)) set)
 unfolding afterText afterCase
 case-after set s tag found ends i = rw (choice-text s refl tag found ends) at i
 
 module _ (m : List ℕ) (d p : ℕ) {f e : ℕ} (w : List ℕ) (here : Here) (x : Labelled) (found : f ≡ endOf m (p + 3)) (ends : e ≡ endOf m p) where
-  module _ {w′ : List ℕ} {r : Matched} {own set : Labels} (entered : Ran) (matches : Matches m d f e (x .value) r) (both : own ≡ x .labels ∪ r .labels) (joined : set ≡ (here .path ∪ trailOf w) ∪ own) (enter : Decides m w w′ here (ranAs entered) (afterCase p (branchesAt m d (fieldsIn m f e)) set)) where
-    same-set : (es : List Entry) (n i : ℕ) → set ≡ withPathAndTrail (contextOf here) (stateOf w es n i) (x .labels ∪ triedLabels (branchesAt m d (fieldsIn m f e)) (x .value))
+  module _ {w′ : List ℕ} {r : Matched} {own set : Labels} (entered : Ran) (matches : Matches m f e (x .value) r) (both : own ≡ x .labels ∪ r .labels) (joined : set ≡ (here .path ∪ trailOf w) ∪ own) (enter : Decides m w w′ here (ranAs entered) (afterCase p (branchesAt m d (fieldsIn m f e)) set)) where
+    same-set : (es : List Entry) (n i : ℕ) → set ≡ withPathAndTrail (contextOf here) (stateOf w es n i) (x .labels ∪ triedLabels (blocksIn (branchesAt m d (fieldsIn m f e))) (x .value))
     unfolding withPathAndTrail stateOf
-    same-set es n i = joined ∙ ap (λ (k : Labels). (here .path ∪ trailOf w) ∪ k) (both ∙ ap (λ (k : Labels). x .labels ∪ k) (matches .labels))
+    same-set es n i = joined ∙ ap (λ (k : Labels). (here .path ∪ trailOf w) ∪ k) (both ∙ ap (λ (k : Labels). x .labels ∪ k) (labels-tried d matches))
 
     -- what follows the marks and the trail
     abbrev after : Choice → Ran → State → Outcome (Passed Block)
@@ -100,7 +149,7 @@ module _ (m : List ℕ) (d p : ℕ) {f e : ℕ} (w : List ℕ) (here : Here) (x 
     case-decided : (es : List Entry) (n i : ℕ) → after (r .at) entered (stateOf w′ es n i) ≡ decideCase p (branchesOf m d p) x (contextOf here) (stateOf w es n i)
     unfolding decideCase
     case-decided es n i =
-        ap₂ (λ (o : Outcome State) (b : Block). o >>= λ st′. done (passed b set st′)) (enter .says es n i) (matches .block)
+        ap₂ (λ (o : Outcome State) (b : Block). o >>= λ st′. done (passed b set st′)) (enter .says es n i) (block-chosen d matches)
         ∙ ap (λ (k : Labels). afterCase p (branchesAt m d (fieldsIn m f e)) k (contextOf here) (stateOf w es n i) >>= λ st′. done (passed (chosenBlock (branchesAt m d (fieldsIn m f e)) (x .value)) k st′)) (same-set es n i)
         ∙ ap₂ (λ (a b : ℕ). decideCase p (branchesAt m d (fieldsIn m a b)) x (contextOf here) (stateOf w es n i)) found ends
 
@@ -114,14 +163,14 @@ module _ (m : List ℕ) (d p : ℕ) {f e : ℕ} (w : List ℕ) (here : Here) (x 
       tt,
     )
 
-    pub case-entered : (q : ℕ) → entered ≡ Entered → r .at ≡ At q → Decides m w w′ here (caseAs m (d - 1) (Branch q set)) (decideCase p (branchesOf m d p) x) × blockStands m (d - 1) p (Branch q set)
+    pub case-entered : Siblings m d BranchKind f e → (q : ℕ) → entered ≡ Entered → r .at ≡ At q → Decides m w w′ here (caseAs m (d - 1) (Branch q set)) (decideCase p (branchesOf m d p) x) × blockStands m (d - 1) p (Branch q set)
     unfolding caseAs ranAs _>>=_ blockStands blockFor choiceStands
-    case-entered q h g = (
+    case-entered s q h g = (
       record {
         says = λ es n i. sym (ap₂ (λ (y : Choice) (o : Ran). after y o (stateOf w′ es n i)) g h) ∙ case-decided es n i;
         keeps = enter .keeps;
       },
-      rw (sym found, sym ends) (subst (choiceStands m (d - 1) f e) g (matches .stands)),
+      rw (sym found, sym ends) (subst (choiceStands m (d - 1) f e) g (block-stands d matches s)),
     )
 
     pub case-unmatched : entered ≡ Entered → r .at ≡ Nothing → Decides m w w′ here (caseAs m (d - 1) (NoBlock set)) (decideCase p (branchesOf m d p) x) × blockStands m (d - 1) p (NoBlock set)

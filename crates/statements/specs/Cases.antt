@@ -1,7 +1,6 @@
 -- Cases up to the block that runs. That `run` is this and then the block is in proofs/Cases.antt.
-use Prim.Native.Nat.{ℕ, _+_, _-_, _<_}
+use Prim.Native.Nat.{ℕ, _+_, _<_}
 use mathlib.Core.Path.{_≡_}
-use mathlib.Core.Bool.{true, false}
 use mathlib.Core.List.{List}
 use Rattle.labels.specs.declared.Labels.{Labels}
 use Rattle.labels.specs.Sets.{_∪_}
@@ -9,17 +8,16 @@ use Rattle.values.specs.declared.Value.{Value}
 use Rattle.values.specs.declared.Labelled.{Labelled}
 use Rattle.wire.specs.Bytes.{endOf, fieldsIn}
 use Rattle.rules.specs.Outcome.{Outcome, done, _>>=_}
-use Rattle.rules.specs.Arithmetic.{sameValue}
 use Rattle.rules.specs.Tree.{Expression, Block, end, Branches, noBranch, branch, defaultBranch}
+use Rattle.rules.specs.Patterns.{Patterns, noPattern, constantPattern, defaultPattern, chosen, triedLabels}
 use Rattle.rules.specs.State.{State, Context, Known}
 use Rattle.rules.specs.Evaluate.{evaluate}
-use Rattle.rules.specs.Run.{assignsAny, declaresAny, triedLabels, withPathAndTrail, afterTest}
+use Rattle.rules.specs.Run.{assignsAny, declaresAny, withPathAndTrail, afterTest}
 use Rattle.rules.specs.declared.Kind.the-variants.{Block as BlockKind}
 use Rattle.places.specs.At.{expressionAt, blockAt, branchesAt, StandsAs}
+use Rattle.patterns.specs.declared.Choice.{Choice}
+use Rattle.patterns.specs.declared.Choice.the-variants.{At, Nothing}
 use Rattle.evaluator.specs.Answers.{refusedBy}
-use Rattle.statements.specs.declared.Choice.{Choice}
-use Rattle.statements.specs.declared.Choice.the-variants.{At, Nothing}
-use Rattle.statements.specs.declared.Matched.{Matched}
 use Rattle.statements.specs.declared.TestedCase.{TestedCase}
 use Rattle.statements.specs.declared.TestedCase.the-variants.{Branch, Nothing as NoBlock, Refused}
 use Rattle.statements.specs.Tests.{Passed, passed}
@@ -28,11 +26,15 @@ use Rattle.statements.specs.Tests.{Passed, passed}
 abbrev pub branchesOf : List ℕ → (b p : ℕ) → Branches
 branchesOf m b p = branchesAt m b (fieldsIn m (endOf m (p + 3)) (endOf m p))
 
--- the block that runs: "Patterns are tried in written order and default matches where it is reached. A case without a match does nothing."
-unfoldable pub chosenBlock : Branches → Value → Block
-chosenBlock noBranch x = end
-chosenBlock (branch v b bs) x = elim (sameValue x (v .value)) [ true ↦ b | false ↦ chosenBlock bs x ]
-chosenBlock (defaultBranch b bs) x = b
+-- the branches of a case, each with its block
+unfoldable pub blocksIn : Branches → Patterns Block
+blocksIn noBranch = noPattern
+blocksIn (branch v b bs) = constantPattern v b (blocksIn bs)
+blocksIn (defaultBranch b bs) = defaultPattern b (blocksIn bs)
+
+-- the block that runs: "A case without a match does nothing."
+abbrev pub chosenBlock : Branches → Value → Block
+chosenBlock bs x = chosen (blocksIn bs) x end
 
 -- the block at the place chosen, with b levels left
 unfoldable pub blockFor : List ℕ → (b : ℕ) → Choice → Block
@@ -48,17 +50,11 @@ unfoldable pub choiceStands : List ℕ → (b f e : ℕ) → Choice → Type 0
 choiceStands m b f e (At q) = StandsAs m b BlockKind q × BranchBlock m e q f
 choiceStands m b f e Nothing = Unit {0}
 
--- what matching the branches from q to e, with d levels left, tells
-pub record Matches (m : List ℕ) (d q e : ℕ) (x : Value) (r : Matched) : Type 0 where
-  pub block : blockFor m (d - 1) (r .at) ≡ chosenBlock (branchesAt m d (fieldsIn m q e)) x
-  pub labels : r .labels ≡ triedLabels (branchesAt m d (fieldsIn m q e)) x
-  pub stands : choiceStands m (d - 1) q e (r .at)
-
 unfoldable pub afterCase : (p : ℕ) → Branches → Labels → Context → State → Outcome State
 afterCase p bs k c st = afterTest p c (assignsAny bs) (declaresAny bs) k st
 
 unfoldable pub decideCase : (p : ℕ) → Branches → Labelled → Context → State → Outcome (Passed Block)
-decideCase p bs x c st = afterCase p bs (withPathAndTrail c st (x .labels ∪ triedLabels bs (x .value))) c st >>= λ st′. done (passed (chosenBlock bs (x .value)) (withPathAndTrail c st (x .labels ∪ triedLabels bs (x .value))) st′)
+decideCase p bs x c st = afterCase p bs (withPathAndTrail c st (x .labels ∪ triedLabels (blocksIn bs) (x .value))) c st >>= λ st′. done (passed (chosenBlock bs (x .value)) (withPathAndTrail c st (x .labels ∪ triedLabels (blocksIn bs) (x .value))) st′)
 
 unfoldable pub testCase : (p : ℕ) → Expression → Branches → Known → Context → State → Outcome (Passed Block)
 testCase p e bs k c st = evaluate k c st e >>= λ x. decideCase p bs x c st

@@ -1,4 +1,3 @@
 pub mod Answers
 pub mod Tests
-pub mod Words
 pub mod Cases

@@ -4,18 +4,16 @@ ghost use Prim.Native.Nat.{_+_, _-_, _≤_, _<_};
 ghost use lib.ListN.{length};
 ghost use Rattle.labels.specs.Sets.{_∪_};
 ghost use Rattle.wire.specs.Bytes.{byte, two, endOf};
-ghost use Rattle.rules.specs.Arithmetic.{sameValue};
 ghost use Rattle.rules.specs.State.{State};
 ghost use Rattle.rules.specs.Run as rules;
-ghost use Rattle.rules.specs.declared.Kind.the-variants.{Constant, Statement, Branch};
-ghost use Rattle.places.specs.At.{constantAt, statementAt, blockAt, StandsAs, Siblings};
+ghost use Rattle.rules.specs.declared.Kind.the-variants.{Statement};
+ghost use Rattle.places.specs.At.{statementAt, blockAt, StandsAs};
 ghost use Rattle.cells.specs.Layout.{trailOf};
 ghost use Rattle.cells.specs.Memory.{outcome};
 ghost use Rattle.evaluator.specs.Known.{Sized};
 ghost use Rattle.branches.specs.Names.{contains};
 ghost use Rattle.branches.specs.Texts.{textOf};
-ghost use Rattle.statements.specs.Words.{labelsIn, JoinsLabel};
-ghost use Rattle.statements.specs.Cases.{branchesOf, Matches, decideCase, testCaseAt, caseAs, blockStands};
+ghost use Rattle.statements.specs.Cases.{branchesOf, decideCase, testCaseAt, caseAs, blockStands};
 ghost use Rattle.statements.specs.Tests.{afterText, decideIf, testIfAt, testedAs, Testable, Decides, Tests};
 ghost use Rattle.statements.specs.Answers.{ranAs, Does, Runs};
 use cells::Stored;
@@ -23,6 +21,7 @@ use evaluator::Evaluated;
 use evaluator::evaluate;
 use labels::Labels;
 use memory::Context;
+use patterns::Choice;
 use values::Labelled;
 use values::Reason;
 use values::Refusal;
@@ -43,18 +42,6 @@ pub enum TestedCase {
     Branch { block: usize, set: Labels },
     Nothing { set: Labels },
     Refused(Refusal),
-}
-
-// The place of the block whose pattern matches.
-enum Choice {
-    At(usize),
-    Nothing,
-}
-
-// What the patterns tried tell.
-struct Matched {
-    at: Choice,
-    labels: Labels,
 }
 
 // What a store answers, for a statement at p.
@@ -198,87 +185,6 @@ pub fn test_if(
 
 // ---- The test of a case
 
-// Adds a label to a set that is kept in four words.
-fn join_label(set: &mut [u64; 4], label: u8)
-    requires { ⌜ length (now set) ≡ 4 ⌝ }
-    ensures { λ _. ⌜ JoinsLabel (now (set .entry)) (now (set .exit)) label ⌝ }
-{
-    let i = (label / 64) as usize;
-    set[i] = set[i] | (1u64 << (label % 64));
-}
-
-// The set in four words.
-fn labels_of(set: &[u64; 4]) -> Labels
-    ensures { λ r. ⌜ r ≡ labelsIn (now (set .entry)) ⌝ }
-{
-    Labels {
-        w0: set[0],
-        w1: set[1],
-        w2: set[2],
-        w3: set[3],
-    }
-}
-
-// Whether the constant at p has the value x, compared in place.
-fn equals_constant(m: &[u8], depth: u8, p: usize, x: Value) -> bool
-    requires { ⌜ (length (now m) ≤ 65535) × StandsAs (now m) depth Constant p ⌝ }
-    ensures { λ r. ⌜ r ≡ sameValue x (constantAt (now (m .entry)) p .value) ⌝ }
-{
-    let tag = wire::byte_in(m, p);
-    match x {
-        Value::Integer(z) => {
-            if tag != 0x10 {
-                return false;
-            }
-            z == wire::signed_at(m, p + 4)
-        }
-        Value::String(n) => {
-            if tag != 0x11 {
-                return false;
-            }
-            n == wire::two_in(m, p + 4)
-        }
-        Value::Boolean(b) => {
-            if tag != 0x12 {
-                return false;
-            }
-            b == (wire::byte_in(m, p + 4) == 1)
-        }
-    }
-}
-
-// The first of the 24s from `from` to `end` whose pattern matches x, and the labels of the patterns tried. The rule of which one matches stands here alone.
-fn match_branches(m: &[u8], below: u8, from: usize, end: usize, x: Value) -> Matched
-    requires { ⌜ ((length (now m) ≤ 65535) × (end ≤ 65535)) × Siblings (now m) below Branch from end ⌝ }
-    ensures { λ r. ⌜ Matches (now (m .entry)) below from end x r ⌝ }
-{
-    let mut tried = [0u64; 4];
-    let mut q = from;
-    while q < end {
-        let pattern = q + 3;
-        if wire::byte_in(m, pattern) == 0x1b {
-            let block = wire::end_in(m, pattern);
-            return Matched {
-                at: Choice::At(block),
-                labels: labels_of(&tried),
-            };
-        }
-        join_label(&mut tried, wire::byte_in(m, pattern + 3));
-        if equals_constant(m, below - 1, pattern, x) {
-            let block = wire::end_in(m, pattern);
-            return Matched {
-                at: Choice::At(block),
-                labels: labels_of(&tried),
-            };
-        }
-        q = wire::end_in(m, q);
-    }
-    Matched {
-        at: Choice::Nothing,
-        labels: labels_of(&tried),
-    }
-}
-
 // The case at p, whose value is x.
 fn decide_case(
     m: &[u8],
@@ -295,7 +201,7 @@ fn decide_case(
     let own = x.labels;
     let from = wire::end_of(m, p + 3);
     let end = wire::end_of(m, p);
-    let matched = match_branches(m, depth - 1, from, end, value);
+    let matched = patterns::try_patterns(m, from, end, value);
     let tried = matched.labels;
     let path = here.path;
     let set = condition_set(work, own.union(tried), path);

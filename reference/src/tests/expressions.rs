@@ -168,8 +168,8 @@ fn equality() {
     );
 }
 
-/// "Patterns are tried in written order and default matches where it is
-/// reached"; 18 at the selector where none matches.
+/// Patterns are tried in written order, a default "only after every other
+/// pattern"; 18 at the selector where none matches.
 #[test]
 fn selectors() {
     let arms = || {
@@ -182,8 +182,9 @@ fn selectors() {
     };
     value(select(int(1, 1), arms()), "one 4 0,1,2,5");
     value(select(int(1, 2), arms()), "two 5 0,1,2,3,6");
-    // 3 is written after the default, so it is never reached.
-    value(select(int(1, 3), arms()), "more 5 0,1,2,3,7");
+    // 3 is written after the default and tried before it.
+    value(select(int(1, 3), arms()), "three 6 0,1,2,3,4,8");
+    value(select(int(1, 4), arms()), "more 6 0,1,2,3,4,7");
     let none = select(int(1, 9), vec![(int(2, 1), var("unset"))]).at("19");
     refuse(items(vec![show(none)]), 18, "19");
     // The scrutinee is evaluated first, and only the chosen expression then.

@@ -351,12 +351,6 @@ fn r22_patterns() {
     check(tried(boolean(1, true)), &["wall true - - 3 1,2,9", "steps 2"]);
     check(tried(int(1, 5)), &["wall default - - 4 1,2,3,9", "steps 2"]);
     check(tried(text(1, "x")), &["wall default - - 4 1,2,3,9", "steps 2"]);
-    // A default tried first matches first, with no label of its own.
-    let first = case(
-        int(1, 1),
-        vec![(default(), vec![show(int(4, 4))]), (int(2, 1), vec![])],
-    );
-    check(items(vec![first]), &["kiosk front x 4 3 0,1,4", "steps 2"]);
 }
 
 /// R23: "A read's marks are of every scope from the reading one up to and

@@ -1,6 +1,7 @@
-//! Hand-written cases. Every expected value follows from documents 01 and
-//! docs/DECISIONS.md, as the comment beside it says; "R7" is reading 7.
+//! Hand-written cases. Every expected value follows from documents 01 and 02
+//! and docs/DECISIONS.md, as the comment beside it says; "R7" is reading 7.
 
+mod default_last;
 mod definitions;
 mod demand;
 mod expressions;

@@ -46,22 +46,14 @@ pub +attribute-read+choose+evaluate+negation+operation+right-operand+selector-sp
     (attribute-read-answers.returns t)
     (attribute-read-answers.returns-2 t))
     (λ t. choose-lts.spec (choose-calls t) (choose-at t) choose.Post
-    choose-answers.choose-Inv-loop
-    choose-answers.choose-μ-loop
-    (choose-answers.loop-holds t)
-    (choose-answers.add-try-pattern t)
-    (choose-answers.try-pattern-requires t)
-    (λ c κs. tt)
-    (choose-answers.add-end-of t)
-    (choose-answers.end-of-requires t)
+    (choose-answers.try-patterns-requires t)
+    (choose-answers.enum-told t)
+    (choose-answers.at-requires t)
+    (choose-answers.enum-known-at t)
     (λ c κs. tt)
     (choose-answers.evaluate-requires t)
     (λ c κs. tt)
     (choose-answers.returns t)
-    (choose-answers.end-of-requires-2 t)
-    (choose-answers.loop-less t)
-    (choose-answers.loop-again t)
-    (choose-answers.at-requires t)
     (choose-answers.returns-2 t))
     (λ t. evaluate-lts.spec (evaluate-calls t) (evaluate-at t) evaluate.Post
     (evaluate-answers.at-requires t)

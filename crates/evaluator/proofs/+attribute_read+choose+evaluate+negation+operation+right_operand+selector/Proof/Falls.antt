@@ -33,9 +33,8 @@ use Rattle.evaluator.proofs.negated.Reads as negated-reads
 use Rattle.values.proofs.place.Reads as place-reads
 use Rattle.evaluator.proofs.plain_value.Reads as plain-value-reads
 use Rattle.values.proofs.Refusal.at.Reads as at-reads
-use Rattle.evaluator.proofs.try_pattern.Reads as try-pattern-reads
 use Rattle.evaluator.proofs.variable_read.Reads as variable-read-reads
-use Rattle.labels.proofs.Labels.union.Reads as union-reads
+use Rattle.patterns.proofs.try_patterns.Reads as try-patterns-reads
 use Rattle.wire.proofs.byte_at.Reads as byte-at-reads
 use Rattle.wire.proofs.end_of.Reads as end-of-reads
 
@@ -108,7 +107,7 @@ attribute-read-calls t = (place-reads.Asked, place-reads.Learnt, evaluate-below 
 
 -- what choose knows of its callees
 abbrev pub choose-calls : ℕ → choose-lts.Claims
-choose-calls t = (try-pattern-reads.Asked, try-pattern-reads.Learnt, union-reads.Asked, union-reads.Learnt, end-of-reads.Asked, end-of-reads.Learnt, place-reads.Asked, place-reads.Learnt, evaluate-below t, evaluate.Post, joined-reads.Asked, joined-reads.Learnt, at-reads.Asked, at-reads.Learnt)
+choose-calls t = (try-patterns-reads.Asked, try-patterns-reads.Learnt, at-reads.Asked, at-reads.Learnt, place-reads.Asked, place-reads.Learnt, evaluate-below t, evaluate.Post, joined-reads.Asked, joined-reads.Learnt)
 
 -- what evaluate knows of its callees
 abbrev pub evaluate-calls : ℕ → evaluate-lts.Claims

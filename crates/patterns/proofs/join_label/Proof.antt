@@ -1,9 +1,9 @@
 -- `join_label` sets the bit of the label in its word.
 use native.Mathlib.Omega.{arith}
-use Rattle.statements.proofs.Words.{label-joined}
+use Rattle.patterns.proofs.Words.{label-joined}
 use borrow.Author.Needs.{needs}
-use Rattle.statements.proofs.join_label.Statement.{statement}
-use Rattle.statements.proofs.join_label.Tie as tie
+use Rattle.patterns.proofs.join_label.Statement.{statement}
+use Rattle.patterns.proofs.join_label.Tie as tie
 
 cast-i : tie.Need-cast-i
 cast-i c = search needs

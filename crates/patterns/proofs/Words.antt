@@ -1,6 +1,6 @@
 -- A set of labels in four words: one label more. Assumes nothing.
-use Prim.Native.Nat.{ℕ, _*_, _/_, _%_, _^_, _<_, _≤_}
-use mathlib.Core.Path.{_≡_, refl, sym, ap, _∙_}
+use Prim.Native.Nat.{ℕ, _*_, _/_, _%_, _^_, _<_}
+use mathlib.Core.Path.{_≡_, sym, ap, _∙_}
 use mathlib.Core.List.{List, [], _∷_}
 use native.Mathlib.Nat.{mod-lt, zero-lt-suc}
 use native.Mathlib.Omega.{arith}
@@ -8,10 +8,9 @@ use lib.Bits.{bitOr, or-zero-r}
 use lib.Dec.{lit<}
 use lib.ListN.{length, getD, set, length-set}
 use lib.Pow.{shl-exact}
-use Rattle.labels.specs.declared.Labels.{Labels}
 use Rattle.labels.specs.Sets.{bitOf, oneLabel, _∪_}
 use Rattle.labels.proofs.Laws.{one-of}
-use Rattle.statements.specs.Words.{labelsIn, JoinsLabel}
+use Rattle.patterns.specs.Words.{labelsIn, JoinsLabel}
 
 -- word i with the bit of l
 abbrev joined : List ℕ → (i l : ℕ) → ℕ

@@ -1,0 +1,116 @@
+// The patterns of a selector or of a case, tried on a value over the manifest's bytes in place. An arm (1A) and a branch (24) begin alike: a pattern, then what follows if it is chosen.
+ghost use mathlib.Core.Path.{_≡_};
+ghost use Prim.Native.Nat.{_≤_, _<_};
+ghost use lib.ListN.{length};
+ghost use Rattle.rules.specs.Arithmetic.{sameValue};
+ghost use Rattle.places.specs.At.{constantAt};
+ghost use Rattle.patterns.specs.declared.Choice.the-variants.{At};
+ghost use Rattle.patterns.specs.Words.{labelsIn, JoinsLabel};
+ghost use Rattle.patterns.specs.Tried.{kept, Matches};
+use labels::Labels;
+use values::Value;
+
+// The place of what follows from the pattern chosen.
+pub enum Choice {
+    At(usize),
+    Nothing,
+}
+
+// What the patterns tried tell.
+pub struct Matched {
+    pub at: Choice,
+    pub labels: Labels,
+}
+
+// Adds a label to a set that is kept in four words.
+fn join_label(set: &mut [u64; 4], label: u8)
+    requires { ⌜ length (now set) ≡ 4 ⌝ }
+    ensures { λ _. ⌜ JoinsLabel (now (set .entry)) (now (set .exit)) label ⌝ }
+{
+    let i = (label / 64) as usize;
+    set[i] = set[i] | (1u64 << (label % 64));
+}
+
+// The set in four words.
+fn labels_of(set: &[u64; 4]) -> Labels
+    ensures { λ r. ⌜ r ≡ labelsIn (now (set .entry)) ⌝ }
+{
+    Labels {
+        w0: set[0],
+        w1: set[1],
+        w2: set[2],
+        w3: set[3],
+    }
+}
+
+// Whether the constant at p has the value x, compared in place.
+fn equals_constant(m: &[u8], p: usize, x: Value) -> bool
+    requires { ⌜ p < 4294967296 ⌝ }
+    ensures { λ r. ⌜ r ≡ sameValue x (constantAt (now (m .entry)) p .value) ⌝ }
+{
+    let tag = wire::byte_at(m, p);
+    match x {
+        Value::Integer(z) => {
+            if tag != 0x10 {
+                return false;
+            }
+            z == wire::signed_at(m, p + 4)
+        }
+        Value::String(n) => {
+            if tag != 0x11 {
+                return false;
+            }
+            n == wire::two_at(m, p + 4)
+        }
+        Value::Boolean(b) => {
+            // Every other tag reads as a boolean.
+            if tag == 0x10 {
+                return false;
+            }
+            if tag == 0x11 {
+                return false;
+            }
+            b == (wire::byte_at(m, p + 4) == 1)
+        }
+    }
+}
+
+// "With two defaults the first counts."
+fn first_default(met: Choice, follows: usize) -> Choice
+    ensures { λ r. ⌜ r ≡ kept met (At follows) ⌝ }
+{
+    match met {
+        Choice::At(_) => met,
+        Choice::Nothing => Choice::At(follows),
+    }
+}
+
+// The first constant among the patterns of the fields from `from` to `end` that equals x, also behind a default, or else the first default, and the labels of the constants tried. The rule of which one is chosen stands here alone.
+pub fn try_patterns(m: &[u8], from: usize, end: usize, x: Value) -> Matched
+    requires { ⌜ end ≤ 65535 ⌝ }
+    ensures { λ r. ⌜ Matches (now (m .entry)) from end x r ⌝ }
+{
+    let mut tried = [0u64; 4];
+    let mut default = Choice::Nothing;
+    let mut q = from;
+    while q < end {
+        let pattern = q + 3;
+        if wire::byte_at(m, pattern) == 0x1b {
+            default = first_default(default, wire::end_of(m, pattern));
+            q = wire::end_of(m, q);
+            continue;
+        }
+        join_label(&mut tried, wire::byte_at(m, pattern + 3));
+        if equals_constant(m, pattern, x) {
+            return Matched {
+                at: Choice::At(wire::end_of(m, pattern)),
+                labels: labels_of(&tried),
+            };
+        }
+        q = wire::end_of(m, q);
+    }
+    Matched {
+        at: default,
+        labels: labels_of(&tried),
+    }
+}

@@ -1,0 +1,170 @@
+-- Patterns: the request that a default goes last, as laws; what holds of everything that follows from one holds of what is chosen; and two lists of
+-- patterns that an edit relates.
+use Prim.Native.Nat.{ℕ}
+use mathlib.Core.Path.{_≡_, refl, ap, _∙_}
+use mathlib.Core.Logic.{inl, inr}
+use mathlib.Core.Bool.{Bool, true, false}
+use Rattle.labels.specs.declared.Labels.{Labels}
+use Rattle.labels.specs.Sets.{oneLabel, _∪_, Words64}
+use Rattle.labels.proofs.Laws.{words-none, words-one, words-union}
+use Rattle.values.specs.declared.Value.{Value}
+use Rattle.rules.specs.Arithmetic.{sameValue}
+use Rattle.rules.specs.Tree.{Constant}
+use Rattle.rules.specs.Patterns.{Patterns, noPattern, constantPattern, defaultPattern, firstEqual, firstDefault, chosen, triedLabels}
+use Rattle.rules.specs.Outcome.{Outcome}
+use Rattle.rules.specs.State.{State, Context}
+use Rattle.rules.specs.Run.{doNothing}
+use Rattle.rules.proofs.Outcome.{All, allDone}
+use Rattle.rules.proofs.Same.{Edit, High, high-one, high-left, high-right, SameConstant, sameConstant}
+
+-- ---- The request's sentences, each for patterns wherever they stand: by `default-moves` a default may be brought to the front
+
+module _ {A : Type 0} (a : A) (ps : Patterns A) (x : Value) (o : A) where
+  -- "a default in a case or selector is tried only after every other pattern": before a constant or behind it, it is the same
+  pub default-moves : (v : Constant) (b : A) → chosen (defaultPattern a (constantPattern v b ps)) x o ≡ chosen (constantPattern v b (defaultPattern a ps)) x o
+  unfolding chosen firstEqual firstDefault
+  default-moves v b = refl
+
+  -- "The patterns tried, and so the label sets, follow the new order."
+  pub default-unlabelled : triedLabels (defaultPattern a ps) x ≡ triedLabels ps x
+  unfolding triedLabels
+  default-unlabelled = refl
+
+  -- "With two defaults the first counts."
+  pub second-default : (b : A) → chosen (defaultPattern a (defaultPattern b ps)) x o ≡ chosen (defaultPattern a ps) x o
+  unfolding chosen firstEqual firstDefault
+  second-default b = refl
+
+  -- with a default, what would follow without a match does not: a selector with one is never refused 18
+  pub with-default : (o′ : A) → chosen (defaultPattern a ps) x o ≡ chosen (defaultPattern a ps) x o′
+  unfolding chosen firstEqual firstDefault
+  with-default o′ = refl
+
+-- ---- What follows
+
+-- P holds of all that follows from a pattern
+pub data Every {A : Type 0} (P : A → Type 0) : Patterns A → Type 0 where
+  everyNone : Every P noPattern
+  everyConstant : {v : Constant} {a : A} {ps : Patterns A} → P a → Every P ps → Every P (constantPattern v a ps)
+  everyDefault : {a : A} {ps : Patterns A} → P a → Every P ps → Every P (defaultPattern a ps)
+
+module _ {A : Type 0} (P : A → Type 0) where
+  if-holds : (t : Bool) {a b : A} → P a → P b → P (elim t [ true ↦ a | false ↦ b ])
+  if-holds true p q = p
+  if-holds false p q = q
+
+  equal-holds : {ps : Patterns A} → Every P ps → (x : Value) {o : A} → P o → P (firstEqual ps x o)
+  unfolding firstEqual
+  equal-holds everyNone x q = q
+  equal-holds (everyConstant {v = v} p ps) x q = if-holds (sameValue x (v .value)) p (equal-holds ps x q)
+  equal-holds (everyDefault p ps) x q = equal-holds ps x q
+
+  default-holds : {ps : Patterns A} → Every P ps → {o : A} → P o → P (firstDefault ps o)
+  unfolding firstDefault
+  default-holds everyNone q = q
+  default-holds (everyConstant p ps) q = default-holds ps q
+  default-holds (everyDefault p ps) q = p
+
+  pub chosen-holds : {ps : Patterns A} → Every P ps → (x : Value) {o : A} → P o → P (chosen ps x o)
+  unfolding chosen
+  chosen-holds ps x q = equal-holds ps x (default-holds ps q)
+
+pub every-weaker : {A : Type 0} {P Q : A → Type 0} {ps : Patterns A} → Every P ps → ((a : A) → P a → Q a) → Every Q ps
+every-weaker everyNone f = everyNone
+every-weaker (everyConstant p ps) f = everyConstant (f _ p) (every-weaker ps f)
+every-weaker (everyDefault p ps) f = everyDefault (f _ p) (every-weaker ps f)
+
+-- Q holds of each state to which a branch of a case leads from st
+abbrev pub EveryBranch : (State → Type 0) → Context → State → Patterns (Context → State → Outcome State) → Type 0
+EveryBranch Q c st ps = Every (λ (f : Context → State → Outcome State). All Q (f c st)) ps
+
+pub branch-holds : {Q : State → Type 0} {c : Context} {st : State} {ps : Patterns (Context → State → Outcome State)} → EveryBranch Q c st ps → (x : Value) → Q st → All Q (chosen ps x doNothing c st)
+unfolding doNothing
+branch-holds {Q} {c} {st} h x q = chosen-holds (λ (f : Context → State → Outcome State). All Q (f c st)) h x (allDone q)
+
+-- the labels of the patterns tried are a set
+pub tried-labels-fit : {A : Type 0} (ps : Patterns A) (x : Value) → Words64 (triedLabels ps x)
+unfolding triedLabels
+tried-labels-fit noPattern x = words-none
+tried-labels-fit (constantPattern v a ps) x = go (sameValue x (v .value)) (tried-labels-fit ps x)
+  where
+    go : (t : Bool) → Words64 (triedLabels ps x) → Words64 (elim t [ true ↦ oneLabel (v .label) | false ↦ oneLabel (v .label) ∪ triedLabels ps x ])
+    go true w = words-one (v .label)
+    go false w = words-union (oneLabel (v .label)) (triedLabels ps x) (words-one (v .label)) w
+tried-labels-fit (defaultPattern a ps) x = tried-labels-fit ps x
+
+-- ---- What follows, by a function
+
+unfoldable pub mapPatterns : {A B : Type 0} → (A → B) → Patterns A → Patterns B
+mapPatterns f noPattern = noPattern
+mapPatterns f (constantPattern v a ps) = constantPattern v (f a) (mapPatterns f ps)
+mapPatterns f (defaultPattern a ps) = defaultPattern (f a) (mapPatterns f ps)
+
+module _ {A B : Type 0} (f : A → B) where
+  pub tried-mapped : (ps : Patterns A) (x : Value) → triedLabels (mapPatterns f ps) x ≡ triedLabels ps x
+  unfolding triedLabels mapPatterns
+  tried-mapped noPattern x = refl
+  tried-mapped (constantPattern v a ps) x = ap (λ (k : Labels). elim (sameValue x (v .value)) [ true ↦ oneLabel (v .label) | false ↦ oneLabel (v .label) ∪ k ]) (tried-mapped ps x)
+  tried-mapped (defaultPattern a ps) x = tried-mapped ps x
+
+  equal-mapped : (ps : Patterns A) (x : Value) (o : A) → firstEqual (mapPatterns f ps) x (f o) ≡ f (firstEqual ps x o)
+  unfolding firstEqual mapPatterns
+  equal-mapped noPattern x o = refl
+  equal-mapped (constantPattern v a ps) x o = go (sameValue x (v .value)) (equal-mapped ps x o)
+    where
+      go : (t : Bool) {b : B} {c : A} → b ≡ f c → elim t [ true ↦ f a | false ↦ b ] ≡ f (elim t [ true ↦ a | false ↦ c ])
+      go true e = refl
+      go false e = e
+  equal-mapped (defaultPattern a ps) x o = equal-mapped ps x o
+
+  default-mapped : (ps : Patterns A) (o : A) → firstDefault (mapPatterns f ps) (f o) ≡ f (firstDefault ps o)
+  unfolding firstDefault mapPatterns
+  default-mapped noPattern o = refl
+  default-mapped (constantPattern v a ps) o = default-mapped ps o
+  default-mapped (defaultPattern a ps) o = refl
+
+  pub chosen-mapped : (ps : Patterns A) (x : Value) (o : A) → chosen (mapPatterns f ps) x (f o) ≡ f (chosen ps x o)
+  unfolding chosen
+  chosen-mapped ps x o = ap (firstEqual (mapPatterns f ps) x) (default-mapped ps o) ∙ equal-mapped ps x (firstDefault ps o)
+
+-- ---- Two lists of patterns
+
+module _ (D : Edit) {A B : Type 0} (R : A → B → Type 0) where
+  -- the same constants but for the edit, and R holds of what follows
+  pub data SamePatterns : Patterns A → Patterns B → Type 0 where
+    sameNoPattern : SamePatterns noPattern noPattern
+    sameConstantPattern : {v w : Constant} {a : A} {b : B} {ps : Patterns A} {qs : Patterns B} → SameConstant D v w → R a b → SamePatterns ps qs → SamePatterns (constantPattern v a ps) (constantPattern w b qs)
+    sameDefaultPattern : {a : A} {b : B} {ps : Patterns A} {qs : Patterns B} → R a b → SamePatterns ps qs → SamePatterns (defaultPattern a ps) (defaultPattern b qs)
+
+  -- two sets of patterns tried and what was chosen: both sets are high, or they are one set and R holds
+  pub data SameChoice (k k′ : Labels) (a : A) (b : B) : Type 0 where
+    highPatterns : High D k → High D k′ → SameChoice k k′ a b
+    samePatterns : k ≡ k′ → R a b → SameChoice k k′ a b
+
+  tried-high : (t : Bool) (l : ℕ) (k : Labels) → D .differs l → High D (elim t [ true ↦ oneLabel l | false ↦ oneLabel l ∪ k ])
+  tried-high true l k d = high-one D d
+  tried-high false l k d = high-left D k (high-one D d)
+
+  -- one pattern, the same on both sides, before the others
+  before : (t : Bool) (l : ℕ) {k k′ : Labels} {a c : A} {b d : B} → R a b → SameChoice k k′ c d
+      → SameChoice (elim t [ true ↦ oneLabel l | false ↦ oneLabel l ∪ k ]) (elim t [ true ↦ oneLabel l | false ↦ oneLabel l ∪ k′ ]) (elim t [ true ↦ a | false ↦ c ]) (elim t [ true ↦ b | false ↦ d ])
+  before true l r h = samePatterns refl r
+  before false l r (highPatterns h h′) = highPatterns (high-right D _ h) (high-right D _ h′)
+  before false l r (samePatterns e r′) = samePatterns (ap (λ (k : Labels). oneLabel l ∪ k) e) r′
+
+  equal-same : {ps : Patterns A} {qs : Patterns B} → SamePatterns ps qs → (x : Value) {a : A} {b : B} → R a b → SameChoice (triedLabels ps x) (triedLabels qs x) (firstEqual ps x a) (firstEqual qs x b)
+  unfolding triedLabels firstEqual
+  equal-same sameNoPattern x r = samePatterns refl r
+  equal-same (sameConstantPattern (sameConstant {l = l} {v = v} {w = w} z (inl d)) _ s) x r = highPatterns (tried-high (sameValue x v) l _ d) (tried-high (sameValue x w) l _ d)
+  equal-same (sameConstantPattern (sameConstant {l = l} {w = w} z (inr e)) h s) x r = rw e (before (sameValue x w) l h (equal-same s x r))
+  equal-same (sameDefaultPattern _ s) x r = equal-same s x r
+
+  default-same : {ps : Patterns A} {qs : Patterns B} → SamePatterns ps qs → {a : A} {b : B} → R a b → R (firstDefault ps a) (firstDefault qs b)
+  unfolding firstDefault
+  default-same sameNoPattern r = r
+  default-same (sameConstantPattern _ _ s) r = default-same s r
+  default-same (sameDefaultPattern h s) r = h
+
+  pub choice-same : {ps : Patterns A} {qs : Patterns B} → SamePatterns ps qs → (x : Value) {a : A} {b : B} → R a b → SameChoice (triedLabels ps x) (triedLabels qs x) (chosen ps x a) (chosen qs x b)
+  unfolding chosen
+  choice-same s x r = equal-same s x (default-same s r)

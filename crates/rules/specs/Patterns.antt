@@ -1,0 +1,40 @@
+-- The patterns of selectors and of cases: which are tried, in which order, and which one is chosen. Both follow this one rule, the first request of
+-- document 02: "a default in a case or selector is tried only after every other pattern, as source document 000 says of Puppet itself. With two
+-- defaults the first counts. The patterns tried, and so the label sets, follow the new order."
+use mathlib.Core.Bool.{true, false}
+use Rattle.labels.specs.declared.Labels.{Labels}
+use Rattle.labels.specs.Sets.{noLabels, oneLabel, _∪_}
+use Rattle.values.specs.declared.Value.{Value}
+use Rattle.rules.specs.Arithmetic.{sameValue}
+use Rattle.rules.specs.Tree.{Constant}
+
+-- the patterns in written order, each with what follows if it is chosen
+pub data Patterns (A : Type 0) : Type 0 where
+  noPattern : Patterns A
+  constantPattern : Constant → A → Patterns A → Patterns A
+  defaultPattern : A → Patterns A → Patterns A
+
+-- "Patterns are tried in written order": what follows the first constant that equals x, those behind a default too
+unfoldable pub firstEqual : {A : Type 0} → Patterns A → Value → (otherwise : A) → A
+firstEqual noPattern x otherwise = otherwise
+firstEqual (constantPattern constant follows patterns) x otherwise = elim (sameValue x (constant .value)) [ true ↦ follows | false ↦ firstEqual patterns x otherwise ]
+firstEqual (defaultPattern follows patterns) x otherwise = firstEqual patterns x otherwise
+
+-- "With two defaults the first counts."; a default's own place among the constants does not
+unfoldable pub firstDefault : {A : Type 0} → Patterns A → (without : A) → A
+firstDefault noPattern without = without
+firstDefault (constantPattern constant follows patterns) without = firstDefault patterns without
+firstDefault (defaultPattern follows patterns) without = follows
+
+-- "a default in a case or selector is tried only after every other pattern": what follows for the value x, or without a match
+unfoldable pub chosen : {A : Type 0} → Patterns A → Value → (without : A) → A
+chosen patterns x without = firstEqual patterns x (firstDefault patterns without)
+
+-- "The patterns tried, and so the label sets, follow the new order.": the constants up to the one that equals x, or all of them; a default has no label
+unfoldable pub triedLabels : {A : Type 0} → Patterns A → Value → Labels
+triedLabels noPattern x = noLabels
+triedLabels (constantPattern constant follows patterns) x = elim (sameValue x (constant .value)) [
+  | true ↦ oneLabel (constant .label)
+  | false ↦ oneLabel (constant .label) ∪ triedLabels patterns x
+]
+triedLabels (defaultPattern follows patterns) x = triedLabels patterns x
