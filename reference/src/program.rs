@@ -168,6 +168,26 @@ pub fn any_constant(random: &mut Random) -> Field {
     program.constant(kind)
 }
 
+/// Puts a default among the arms of a case or selector, in about half of them
+/// behind all the others, and the second one somewhere behind the first.
+pub fn place_defaults<Chosen>(
+    random: &mut Random,
+    arms: &mut Vec<(Field, Chosen)>,
+    first: Chosen,
+    second: Option<Chosen>,
+) {
+    let last = arms.len();
+    let at = match random.chance(500) {
+        true => last,
+        false => random.below(last),
+    };
+    arms.insert(at, (default(), first));
+    if let Some(second) = second {
+        let behind = random.between(at + 1, arms.len());
+        arms.insert(behind, (default(), second));
+    }
+}
+
 /// Making a manifest.
 impl<'r> Program<'r> {
     fn new(random: &'r mut Random, sloppiness: usize) -> Program<'r> {
@@ -454,10 +474,18 @@ impl Program<'_> {
         }
         let with_default = self.random.chance(500);
         if with_default {
-            arms.push((default(), self.branch(env, nesting, &mut branches)));
+            let first = self.branch(env, nesting, &mut branches);
+            // A second one never runs: what is known after the case is without it.
+            let second = self.second_default(|program| program.branch(env, nesting, &mut Vec::new()));
+            place_defaults(self.random, &mut arms, first, second);
         }
         env.merge(branches, with_default);
         case(test, arms)
+    }
+
+    /// What a second default would choose, where there is one.
+    fn second_default<Chosen>(&mut self, make: impl FnOnce(&mut Self) -> Chosen) -> Option<Chosen> {
+        self.random.chance(167).then(|| make(self))
     }
 
     fn resource(&mut self, env: &mut Env) -> Field {
@@ -507,11 +535,10 @@ impl Program<'_> {
                 let test = self.expression(Kind::Boolean, env, 1);
                 let (one, other) = (self.fresh_title(), self.fresh_title());
                 let (a, b) = (self.random.label(), self.random.label());
-                let pattern = self.pattern(Kind::Boolean);
-                (
-                    select(test, vec![(pattern, text(a, one)), (default(), text(b, other))]),
-                    None,
-                )
+                let mut arms = vec![(self.pattern(Kind::Boolean), text(a, one))];
+                let second = self.second_default(|program| program.constant(Kind::Text));
+                place_defaults(self.random, &mut arms, text(b, other), second);
+                (select(test, arms), None)
             }
             _ => {
                 let title = self.fresh_title();
@@ -765,10 +792,9 @@ impl Program<'_> {
             arms.push((self.pattern(of), self.expression(kind, env, budget)));
         }
         if arms.is_empty() || !self.random.chance(15) {
-            arms.push((default(), self.expression(kind, env, budget)));
-        }
-        if self.random.chance(50) {
-            arms.push((self.pattern(of), self.expression(kind, env, budget)));
+            let first = self.expression(kind, env, budget);
+            let second = self.second_default(|program| program.expression(kind, env, budget));
+            place_defaults(self.random, &mut arms, first, second);
         }
         select(scrutinee, arms)
     }

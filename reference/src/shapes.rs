@@ -2,12 +2,12 @@
 //! program seldom comes near.
 
 use crate::assemble::*;
-use crate::program::{any_constant, stray_statement};
+use crate::program::{any_constant, place_defaults, stray_statement};
 use crate::random::Random;
 
 /// One of the shapes.
 pub fn shape(random: &mut Random) -> Manifest {
-    let number = random.weighted(&[5, 5, 6, 4, 4, 10, 1, 1, 16, 9, 7]);
+    let number = random.weighted(&[5, 5, 6, 4, 4, 10, 1, 1, 16, 9, 7, 8]);
     numbered(number, random)
 }
 
@@ -24,7 +24,8 @@ fn numbered(number: usize, random: &mut Random) -> Manifest {
         7 => large_table(random),
         8 => crowded(random),
         9 => marked_reads(random),
-        _ => bases(random),
+        10 => bases(random),
+        _ => choices(random),
     }
 }
 
@@ -690,4 +691,77 @@ fn marked_body(random: &mut Random, title: &str) -> Vec<Field> {
         });
     }
     body
+}
+
+/// Cases and selectors over so few values that a constant before a default, one
+/// behind it and none are each chosen often; what they assign and declare shows
+/// in what is read after them.
+fn choices(random: &mut Random) -> Manifest {
+    let mut items = vec![
+        assign("x", few(random)),
+        assign("y", any_constant(random)),
+        class_definition("quiet", None, vec![], vec![]),
+    ];
+    for at in 0..random.between(1, 4) {
+        items.push(match random.chance(500) {
+            true => choosing_case(random, at),
+            false => built_in(
+                "gate",
+                text(random.label(), format!("selected{at}")),
+                vec![given("x", choosing_selector(random))],
+            ),
+        });
+    }
+    items.push(built_in(
+        "kiosk",
+        text(random.label(), "last"),
+        vec![given("x", var("x")), given("y", var("y"))],
+    ));
+    Manifest::new(items)
+}
+
+/// One of few constants, mostly of one kind.
+fn few(random: &mut Random) -> Field {
+    match random.below(10) {
+        0 => boolean(random.label(), true),
+        1 => text(random.label(), "last"),
+        _ => int(random.label(), random.below(3) as i64),
+    }
+}
+
+fn choosing_selector(random: &mut Random) -> Field {
+    let mut arms: Vec<(Field, Field)> = (0..random.between(1, 4))
+        .map(|_| (few(random), any_constant(random)))
+        .collect();
+    if !random.chance(100) {
+        let first = any_constant(random);
+        let second = random.chance(250).then(|| var("unset"));
+        place_defaults(random, &mut arms, first, second);
+    }
+    select(var("x"), arms)
+}
+
+/// A second default's block never runs, so it may assign what has a value.
+fn choosing_case(random: &mut Random, at: usize) -> Field {
+    let mut arms: Vec<(Field, Vec<Field>)> = (0..random.between(1, 4))
+        .map(|arm| (few(random), choice(random, &format!("chosen{at}-{arm}"))))
+        .collect();
+    if !random.chance(200) {
+        let first = choice(random, &format!("default{at}"));
+        let second = random
+            .chance(250)
+            .then(|| vec![assign(random.pick(&["x", "y"]), any_constant(random))]);
+        place_defaults(random, &mut arms, first, second);
+    }
+    case(var("x"), arms)
+}
+
+/// A block that shows that it ran, marks a name, adds to the trail or is empty.
+fn choice(random: &mut Random, title: &str) -> Vec<Field> {
+    match random.below(5) {
+        0 => vec![],
+        1 => vec![include("quiet")],
+        2 => vec![assign(title, any_constant(random))],
+        _ => vec![built_in("wall", text(random.label(), title), vec![])],
+    }
 }
