@@ -4,6 +4,7 @@
 use crate::answer::{Answer, Reason, Refusal};
 use crate::machine::{self, Finished};
 use crate::reader;
+use crate::tree::Tree;
 
 /// "The working memory is shorter than 65,536 bytes."
 pub const LEAST_MEMORY: usize = 65_536;
@@ -34,12 +35,17 @@ fn attempt(
     out: &mut [u8],
     memory: usize,
 ) -> Result<Finished, Refusal> {
+    let tree = read(manifest, memory)?;
+    machine::run(&tree, device, limit, out)
+}
+
+/// All that comes before running: refusals 1 to 5.
+pub fn read(manifest: &[u8], memory: usize) -> Result<Tree<'_>, Refusal> {
     if memory < LEAST_MEMORY {
         return Err(Reason::Memory.at(0));
     }
     if manifest.is_empty() || manifest.len() > LONGEST_MANIFEST {
         return Err(Reason::Length.at(0));
     }
-    let tree = reader::read(manifest)?;
-    machine::run(&tree, device, limit, out)
+    reader::read(manifest)
 }

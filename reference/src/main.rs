@@ -24,6 +24,7 @@
 //! ```text
 //! reference schedule < input        device, line feed, manifest in; the schedule out
 //! reference batch < cases           a case to a line in; an answer to a line out
+//! reference default-last < cases    those whose answer rests on a default being tried last
 //! reference generate SEED COUNT     random cases in batch format
 //! reference histogram SEED COUNT    how often each outcome occurs among them
 //! reference time SEED COUNT         nanoseconds per compile of them
@@ -42,13 +43,15 @@
 //! `catalog`, `machine` (how a manifest runs), `compile` (the call), `schedule`
 //! (the printer). For tests and random cases: `assemble` (manifests from nested
 //! fields), `random`, `program`, `shapes`, `generate`, `special` (named inputs),
-//! `case` (batch lines), `modes` (what the arguments ask for).
+//! `case` (batch lines), `default_last` (which cases tell that a default is
+//! tried last), `modes` (what the arguments ask for).
 
 mod answer;
 mod assemble;
 mod case;
 mod catalog;
 mod compile;
+mod default_last;
 mod generate;
 mod labels;
 mod machine;

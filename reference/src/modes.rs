@@ -4,6 +4,7 @@ use crate::answer::Answer;
 use crate::case::{answer_line, Case};
 use crate::catalog;
 use crate::compile::compile;
+use crate::default_last;
 use crate::generate::cases;
 use crate::labels::Labels;
 use crate::schedule::schedule;
@@ -11,14 +12,16 @@ use crate::special::{named, NAMED};
 use std::io::{self, BufRead, BufWriter, Read, Write};
 use std::time::{Duration, Instant};
 
-const USAGE: &str = "use: reference schedule | batch | generate SEED COUNT | histogram SEED COUNT | \
-                     time SEED COUNT | named NAME | named --list | time-named [NAME]";
+const USAGE: &str = "use: reference schedule | batch | default-last | generate SEED COUNT | \
+                     histogram SEED COUNT | time SEED COUNT | named NAME | named --list | \
+                     time-named [NAME]";
 
 pub fn run(arguments: &[String]) -> Result<(), String> {
     let words: Vec<&str> = arguments.iter().map(String::as_str).collect();
     let done = match words[..] {
         ["schedule"] => print_schedule(),
         ["batch"] => return batch(),
+        ["default-last"] => return print_telling(),
         ["generate", seed, count] => generate(number(seed)?, number(count)?),
         ["histogram", seed, count] => return histogram(number(seed)?, number(count)?),
         ["time", seed, count] => return time(number(seed)?, number(count)?),
@@ -54,18 +57,33 @@ fn print_schedule() -> io::Result<()> {
     io::stdout().lock().write_all(&schedule(&input))
 }
 
-/// Answers each line, checking the bytes lent on the way.
-fn batch() -> Result<(), String> {
+/// Writes for each case of standard input the line it is given, if any.
+fn each_case(line_of: impl Fn(&Case) -> Result<Option<String>, String>) -> Result<(), String> {
     let mut out = BufWriter::new(io::stdout().lock());
     for (at, line) in io::stdin().lock().lines().enumerate() {
         let line = line.map_err(broken)?;
         let told = |message: String| format!("line {}: {message}", at + 1);
-        let (answer, catalog) = Case::from_line(&line)
-            .and_then(|case| case.compile())
+        let answer = Case::from_line(&line)
+            .and_then(|case| line_of(&case))
             .map_err(told)?;
-        writeln!(out, "{}", answer_line(&answer, &catalog)).map_err(broken)?;
+        if let Some(answer) = answer {
+            writeln!(out, "{answer}").map_err(broken)?;
+        }
     }
     out.flush().map_err(broken)
+}
+
+/// Answers each line, checking the bytes lent on the way.
+fn batch() -> Result<(), String> {
+    each_case(|case| {
+        let (answer, catalog) = case.compile()?;
+        Ok(Some(answer_line(&answer, &catalog)))
+    })
+}
+
+/// Writes again the lines of those cases that tell that a default is tried last.
+fn print_telling() -> Result<(), String> {
+    each_case(|case| Ok(default_last::tells(case).then(|| case.line())))
 }
 
 fn generate(seed: u64, count: u64) -> io::Result<()> {

@@ -2,6 +2,8 @@
 //! only after every other pattern".
 
 use super::*;
+use crate::default_last::tells;
+use crate::generate::cases;
 use crate::special::*;
 
 /// The value that these choices give for 7 (2), with its labels, the title's 1
@@ -13,6 +15,20 @@ fn chosen(choices: Vec<(Field, Field)>, printed: &str) {
     check(selector(choices.clone()), &[&line, "steps 1"]);
     // The case, the assignment in the block chosen, the resource.
     check(by_case(choices), &[&line, "steps 3"]);
+}
+
+fn wall(title: Field) -> Field {
+    built_in("wall", title, vec![])
+}
+
+/// A case over 7 (2): wall "default" (3), and wall "seven" (5) for the 7 (4)
+/// behind it.
+fn walls_by_case() -> Field {
+    let arms = vec![
+        (default(), vec![wall(text(3, "default"))]),
+        (int(4, 7), vec![wall(text(5, "seven"))]),
+    ];
+    case(int(2, 7), arms)
 }
 
 /// The constant behind the default is tried (4); it matches, or the default is
@@ -101,13 +117,12 @@ fn never_18_with_a_default() {
 /// patterns tried. What stands after the case has not.
 #[test]
 fn path_of_the_default() {
-    let wall = |label: u8, title: &str| vec![built_in("wall", text(label, title), vec![])];
     let manifest = |constant: i64| {
         let arms = vec![
-            (default(), wall(3, "first")),
-            (int(4, constant), wall(5, "constant")),
-            (default(), wall(6, "second")),
-            (int(7, 9), wall(8, "behind")),
+            (default(), vec![wall(text(3, "first"))]),
+            (int(4, constant), vec![wall(text(5, "constant"))]),
+            (default(), vec![wall(text(6, "second"))]),
+            (int(7, 9), vec![wall(text(8, "behind"))]),
         ];
         items(vec![case(int(2, 7), arms), show(int(1, 1))])
     };
@@ -178,24 +193,112 @@ fn trail_of_a_default_not_chosen() {
     ] {
         check(second(statement), &["kiosk front x 4 4 0,2,3,4", "steps 2"]);
     }
-    let built_in = built_in("wall", text(5, "a"), vec![]);
-    check(second(built_in), &["kiosk front x 4 2 0,4", "steps 2"]);
+    check(second(wall(text(5, "a"))), &["kiosk front x 4 2 0,4", "steps 2"]);
 }
 
 /// "A node's default is another thing and stays": the first default node item
 /// runs where no other names the device, and in it a case has its own.
 #[test]
 fn default_of_a_node() {
-    let wall = |label: u8, title: &str| built_in("wall", text(label, title), vec![]);
-    let arms = vec![
-        (default(), vec![wall(3, "default")]),
-        (int(4, 7), vec![wall(5, "seven")]),
-    ];
     let manifest = items(vec![
-        node_default(vec![case(int(2, 7), arms)]),
-        node_default(vec![wall(6, "second")]),
-        node(&["desk"], vec![wall(1, "named")]),
+        node_default(vec![walls_by_case()]),
+        node_default(vec![wall(text(6, "second"))]),
+        node(&["desk"], vec![wall(text(1, "named"))]),
     ]);
     assert_eq!(printed("other", &manifest), "wall seven - - 3 2,4,5\nsteps 2\n");
     check(manifest, &["wall named - - 1 1", "steps 1"]);
+}
+
+/// A case tells that a default is tried last if a constant behind one is tried
+/// and shows; not if a constant before it matches, if nothing but a second
+/// default is behind it, if no default stands before a constant, or if nothing
+/// runs.
+#[test]
+fn telling_cases() {
+    let telling = |choices: Vec<(Field, Field)>| {
+        [selector(choices.clone()), by_case(choices)].map(|manifest| tells(&Case::of(manifest.build().bytes)))
+    };
+    let twice = || vec![(default(), int(3, 30)), (default(), int(4, 40))];
+    assert_eq!(telling(default_first(7)), [true, true]);
+    assert_eq!(telling(default_middle(8, 9)), [true, true]);
+    assert_eq!(telling(default_middle(7, 7)), [false, false]);
+    assert_eq!(telling(twice()), [false, false]);
+    assert_eq!(telling(vec![(int(3, 7), int(4, 40))]), [false, false]);
+    let mut small = Case::of(selector(default_first(7)).build().bytes);
+    small.memory -= 1;
+    assert!(!tells(&small));
+    // Refused before the selector, and for the steps before it is evaluated.
+    let mut manifest = selector(default_first(7));
+    manifest.items.insert(0, assign("y", var("unset")));
+    assert!(!tells(&Case::of(manifest.build().bytes)));
+    let mut none = Case::of(selector(default_first(7)).build().bytes);
+    none.limit = 0;
+    assert!(!tells(&none));
+}
+
+/// These items, for "desk", tell it.
+#[track_caller]
+fn tell(list: Vec<Field>) {
+    assert!(tells(&Case::of(items(list).build().bytes)));
+}
+
+/// 50, and 30 if the default matched.
+fn fifty() -> Field {
+    select(int(2, 7), default_first(7))
+}
+
+/// A selector tells wherever an expression may stand.
+#[test]
+fn telling_selectors() {
+    let arms = vec![(default(), text(3, "default")), (int(4, 7), text(5, "seven"))];
+    let seven = || select(int(2, 7), arms.clone());
+    let equal = || binary(EQUAL, fifty(), int(6, 50));
+    tell(vec![show(not(equal()))]);
+    tell(vec![show(binary(ADD, int(1, 1), fifty()))]);
+    tell(vec![show(select(fifty(), vec![(int(6, 50), int(7, 70))]))]);
+    tell(vec![show(select(int(1, 1), vec![(int(1, 1), fifty())]))]);
+    tell(vec![
+        built_in("wall", text(1, "seven"), vec![given("x", int(1, 1))]),
+        show(attribute_of("wall", "x", seven())),
+    ]);
+    tell(vec![wall(seven())]);
+    tell(vec![assign("y", fifty()), show(var("y"))]);
+    tell(vec![if_else(equal(), vec![wall(text(1, "then"))], vec![])]);
+    let p = || vec![parameter("p", Some(int(1, 1)))];
+    let booth = || type_definition("booth", p(), vec![wall(var("title")), show(var("p"))]);
+    tell(vec![booth(), defined("booth", seven(), vec![])]);
+    tell(vec![
+        booth(),
+        defined("booth", text(1, "a"), vec![given("p", fifty())]),
+    ]);
+    tell(vec![
+        class_definition("desk", None, p(), vec![show(var("p"))]),
+        class_with("desk", vec![given("p", fifty())]),
+    ]);
+}
+
+/// A case tells in any block, and by its scrutinee too.
+#[test]
+fn telling_cases_in_blocks() {
+    let told = || vec![walls_by_case()];
+    tell(vec![case(fifty(), vec![(int(6, 50), vec![wall(text(1, "in"))])])]);
+    tell(vec![case(int(1, 1), vec![(int(1, 1), told())])]);
+    tell(vec![if_else(boolean(1, true), told(), vec![])]);
+    tell(vec![if_else(boolean(1, false), vec![], told())]);
+    tell(vec![
+        type_definition("booth", vec![], told()),
+        defined("booth", text(1, "a"), vec![]),
+    ]);
+    tell(vec![
+        class_definition("desk", None, vec![], told()),
+        include("desk"),
+    ]);
+    tell(vec![node_default(told())]);
+}
+
+/// Of the random cases one in ten or more tell it.
+#[test]
+fn random_cases_tell() {
+    let telling = cases(1, 2000).filter(tells).count();
+    assert!(telling >= 200, "{telling} of 2,000 cases");
 }

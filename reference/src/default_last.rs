@@ -1,0 +1,96 @@
+//! Which cases tell that a default is tried last.
+
+use crate::answer::Refusal;
+use crate::case::Case;
+use crate::compile;
+use crate::machine;
+use crate::tree::*;
+
+/// Whether the answer would be another if a default matched where it is
+/// reached, so that the patterns behind it were never tried.
+pub fn tells(case: &Case) -> bool {
+    let Ok(mut tree) = compile::read(&case.manifest, case.memory) else {
+        return false;
+    };
+    let answer = run(&tree, case);
+    tree.items.iter_mut().for_each(cut_item);
+    run(&tree, case) != answer
+}
+
+/// The steps and the catalog, or the refusal.
+fn run(tree: &Tree, case: &Case) -> Result<(u16, Vec<u8>), Refusal> {
+    let mut out = vec![0; case.output];
+    let finished = machine::run(tree, &case.device, case.limit, &mut out)?;
+    out.truncate(usize::from(finished.length));
+    Ok((finished.steps, out))
+}
+
+/// Cuts off what stands behind a default. A condition keeps its effect, which
+/// is of all branches, whatever is tried.
+fn cut_arms<Chosen>(arms: &mut Vec<Arm<Chosen>>, cut_chosen: fn(&mut Chosen)) {
+    let is_default = |arm: &Arm<Chosen>| matches!(arm.pattern, Pattern::Default);
+    if let Some(at) = arms.iter().position(is_default) {
+        arms.truncate(at + 1);
+    }
+    arms.iter_mut().for_each(|arm| cut_chosen(&mut arm.chosen));
+}
+
+fn cut_item(item: &mut Item) {
+    match item {
+        Item::Statement(statement) => cut_statement(statement),
+        Item::Node(node) => cut_block(&mut node.block),
+        Item::Definition(definition) => cut_block(&mut definition.block),
+    }
+}
+
+fn cut_block(block: &mut Block) {
+    block.iter_mut().for_each(cut_statement);
+}
+
+fn cut_statement(statement: &mut Statement) {
+    match &mut statement.action {
+        Action::Assign { value, .. } => cut_expression(value),
+        Action::If {
+            condition,
+            then,
+            otherwise,
+            ..
+        } => {
+            cut_expression(condition);
+            cut_block(then);
+            cut_block(otherwise);
+        }
+        Action::Case { scrutinee, arms, .. } => {
+            cut_expression(scrutinee);
+            cut_arms(arms, cut_block);
+        }
+        Action::BuiltIn(resource) | Action::Defined(resource) => {
+            cut_expression(&mut resource.title);
+            cut_attributes(&mut resource.attributes);
+        }
+        Action::Class { attributes, .. } => cut_attributes(attributes),
+        Action::Include { .. } => {}
+    }
+}
+
+fn cut_attributes(attributes: &mut Attributes) {
+    for attribute in &mut attributes.list {
+        cut_expression(&mut attribute.value);
+    }
+}
+
+fn cut_expression(expression: &mut Expression) {
+    match &mut expression.form {
+        Form::Constant(_) | Form::Variable(_) | Form::TopVariable(_) | Form::ClassVariable { .. } => {}
+        Form::Binary { left, right, .. } => {
+            cut_expression(left);
+            cut_expression(right);
+        }
+        Form::Not(operand) => cut_expression(operand),
+        Form::AttributeRead { title, .. } => cut_expression(title),
+        Form::Selector { scrutinee, arms } => {
+            cut_expression(scrutinee);
+            cut_arms(arms, cut_expression);
+        }
+    }
+}
