@@ -2,6 +2,7 @@
 ghost use mathlib.Core.Path.{_≡_};
 ghost use Prim.Native.Nat.{_≤_, _<_};
 ghost use lib.ListN.{length};
+ghost use Rattle.wire.specs.Bytes.{byte};
 ghost use Rattle.rules.specs.Arithmetic.{sameValue};
 ghost use Rattle.places.specs.At.{constantAt};
 ghost use Rattle.patterns.specs.declared.Choice.the-variants.{At};
@@ -43,12 +44,11 @@ fn labels_of(set: &[u64; 4]) -> Labels
     }
 }
 
-// Whether the constant at p has the value x, compared in place.
-fn equals_constant(m: &[u8], p: usize, x: Value) -> bool
-    requires { ⌜ p < 4294967296 ⌝ }
+// Whether the constant at p, whose tag is known, has the value x, compared in place.
+fn equals_constant(m: &[u8], tag: u8, p: usize, x: Value) -> bool
+    requires { ⌜ (tag ≡ byte (now m) p) × (p < 4294967296) ⌝ }
     ensures { λ r. ⌜ r ≡ sameValue x (constantAt (now (m .entry)) p .value) ⌝ }
 {
-    let tag = wire::byte_at(m, p);
     match x {
         Value::Integer(z) => {
             if tag != 0x10 {
@@ -95,13 +95,14 @@ pub fn try_patterns(m: &[u8], from: usize, end: usize, x: Value) -> Matched
     let mut q = from;
     while q < end {
         let pattern = q + 3;
-        if wire::byte_at(m, pattern) == 0x1b {
+        let tag = wire::byte_at(m, pattern);
+        if tag == 0x1b {
             default = first_default(default, wire::end_of(m, pattern));
             q = wire::end_of(m, q);
             continue;
         }
         join_label(&mut tried, wire::byte_at(m, pattern + 3));
-        if equals_constant(m, pattern, x) {
+        if equals_constant(m, tag, pattern, x) {
             return Matched {
                 at: Choice::At(wire::end_of(m, pattern)),
                 labels: labels_of(&tried),

@@ -51,7 +51,7 @@ join-label-requires : tie.Need-join-label-requires Inv-loop μ-loop
 join-label-requires c κs = c .before .before .before .before .before .loop .inv .1
 
 equals-constant-requires : tie.Need-equals-constant-requires Inv-loop μ-loop
-equals-constant-requires c κs = omega arith
+equals-constant-requires c κs = (c .before .before .before .before .byte-at .ensures, omega arith)
 
 end-of-requires-3 : tie.Need-end-of-requires-3 Inv-loop μ-loop
 end-of-requires-3 c κs = omega arith
