@@ -1,7 +1,7 @@
 -- Patterns: the request that a default goes last, as laws; what holds of everything that follows from one holds of what is chosen; and two lists of
 -- patterns that an edit relates.
 use Prim.Native.Nat.{ℕ}
-use mathlib.Core.Path.{_≡_, refl, ap, _∙_}
+use mathlib.Core.Path.{_≡_, refl, sym, ap, _∙_}
 use mathlib.Core.Logic.{inl, inr}
 use mathlib.Core.Bool.{Bool, true, false}
 use Rattle.labels.specs.declared.Labels.{Labels}
@@ -17,28 +17,49 @@ use Rattle.rules.specs.Run.{doNothing}
 use Rattle.rules.proofs.Outcome.{All, allDone}
 use Rattle.rules.proofs.Same.{Edit, High, high-one, high-left, high-right, SameConstant, sameConstant}
 
--- ---- The request's sentences, each for patterns wherever they stand: by `default-moves` a default may be brought to the front
+-- ---- The request's sentences, wherever the defaults stand
 
-module _ {A : Type 0} (a : A) (ps : Patterns A) (x : Value) (o : A) where
-  -- "a default in a case or selector is tried only after every other pattern": before a constant or behind it, it is the same
-  pub default-moves : (v : Constant) (b : A) → chosen (defaultPattern a (constantPattern v b ps)) x o ≡ chosen (constantPattern v b (defaultPattern a ps)) x o
-  unfolding chosen firstEqual firstDefault
-  default-moves v b = refl
+-- what follows the first default is a
+pub data FirstDefault {A : Type 0} (a : A) : Patterns A → Type 0 where
+  defaultHere : {ps : Patterns A} → FirstDefault a (defaultPattern a ps)
+  defaultLater : {v : Constant} {b : A} {ps : Patterns A} → FirstDefault a ps → FirstDefault a (constantPattern v b ps)
+
+-- the constants alone
+unfoldable pub constantsOf : {A : Type 0} → Patterns A → Patterns A
+constantsOf noPattern = noPattern
+constantsOf (constantPattern v a ps) = constantPattern v a (constantsOf ps)
+constantsOf (defaultPattern a ps) = constantsOf ps
+
+module _ {A : Type 0} (x : Value) where
+  default-found : {a : A} {ps : Patterns A} → FirstDefault a ps → (o : A) → firstDefault ps o ≡ a
+  unfolding firstDefault
+  default-found defaultHere o = refl
+  default-found (defaultLater h) o = default-found h o
+
+  constants-equal : (ps : Patterns A) (o : A) → firstEqual ps x o ≡ firstEqual (constantsOf ps) x o
+  unfolding firstEqual constantsOf
+  constants-equal noPattern o = refl
+  constants-equal (constantPattern v a ps) o = ap (λ (y : A). elim (sameValue x (v .value)) [ true ↦ a | false ↦ y ]) (constants-equal ps o)
+  constants-equal (defaultPattern a ps) o = constants-equal ps o
+
+  constants-only : (ps : Patterns A) (o : A) → firstDefault (constantsOf ps) o ≡ o
+  unfolding firstDefault constantsOf
+  constants-only noPattern o = refl
+  constants-only (constantPattern v a ps) o = constants-only ps o
+  constants-only (defaultPattern a ps) o = constants-only ps o
+
+  -- "a default in a case or selector is tried only after every other pattern", "With two defaults the first counts": the constants are tried, and if
+  -- none is equal, the first default is chosen; what would follow without a match is not, so a selector with a default is never refused 18
+  pub default-last : {a : A} {ps : Patterns A} → FirstDefault a ps → (o : A) → chosen ps x o ≡ chosen (constantsOf ps) x a
+  unfolding chosen
+  default-last {a} {ps} h o = ap (firstEqual ps x) (default-found h o) ∙ constants-equal ps a ∙ sym (ap (firstEqual (constantsOf ps) x) (constants-only ps a))
 
   -- "The patterns tried, and so the label sets, follow the new order."
-  pub default-unlabelled : triedLabels (defaultPattern a ps) x ≡ triedLabels ps x
-  unfolding triedLabels
-  default-unlabelled = refl
-
-  -- "With two defaults the first counts."
-  pub second-default : (b : A) → chosen (defaultPattern a (defaultPattern b ps)) x o ≡ chosen (defaultPattern a ps) x o
-  unfolding chosen firstEqual firstDefault
-  second-default b = refl
-
-  -- with a default, what would follow without a match does not: a selector with one is never refused 18
-  pub with-default : (o′ : A) → chosen (defaultPattern a ps) x o ≡ chosen (defaultPattern a ps) x o′
-  unfolding chosen firstEqual firstDefault
-  with-default o′ = refl
+  pub constants-tried : (ps : Patterns A) → triedLabels ps x ≡ triedLabels (constantsOf ps) x
+  unfolding triedLabels constantsOf
+  constants-tried noPattern = refl
+  constants-tried (constantPattern v a ps) = ap (λ (k : Labels). elim (sameValue x (v .value)) [ true ↦ oneLabel (v .label) | false ↦ oneLabel (v .label) ∪ k ]) (constants-tried ps)
+  constants-tried (defaultPattern a ps) = constants-tried ps
 
 -- ---- What follows
 

@@ -14,19 +14,19 @@ pub data Patterns (A : Type 0) : Type 0 where
   constantPattern : Constant → A → Patterns A → Patterns A
   defaultPattern : A → Patterns A → Patterns A
 
--- "Patterns are tried in written order": what follows the first constant that equals x, those behind a default too
+-- "Patterns are tried in written order": what follows the first constant that equals x, those behind a default too; `otherwise` if none does
 unfoldable pub firstEqual : {A : Type 0} → Patterns A → Value → (otherwise : A) → A
 firstEqual noPattern x otherwise = otherwise
 firstEqual (constantPattern constant follows patterns) x otherwise = elim (sameValue x (constant .value)) [ true ↦ follows | false ↦ firstEqual patterns x otherwise ]
 firstEqual (defaultPattern follows patterns) x otherwise = firstEqual patterns x otherwise
 
--- "With two defaults the first counts."; a default's own place among the constants does not
+-- "With two defaults the first counts.": what follows the first default, wherever it stands; `without` if there is none
 unfoldable pub firstDefault : {A : Type 0} → Patterns A → (without : A) → A
 firstDefault noPattern without = without
 firstDefault (constantPattern constant follows patterns) without = firstDefault patterns without
 firstDefault (defaultPattern follows patterns) without = follows
 
--- "a default in a case or selector is tried only after every other pattern": what follows for the value x, or without a match
+-- "a default in a case or selector is tried only after every other pattern": what follows for the value x; `without` if nothing matches
 unfoldable pub chosen : {A : Type 0} → Patterns A → Value → (without : A) → A
 chosen patterns x without = firstEqual patterns x (firstDefault patterns without)
 
