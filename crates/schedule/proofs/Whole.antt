@@ -6,12 +6,12 @@ use mathlib.Core.List.{List, [], _∷_, _++_}
 use Prim.Native.Nat.{ℕ, suc, _+_, _*_, _-_, _≤_, _<_}
 use native.Mathlib.Omega.{arith}
 use borrow.Author.Tests.{ltb-false}
-use lib.Dec.{eqb, ltb, lit≤}
+use lib.Dec.{eqb, ltb}
 use lib.ListN.{length, getD, take}
 use lib.Seq.{take-append-seam}
 use Rattle.values.specs.declared.Reason.{Reason}
-use Rattle.values.specs.declared.Reason.the-variants.{MemoryTooShort, ManifestLength, Malformed, TooDeep, StringOrder, StepLimit, LevelLimit, DefinedAgain, Unknown, DeclaredAgain, UnknownParameter, MissingParameter, NoValue, AssignedAgain, WrongKind, Overflow, DivisionByZero, NoMatch, NotInCatalog, ResourceAgain, AttributeAgain, CellLimit, OutputFull}
 use Rattle.values.specs.Numbers.{numberOf}
+use Rattle.values.proofs.Reasons.{number-range}
 use Rattle.rules.specs.declared.Verdict.{Verdict}
 use Rattle.rules.specs.declared.Verdict.the-variants.{Sound, Fault}
 use Rattle.rules.specs.Bytes.{two}
@@ -62,13 +62,9 @@ index-right m table w short room = strings-indexed m (indexed m table) (length (
 
 -- ---- The line of a refusal is short
 
-number-small : (r : Reason) → numberOf r ≤ 23
-unfolding numberOf
-number-small r = elim r [ MemoryTooShort ↦ lit≤ tt | ManifestLength ↦ lit≤ tt | Malformed ↦ lit≤ tt | TooDeep ↦ lit≤ tt | StringOrder ↦ lit≤ tt | StepLimit ↦ lit≤ tt | LevelLimit ↦ lit≤ tt | DefinedAgain ↦ lit≤ tt | Unknown ↦ lit≤ tt | DeclaredAgain ↦ lit≤ tt | UnknownParameter ↦ lit≤ tt | MissingParameter ↦ lit≤ tt | NoValue ↦ lit≤ tt | AssignedAgain ↦ lit≤ tt | WrongKind ↦ lit≤ tt | Overflow ↦ lit≤ tt | DivisionByZero ↦ lit≤ tt | NoMatch ↦ lit≤ tt | NotInCatalog ↦ lit≤ tt | ResourceAgain ↦ lit≤ tt | AttributeAgain ↦ lit≤ tt | CellLimit ↦ lit≤ tt | OutputFull ↦ lit≤ tt ]
-
 -- its place has 16 bits
 pub refusal-short : (r : Reason) (p : ℕ) → p < 65536 → length (refusalLine (numberOf r) p) ≤ 2048
-refusal-short r p h = refusal-line-short (numberOf r) p (omega (arith, number-small r)) (omega arith)
+refusal-short r p h = refusal-line-short (numberOf r) p (omega (arith, number-range r)) (omega arith)
 
 -- ---- What is accepted was checked
 

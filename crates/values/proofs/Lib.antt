@@ -4,3 +4,4 @@ pub mod Division
 pub mod Same
 pub mod Sizes
 pub mod Digits
+pub mod Reasons

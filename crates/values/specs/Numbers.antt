@@ -1,7 +1,7 @@
--- Document 01's number for each reason, and what each answer says in its numbers.
+-- The papers' number for each reason, and what each answer says in its numbers.
 use Prim.Native.Nat.{ℕ}
 use Rattle.values.specs.declared.Reason.{Reason}
-use Rattle.values.specs.declared.Reason.the-variants.{MemoryTooShort, ManifestLength, Malformed, TooDeep, StringOrder, StepLimit, LevelLimit, DefinedAgain, Unknown, DeclaredAgain, UnknownParameter, MissingParameter, NoValue, AssignedAgain, WrongKind, Overflow, DivisionByZero, NoMatch, NotInCatalog, ResourceAgain, AttributeAgain, CellLimit, OutputFull}
+use Rattle.values.specs.declared.Reason.the-variants.{MemoryTooShort, ManifestLength, Malformed, TooDeep, StringOrder, StepLimit, LevelLimit, DefinedAgain, Unknown, DeclaredAgain, UnknownParameter, MissingParameter, NoValue, AssignedAgain, WrongKind, Overflow, DivisionByZero, NoMatch, NotInCatalog, ResourceAgain, AttributeAgain, CellLimit, OutputFull, OutsideNotation, PastLine255, Unprintable}
 use Rattle.values.specs.declared.Answer.{Answer}
 use Rattle.values.specs.declared.Answer.the-variants.{Catalog, Refused}
 
@@ -30,6 +30,9 @@ numberOf ResourceAgain = 20  -- type and title are already in the catalog
 numberOf AttributeAgain = 21  -- an attribute is named twice in one body
 numberOf CellLimit = 22  -- a 513th cell is needed
 numberOf OutputFull = 23  -- the finished entry passes the output's end or 65,535 bytes in all
+numberOf OutsideNotation = 24  -- the text is outside the notation or 01's limits, or text or tree is over 65,535 bytes
+numberOf PastLine255 = 25  -- a constant stands past line 255
+numberOf Unprintable = 26  -- the printer meets a label below an earlier constant's, or what the notation cannot spell, or its text is over 65,535 bytes
 
 -- an answer in document 01's numbers: length and steps, or number and place
 pub data Said : Type 0 where

@@ -39,7 +39,7 @@ impl Labelled {
     }
 }
 
-// Document 01's reasons for refusing, 1 to 23, in its order.
+// The papers' reasons for refusing: document 01's, 1 to 23, in its order, then those of the text tools.
 pub enum Reason {
     MemoryTooShort,
     ManifestLength,
@@ -64,6 +64,9 @@ pub enum Reason {
     AttributeAgain,
     CellLimit,
     OutputFull,
+    OutsideNotation,
+    PastLine255,
+    Unprintable,
 }
 
 // Why a compile refuses, and the place of the field concerned.
@@ -125,7 +128,7 @@ pub fn same_value(a: Value, b: Value) -> bool
     }
 }
 
-// Document 01's number for a reason.
+// The papers' number for a reason.
 pub fn number_of(reason: Reason) -> u8
     ensures { λ r. ⌜ r ≡ numberOf reason ⌝ }
 {
@@ -153,5 +156,8 @@ pub fn number_of(reason: Reason) -> u8
         Reason::AttributeAgain => 21,
         Reason::CellLimit => 22,
         Reason::OutputFull => 23,
+        Reason::OutsideNotation => 24,
+        Reason::PastLine255 => 25,
+        Reason::Unprintable => 26,
     }
 }
