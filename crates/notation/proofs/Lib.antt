@@ -1,0 +1,5 @@
+pub mod Stands
+pub mod Written
+pub mod WrittenRead
+pub mod WrittenNames
+pub mod WrittenSound

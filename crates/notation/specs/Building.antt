@@ -26,7 +26,6 @@ mutual
     _▸_ : Nodes → Node → Nodes
 
 infixl 40 _▸_
-
 -- how many levels of fields a field has
 unfoldable mutual
   pub height : Node → ℕ
