@@ -3,3 +3,5 @@ pub mod Written
 pub mod WrittenRead
 pub mod WrittenNames
 pub mod WrittenSound
+pub mod Machine
+pub mod OneReading
