@@ -5,3 +5,6 @@ pub mod WrittenNames
 pub mod WrittenSound
 pub mod Machine
 pub mod OneReading
+pub mod Expected
+pub mod Steps
+pub mod ExpressionsBack

@@ -119,6 +119,11 @@ abbrev pub separated : (later : Bool) → ℕ → List Lexeme → List Lexeme
 separated false v xs = xs
 separated true v xs = the v comma ∷ xs
 
+-- entries, each of which p prints
+unfoldable pub printedEntries : {A : Type 0} → (p : A → ℕ → Rest → List Lexeme) → List A → (later : Bool) → ℕ → Rest → List Lexeme
+printedEntries p [] later v rest = rest v
+printedEntries p (x ∷ xs) later v rest = separated later v (p x v (λ u. printedEntries p xs true u rest))
+
 -- else and a block, which p prints, where there is a statement in it
 unfoldable pub printedElse : Block → (p : ℕ → Rest → List Lexeme) → ℕ → Rest → List Lexeme
 printedElse end p v rest = rest v
@@ -160,15 +165,16 @@ module _ (S : ℕ → List ℕ) where
   -- ---- Statements
 
   abbrev pub printedAttribute : AttributeField → ℕ → Rest → List Lexeme
-  printedAttribute f v rest = at v (Token.word (S (f .name))) ∷ the v arrow ∷ printed (f .expression) 1 v rest
+  printedAttribute f v rest =
+      let w : ℕ = lineFor (constantsOf (f .expression)) v in
+      at w (Token.word (S (f .name))) ∷ the w arrow ∷ printed (f .expression) 1 w rest
 
-  unfoldable pub printedAttributes : List AttributeField → (later : Bool) → ℕ → Rest → List Lexeme
-  printedAttributes [] later v rest = rest v
-  printedAttributes (f ∷ fs) later v rest = separated later v (printedAttribute f (lineFor (constantsOf (f .expression)) v) (λ u. printedAttributes fs true u rest))
+  abbrev pub printedAttributes : List AttributeField → ℕ → Rest → List Lexeme
+  printedAttributes fs v rest = printedEntries printedAttribute fs false v rest
 
   -- type, title and attributes
   abbrev pub printedResource : (type : ℕ) → Expression → List AttributeField → ℕ → Rest → List Lexeme
-  printedResource t a fs v rest = at v (Token.word (S t)) ∷ the v leftBrace ∷ printed a 1 v (λ u. the u colon ∷ printedAttributes fs false u (λ w. the w rightBrace ∷ rest w))
+  printedResource t a fs v rest = at v (Token.word (S t)) ∷ the v leftBrace ∷ printed a 1 v (λ u. the u colon ∷ printedAttributes fs u (λ w. the w rightBrace ∷ rest w))
 
   unfoldable mutual
     pub printedStatement : Statement → ℕ → Rest → List Lexeme
@@ -177,7 +183,7 @@ module _ (S : ℕ → List ℕ) where
     printedStatement (choice p a bs) v rest = the v caseWord ∷ printed a 1 v (λ u. the u leftBrace ∷ printedBranches bs u (λ w. the w rightBrace ∷ rest w))
     printedStatement (builtInResource p t a fs) v rest = printedResource t a fs v rest
     printedStatement (definedResource p t a fs) v rest = printedResource t a fs v rest
-    printedStatement (classWithAttributes p c fs) v rest = the v classWord ∷ the v leftBrace ∷ at v (Token.word (S c)) ∷ the v colon ∷ printedAttributes fs false v (λ w. the w rightBrace ∷ rest w)
+    printedStatement (classWithAttributes p c fs) v rest = the v classWord ∷ the v leftBrace ∷ at v (Token.word (S c)) ∷ the v colon ∷ printedAttributes fs v (λ w. the w rightBrace ∷ rest w)
     printedStatement (include p c) v rest = the v includeWord ∷ at v (Token.word (S c)) ∷ rest v
     printedStatement (Statement.unreadable p) v rest = rest v
 
@@ -200,27 +206,24 @@ module _ (S : ℕ → List ℕ) where
   printedDefault (some c) v rest = the v equals ∷ constantLexeme c ∷ rest (c .label)
 
   abbrev pub printedParameter : Parameter → ℕ → Rest → List Lexeme
-  printedParameter q v rest = at v (Token.variable (S (q .name))) ∷ printedDefault (q .default) v rest
-
-  unfoldable pub printedEach : List Parameter → (later : Bool) → ℕ → Rest → List Lexeme
-  printedEach [] later v rest = rest v
-  printedEach (q ∷ qs) later v rest = separated later v (printedParameter q (lineFor (constantsOfDefault (q .default)) v) (λ u. printedEach qs true u rest))
+  printedParameter q v rest =
+      let w : ℕ = lineFor (constantsOfDefault (q .default)) v in
+      at w (Token.variable (S (q .name))) ∷ printedDefault (q .default) w rest
 
   -- in brackets, only where there is one
   abbrev pub printedParameters : List Parameter → ℕ → Rest → List Lexeme
   printedParameters [] v rest = rest v
-  printedParameters (q ∷ qs) v rest = the v leftRound ∷ printedEach (q ∷ qs) false v (λ u. the u rightRound ∷ rest u)
+  printedParameters (q ∷ qs) v rest = the v leftRound ∷ printedEntries printedParameter (q ∷ qs) false v (λ u. the u rightRound ∷ rest u)
 
   abbrev pub printedParent : Option Parent → ℕ → Rest → List Lexeme
   printedParent none v rest = rest v
   printedParent (some q) v rest = the v inheritsWord ∷ at v (Token.word (S (q .name))) ∷ rest v
 
-  unfoldable pub printedNames : List ℕ → (later : Bool) → ℕ → Rest → List Lexeme
-  printedNames [] later v rest = rest v
-  printedNames (n ∷ ns) later v rest = separated later v (at v (Token.text (S n)) ∷ printedNames ns true v rest)
+  abbrev pub printedDevice : ℕ → ℕ → Rest → List Lexeme
+  printedDevice n v rest = at v (Token.text (S n)) ∷ rest v
 
   abbrev pub printedDevices : Devices → ℕ → Rest → List Lexeme
-  printedDevices (named ns) v rest = printedNames ns false v rest
+  printedDevices (named ns) v rest = printedEntries printedDevice ns false v rest
   printedDevices byDefault v rest = the v defaultWord ∷ rest v
 
   -- a block in braces

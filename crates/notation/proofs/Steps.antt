@@ -1,0 +1,95 @@
+-- Steps of reading that a printed text takes: a token taken whose action depends on the depth, operators that do not follow, the end of a field.
+use Prim.Native.Nat.{ℕ, zero, suc, _+_, _≤_, _<_}
+use mathlib.Core.Path.{_≡_, refl, _∙_}
+use mathlib.Core.List.{List, [], _∷_, _++_}
+use mathlib.Core.Option.{Option, none, some}
+use native.Mathlib.Omega.{arith}
+use lib.ListN.{length}
+use borrow.Author.Tests.{le-leb, lt-ltb, lt-leb}
+use Rattle.notation.specs.Tokens.{Lexeme, kind, tokenOf, placeOf}
+use Rattle.notation.specs.Building.{Piece, Node, node, Nodes, empty, _▸_, height, Frame, frame, Build, build, Action, around, acts, act, added, begun}
+use Rattle.notation.specs.Grammar.{Symbol, operators, ends, Row, row, rowOf, leftOut, binds}
+use Rattle.notation.proofs.Machine.{State, state, _⇒_, _▹_, take, leave}
+
+-- ---- Behind an operand
+
+-- a token that is no operator of level l or tighter
+abbrev pub Below : ℕ → Option ℕ → Type 0
+Below l none = Unit {0}
+Below l (some n) = n < l
+
+abbrev pub Calm : ℕ → Lexeme → Type 0
+Calm l x = Below l (binds (kind (tokenOf x)))
+
+pub calmer : {l m : ℕ} (o : Option ℕ) → l ≤ m → Below l o → Below m o
+calmer none h c = tt
+calmer (some n) h c = omega arith
+
+-- behind an operand, a token that is no operator of these levels
+not-taken : (l m : ℕ) (x : Lexeme) (o : Option ℕ) → binds (kind (tokenOf x)) ≡ o → Below l o → rowOf (operators l m) (kind (tokenOf x)) ≡ none
+unfolding rowOf
+not-taken l m x none e c = rw (rowOf, e)
+not-taken l m x (some n) e c = rw (rowOf, e, lt-leb l n c)
+
+pub operators-pass : {l m : ℕ} {k : List Symbol} {x : Lexeme} {xs : List Lexeme} {f : Build} → Calm l x → state (x ∷ xs) (operators l m ∷ k) f ⇒ state (x ∷ xs) k f
+unfolding leftOut acts
+operators-pass {l} {m} {x = x} c = leave (not-taken l m x (binds (kind (tokenOf x))) refl c) refl refl
+
+-- ---- Steps whose actions depend on the depth, and the end of a field
+
+pub height-positive : (k : Node) → 1 ≤ height k
+unfolding height
+height-positive (node p t h ks) = omega arith
+
+pub added-fits : (n : Node) (b q t : ℕ) (h : List Piece) (ks : Nodes) (fs : List Frame) → length fs + 1 ≤ 32 → added n (build b (frame q t h ks) fs) ≡ some (build b (frame q t h (ks ▸ n)) fs)
+unfolding added
+added-fits n b q t h ks fs d = rw (added, le-leb (length fs + 1) 32 d)
+
+pub acts-first : (d : Action) (ds : List Action) (x : Lexeme) (f g : Build) → act d x f ≡ some g → acts (d ∷ ds) x f ≡ acts ds x g
+unfolding acts
+acts-first d ds x f g h = rw (acts, h)
+
+begun-fits : (p u b : ℕ) (f : Frame) (fs : List Frame) → length fs + 1 ≤ 32 → begun p u (build b f fs) ≡ some (build b (frame p u [] empty) (f ∷ fs))
+unfolding begun
+begun-fits p u b f fs d = rw (begun, le-leb (length fs + 1) 32 d)
+
+around-fits : (u : ℕ) (g : List Piece) (x : Lexeme) (b q t : ℕ) (h : List Piece) (ks : Nodes) (n : Node) (fs : List Frame) → suc (length fs) + height n ≤ 32 →
+    act (around u g) x (build b (frame q t h (ks ▸ n)) fs) ≡ some (build b (frame (placeOf x) u g (empty ▸ n)) (frame q t h ks ∷ fs))
+unfolding act
+around-fits u g x b q t h ks n fs d = rw (le-leb (suc (length fs) + height n) 32 d)
+
+enter-fits : (x : Lexeme) (b : ℕ) (f : Frame) (fs : List Frame) → b < 32 → act Action.enter x (build b f fs) ≡ some (build (suc b) f fs)
+unfolding act
+enter-fits x b f fs d = rw (lt-ltb b 32 d)
+
+module _ {s : Symbol} {k ss : List Symbol} {x : Lexeme} {xs : List Lexeme} {b : ℕ} {fs : List Frame} where
+  -- a field begins by an action that only begins it, and the other actions go on in it
+  pub take-begun : {d : Action} (u : ℕ) {ds : List Action} {f : Frame} {g : Build} → rowOf s (kind (tokenOf x)) ≡ some (row (d ∷ ds) ss) → act d x (build b f fs) ≡ begun (placeOf x) u (build b f fs) → length fs + 1 ≤ 32 →
+      acts ds x (build b (frame (placeOf x) u [] empty) (f ∷ fs)) ≡ some g → state (x ∷ xs) (s ∷ k) (build b f fs) ⇒ state xs (ss ++ k) g
+  take-begun {d} u {ds} {f} {g} h a i e = take h (acts-first d ds x _ _ (a ∙ begun-fits (placeOf x) u b f fs i) ∙ e)
+
+  pub take-begin : {u : ℕ} {ds : List Action} {f : Frame} {g : Build} → rowOf s (kind (tokenOf x)) ≡ some (row (Action.begin u ∷ ds) ss) → length fs + 1 ≤ 32 →
+      acts ds x (build b (frame (placeOf x) u [] empty) (f ∷ fs)) ≡ some g → state (x ∷ xs) (s ∷ k) (build b f fs) ⇒ state xs (ss ++ k) g
+  unfolding act
+  take-begin {u} h i e = take-begun u h refl i e
+
+  -- a field without parts is added
+  pub take-adding : {d : Action} (n : Node) {q t : ℕ} {h : List Piece} {ks : Nodes} → rowOf s (kind (tokenOf x)) ≡ some (row (d ∷ []) ss) → act d x (build b (frame q t h ks) fs) ≡ added n (build b (frame q t h ks) fs) → length fs + 1 ≤ 32 →
+      state (x ∷ xs) (s ∷ k) (build b (frame q t h ks) fs) ⇒ state xs (ss ++ k) (build b (frame q t h (ks ▸ n)) fs)
+  unfolding acts
+  take-adding {d} n {q} {t} {h} {ks} r e i = take r (acts-first d [] x _ _ (e ∙ added-fits n b q t h ks fs i))
+
+  pub take-around : {u : ℕ} {g : List Piece} {n : Node} {q t : ℕ} {h : List Piece} {ks : Nodes} → rowOf s (kind (tokenOf x)) ≡ some (row (around u g ∷ []) ss) → suc (length fs) + height n ≤ 32 →
+      state (x ∷ xs) (s ∷ k) (build b (frame q t h (ks ▸ n)) fs) ⇒ state xs (ss ++ k) (build b (frame (placeOf x) u g (empty ▸ n)) (frame q t h ks ∷ fs))
+  unfolding acts
+  take-around {u} {g} {n} {q} {t} {h} {ks} r d = take r (acts-first (around u g) [] x _ _ (around-fits u g x b q t h ks n fs d))
+
+  pub take-enter : {f : Frame} → rowOf s (kind (tokenOf x)) ≡ some (row (Action.enter ∷ []) ss) → b < 32 → state (x ∷ xs) (s ∷ k) (build b f fs) ⇒ state xs (ss ++ k) (build (suc b) f fs)
+  unfolding acts
+  take-enter {f} r d = take r (acts-first Action.enter [] x _ _ (enter-fits x b f fs d))
+
+-- the field being read ends
+pub ends-here : {x : Lexeme} {xs : List Lexeme} {k : List Symbol} {b p u : ℕ} {g : List Piece} {js : Nodes} {q t : ℕ} {h : List Piece} {ks : Nodes} {fs : List Frame} →
+    state (x ∷ xs) (ends ∷ k) (build b (frame p u g js) (frame q t h ks ∷ fs)) ⇒ state (x ∷ xs) k (build b (frame q t h (ks ▸ node p u g js)) fs)
+unfolding rowOf leftOut acts act
+ends-here = leave refl refl refl
