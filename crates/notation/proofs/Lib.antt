@@ -8,3 +8,5 @@ pub mod OneReading
 pub mod Expected
 pub mod Steps
 pub mod ExpressionsBack
+pub mod EntriesBack
+pub mod StatementsBack
