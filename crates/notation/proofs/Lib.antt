@@ -10,3 +10,4 @@ pub mod Steps
 pub mod ExpressionsBack
 pub mod EntriesBack
 pub mod StatementsBack
+pub mod ItemsBack
