@@ -11,3 +11,4 @@ pub mod ExpressionsBack
 pub mod EntriesBack
 pub mod StatementsBack
 pub mod ItemsBack
+pub mod Unplaced
