@@ -12,3 +12,8 @@ pub mod EntriesBack
 pub mod StatementsBack
 pub mod ItemsBack
 pub mod Unplaced
+pub mod Lexing
+pub mod LexedNames
+pub mod LexedValues
+pub mod LexedMarks
+pub mod LaidOut

@@ -11,10 +11,11 @@ use Rattle.notation.specs.Tokens.{Token, word, number, text, variable, t
 use Rattle.notation.specs.Building.{Piece, Node, node, Nodes, empty, _▸_, height, tallest, Frame, frame, Build, build, Action, begin, beginResource, around, instead, close, constant, read, named, parentFirst, void, enter, leave, constantNode, variableNode, resourceTag, spelled, leaf, behindLabel, fitting, added, inFront, addedFirst, begun, act, acts, start}
 use Rattle.notation.specs.Grammar.{Symbol, Row, row, rowOf, leftOut, Stepped, stuck, to, toward, step, Ended, built, fault, run, manifest, reading}
 
+-- a token without its place
 abbrev pub bare : Lexeme → Lexeme
 bare (lexeme p l t) = lexeme 0 l t
 
-unfoldable pub bares : List Lexeme → List Lexeme
+abbrev pub bares : List Lexeme → List Lexeme
 bares [] = []
 bares (x ∷ xs) = bare x ∷ bares xs
 
@@ -177,7 +178,7 @@ unplacedEnded (built f) = built (unplacedBuild f)
 unplacedEnded (fault p) = fault 0
 
 run-same : (xs : List Lexeme) (k : List Symbol) (f : Build) → run (bares xs) k (unplacedBuild f) ≡ unplacedEnded (run xs k f)
-unfolding run bares unplacedEnded
+unfolding run unplacedEnded
 run-same [] [] f = refl
 run-same [] (s ∷ k) f = refl
 run-same (lexeme p l t ∷ xs) k f = rw (run, step-same k (lexeme p l t) f) (go (run-same xs) (step k (lexeme p l t) f))
