@@ -6,3 +6,4 @@ pub mod Convert
 pub mod Print
 pub mod Layout
 pub mod Printer
+pub mod Named
