@@ -23,6 +23,13 @@ abbrev pub EachOf : {A : Type 0} → (A → Type 0) → List A → Type 0
 EachOf P [] = Unit {0}
 EachOf P (x ∷ xs) = P x × EachOf P xs
 
+abbrev pub Always : {A : Type 0} → A → Type 0
+Always x = Unit {0}
+
+pub always : {A : Type 0} (xs : List A) → EachOf Always xs
+always [] = tt
+always (x ∷ xs) = (tt, always xs)
+
 -- p prints an entry, which ends on the line `last` and builds f; it is read at the symbol y, and z is left behind it
 module _ {A : Type 0} (p : A → ℕ → Rest → List Lexeme) (last : A → ℕ → ℕ) (f : A → Node) (y z : Symbol) (P : A → Type 0) where
   pub record EntryBack : Type 0 where

@@ -21,7 +21,7 @@ use Rattle.notation.proofs.Machine.{State, state, _⇒_, _▹_, take, l
 use Rattle.notation.proofs.Steps.{Calm, Below, height-positive, added-fits, acts-first, take-begin, take-adding, ends-here}
 use Rattle.notation.proofs.Expected.{lastLineEntries, lastLineDefault, lastLineParameter, lastLineBlock, lastLineItem, lastLineItems, bareNode, constantNodeOf, nodesOnto, blockOnto, defaultOnto, parameterNode, parentOnto, deviceNode, devicesOnto, itemNode, itemsOnto}
 use Rattle.notation.proofs.ExpressionsBack.{constant-added}
-use Rattle.notation.proofs.EntriesBack.{EachOf, nodes-taller, EntryBack, entries-back}
+use Rattle.notation.proofs.EntriesBack.{EachOf, Always, always, nodes-taller, EntryBack, entries-back}
 use Rattle.notation.proofs.StatementsBack.{Behind, at-top, WholeStatement, WholeBlock, with-statement, every-statement, every-block, braces-back}
 
 -- "one or more 31"
@@ -29,13 +29,6 @@ abbrev pub SomeDevice : Devices → Type 0
 SomeDevice (named []) = ⊥
 SomeDevice (named (n ∷ ns)) = Unit {0}
 SomeDevice byDefault = Unit {0}
-
-abbrev pub Always : {A : Type 0} → A → Type 0
-Always x = Unit {0}
-
-always : {A : Type 0} (xs : List A) → EachOf Always xs
-always [] = tt
-always (x ∷ xs) = (tt, always xs)
 
 -- ---- Parents come first
 

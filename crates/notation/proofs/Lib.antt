@@ -17,3 +17,6 @@ pub mod LexedNames
 pub mod LexedValues
 pub mod LexedMarks
 pub mod LaidOut
+pub mod Spelled
+pub mod ExpressionsLaid
+pub mod StatementsLaid
