@@ -20,3 +20,11 @@ pub mod LaidOut
 pub mod Spelled
 pub mod ExpressionsLaid
 pub mod StatementsLaid
+pub mod PassedFields
+pub mod Passed
+pub mod ConstantsFit
+pub mod ListedParts
+pub mod TableStrings
+pub mod TreeLow
+pub mod TypedNamed
+pub mod TypedWhole

@@ -38,6 +38,19 @@ unfoldable pub isName : List ℕ → Bool
 isName [] = false
 isName (c ∷ cs) = isLetter c && (allInWord cs && noKeyword (keywordIn keywords (c ∷ cs)))
 
+-- going over fields: the first that cannot be printed, or the label of the last constant
+pub data Gone : Type 0 where
+  stops : (place : ℕ) → Gone
+  past : (label : ℕ) → Gone
+
+abbrev pub going : Gone → (ℕ → Gone) → Gone
+going (stops p) f = stops p
+going (past l) f = f l
+
+unfoldable pub stoppedAt : Gone → Option ℕ
+stoppedAt (stops p) = some p
+stoppedAt (past l) = none
+
 module _ (strings : List (List ℕ)) where
   -- a piece at i of the head h: a name that the notation can spell
   unfoldable pub spellable : (head : List ℕ) → (i : ℕ) → Piece → Bool
@@ -60,15 +73,7 @@ module _ (strings : List (List ℕ)) where
   unfoldable pub labelRight : (l tag : ℕ) → (head : List ℕ) → Bool
   labelRight l t h = not (isConstant t) || leb l (byte h 0)
 
-  -- going over the fields in the order of their places: the first that cannot be printed, or the label of the last constant
-  pub data Gone : Type 0 where
-    stops : (place : ℕ) → Gone
-    past : (label : ℕ) → Gone
-
-  abbrev pub going : Gone → (ℕ → Gone) → Gone
-  going (stops p) f = stops p
-  going (past l) f = f l
-
+  -- the fields in the order of their places
   unfoldable mutual
     pub over : Field → (l : ℕ) → Gone
     over (field p t h ks) l =
@@ -80,13 +85,9 @@ module _ (strings : List (List ℕ)) where
     overAll noFields l = past l
     overAll (more k ks) l = going (over k l) (overAll ks)
 
-  unfoldable pub stoppedAt : Gone → Option ℕ
-  stoppedAt (stops p) = some p
-  stoppedAt (past l) = none
-
 -- the items, which come behind the table
 unfoldable pub unprintableAt : (manifest : List ℕ) → Option ℕ
-unprintableAt m = stoppedAt (manifestOf m .strings) (overAll (manifestOf m .strings) (others (readAll m)) 0)
+unprintableAt m = stoppedAt (overAll (manifestOf m .strings) (others (readAll m)) 0)
 
 -- ---- The whole
 
