@@ -28,3 +28,16 @@ pub mod TableStrings
 pub mod TreeLow
 pub mod TypedNamed
 pub mod TypedWhole
+pub mod Formed
+pub mod FormedNodes
+pub mod FormedTokens
+pub mod Needs
+pub mod NeedsKept
+pub mod RowsKept
+pub mod Trees
+pub mod Depth
+pub mod StringTable
+pub mod LexedTokens
+pub mod LexedGood
+pub mod NumberedTree
+pub mod ConvertedSound
