@@ -41,3 +41,4 @@ pub mod LexedTokens
 pub mod LexedGood
 pub mod NumberedTree
 pub mod ConvertedSound
+pub mod PrintedThen
