@@ -52,10 +52,11 @@ good-strings (topVariable n) g = also (g .known) noneLeft
 good-strings (classVariable c n) g = also (g .0 .known) (also (g .1 .known) noneLeft)
 good-strings (mark k) g = noneLeft
 
--- the first of some strings, and the second
+-- the first of some strings
 each-first : {P : List ℕ → Type 0} {s : List ℕ} {ss : List (List ℕ)} → Each P (s ∷ ss) → P s
 each-first (also p ps) = p
 
+-- the second of some strings
 each-second : {P : List ℕ → Type 0} {s t : List ℕ} {ss : List (List ℕ)} → Each P (s ∷ t ∷ ss) → P t
 each-second (also p (also q ps)) = q
 
@@ -89,33 +90,35 @@ strings-complete d (suc c) (s ∷ table) l (also t all) =
     record { last = others .last; reached = rw (some-left, less) (others .reached); ends = others .ends; each = alsoField {k = field 0 0x02 s noFields} (record { tag = omega arith; head = t; fields = same }) (others .each) }
 
 -- they are read as themselves
-strings-back : (table : List (List ℕ)) → stringsFrom (stringFields table) ≡ table
+pub strings-back : (table : List (List ℕ)) → stringsFrom (stringFields table) ≡ table
 unfolding stringFields stringsFrom tagOf headOf
 strings-back [] = refl
 strings-back (s ∷ table) = ap (λ (ss : List (List ℕ)). s ∷ ss) (strings-back table)
 
 -- ---- The tree of a manifest
 
--- a text is read: its tree is as listed, no string is too many and no constant is late
-record ReadWhole (xs : List Lexeme) (items : Nodes) : Type 0 where
-  listed : More (Numbered (tableBehind xs [])) Item empty items
-  deep : tallest items ≤ 32
-  few : length (tableBehind xs []) ≤ 1024
-  short : Each ShortText (tableBehind xs [])
+-- a text is read whole: its tree is as listed, and its strings are few and short
+pub record ReadWhole (xs : List Lexeme) (items : Nodes) : Type 0 where
+  pub whole : reading xs ≡ built (build 0 (frame 0 0 [] items) [])
+  pub listed : More (Numbered (tableBehind xs [])) Item empty items
+  pub deep : tallest items ≤ 32
+  pub few : length (tableBehind xs []) ≤ 1024
+  pub short : Each ShortText (tableBehind xs [])
 
 module _ {xs : List Lexeme} {items : Nodes} (r : ReadWhole xs items) (late : lateAmong items ≡ none) where
   abbrev table : List (List ℕ)
   table = tableBehind xs []
 
-  -- all items are ready to be written
-  items-has : Has (Numbered table) (three Over (Many Item) Over) items (three Over (Many Item) Over)
+  -- the items are as listed
+  pub items-has : Has (Numbered table) (three Over (Many Item) Over) items (three Over (Many Item) Over)
   items-has = has-many-second has-none (r .listed)
 
+  -- they are right to write, and their names are known
   items-ready : AllReady table (r .few) 32 (numberedOnto table items noFields)
   items-ready = all-ready table (r .few) 32 (λ k f l e. node-ready table (r .few) 32 k f l e) (items-has .all) (r .deep) late noFields (record { right = noField; names = noneKnown })
 
   -- the manifest is as listed
-  manifest-complete : Complete (Right 32) manifestParts (manifestFields table items)
+  pub manifest-complete : Complete (Right 32) manifestParts (manifestFields table items)
   unfolding manifestFields after mayEnd partMayEnd follow take allowed tagOf formOf formIn forms headSize size pieceRight
   manifest-complete =
       let strings = strings-complete 30 1024 table (r .few) (r .short) in
@@ -142,7 +145,7 @@ module _ {xs : List Lexeme} {items : Nodes} (r : ReadWhole xs items) (late : lat
   unfolding manifestBytes
   manifest-sound = written-sound (manifestFields table items) manifest-complete manifest-rising manifest-known
 
-  -- it has a byte, and all its numbers are bytes
+  -- it has a byte
   manifest-begun : 1 ≤ length (manifestBytes xs items)
   unfolding manifestBytes manifestFields writeAll
   manifest-begun =
@@ -151,6 +154,7 @@ module _ {xs : List Lexeme} {items : Nodes} (r : ReadWhole xs items) (late : lat
       let there = write-nonempty table-field in
       omega arith
 
+  -- all its numbers are bytes
   manifest-bytes : length (manifestBytes xs items) < 65536 → IsBytes (manifestBytes xs items)
   unfolding manifestBytes
   manifest-bytes l = bytes-right (manifestFields table items) manifest-complete l
@@ -163,6 +167,7 @@ record Both {A B : Type 0} (o : Outcome A) (f : A → Outcome B) (z : B) : Type 
   before : o ≡ done between
   behind : f between ≡ done z
 
+-- what ends well in two steps does so in each
 both-done : {A B : Type 0} (o : Outcome A) (f : A → Outcome B) (z : B) → (o >>= f) ≡ done z → Both o f z
 unfolding _>>=_
 both-done (refused x p) f z e = let i : _≡_ {A = ℕ} 0 1 = cc in absurd (omega arith)
@@ -174,6 +179,7 @@ unfolding refuseIf
 not-refused true x p e = let i : _≡_ {A = ℕ} 0 1 = cc in absurd (omega arith)
 not-refused false x p e = refl
 
+-- nothing was found to refuse
 not-refused-at : (o : Option ℕ) (x : Reason) {z : Unit {0}} → refuseAt o x ≡ done z → o ≡ none
 unfolding refuseAt
 not-refused-at none x e = refl
@@ -184,7 +190,7 @@ fault-not-done : {A : Type 0} {items : Nodes} {x : Reason} {p : ℕ} → _≡_ {
 fault-not-done e = let i : _≡_ {A = ℕ} 0 1 = cc in absurd (omega arith)
 
 -- good tokens that are read are read whole
-text-whole : (xs : List Lexeme) (items : Nodes) → Each GoodLexeme xs → textItems xs ≡ done items → ReadWhole xs items
+pub text-whole : (xs : List Lexeme) (items : Nodes) → Each GoodLexeme xs → textItems xs ≡ done items → ReadWhole xs items
 unfolding textItems readText
 text-whole xs items good e = go (reading xs) refl (crowdedAt xs []) refl e
   where
@@ -196,7 +202,9 @@ text-whole xs items good e = go (reading xs) refl (crowdedAt xs []) refl e
         let last : ks ≡ items = cc in
         let room = tree-depth xs (build b (frame p t h ks) fs) i .0 in
         let deep : tallest ks ≤ 32 = omega arith in
+        let all-read : reading xs ≡ built (build 0 (frame 0 0 [] items) []) = cc in
         record {
+          whole = all-read;
           listed = subst (λ (js : Nodes). More (Numbered (tableBehind xs [])) Item empty js) kept (tree .listed);
           deep = subst (λ (js : Nodes). tallest js ≤ 32) last deep;
           few = table-size xs [] (omega arith) j;
@@ -214,14 +222,15 @@ pub record Manifest (m : List ℕ) : Type 0 where
   pub bytes : IsBytes m
 
 -- a text is converted: it is read whole, no constant is late, and what is written is not too long
-record Steps (given m : List ℕ) (outputLength : ℕ) : Type 0 where
-  items : Nodes
-  read : textItems (tokens given) ≡ done items
-  late : lateAmong items ≡ none
-  long : tooLong (manifestBytes (tokens given) items) outputLength ≡ false
-  same : manifestBytes (tokens given) items ≡ m
+pub record Steps (given m : List ℕ) (outputLength : ℕ) : Type 0 where
+  pub items : Nodes
+  pub read : textItems (tokens given) ≡ done items
+  pub late : lateAmong items ≡ none
+  pub long : tooLong (manifestBytes (tokens given) items) outputLength ≡ false
+  pub same : manifestBytes (tokens given) items ≡ m
 
-converted-steps : (given m : List ℕ) (outputLength memoryLength : ℕ) → converted given outputLength memoryLength ≡ done m → Steps given m outputLength
+-- these are the steps of a converting that ends well
+pub converted-steps : (given m : List ℕ) (outputLength memoryLength : ℕ) → converted given outputLength memoryLength ≡ done m → Steps given m outputLength
 unfolding converted
 converted-steps given m outputLength memoryLength e =
     let one = both-done (refuseIf (ltb memoryLength 65536) MemoryTooShort 0) _ m e in
@@ -249,5 +258,6 @@ converted-manifest given m outputLength memoryLength b e =
     let all : Manifest written = record { sound = manifest-sound w (s .late); begun = manifest-begun w (s .late); short = short; bytes = manifest-bytes w (s .late) (omega arith) } in
     subst Manifest (s .same) all
 
+-- so it passes the check
 pub converted-sound : (given m : List ℕ) (outputLength memoryLength : ℕ) → IsBytes given → converted given outputLength memoryLength ≡ done m → check m ≡ Sound
 converted-sound given m outputLength memoryLength b e = converted-manifest given m outputLength memoryLength b e .sound

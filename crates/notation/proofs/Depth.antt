@@ -20,6 +20,7 @@ abbrev pub Room : List Frame → Type 0
 Room [] = Unit {0}
 Room (frame p t h ks ∷ fs) = (length fs + tallest ks ≤ 32) × Room fs
 
+-- all of what is built has room
 abbrev pub InRoom : Build → Type 0
 InRoom (build b f fs) = Room (f ∷ fs)
 
@@ -28,6 +29,7 @@ room-picked : (b : Bool) (f g : Build) → (b ≡ true → InRoom f) → _≡_ {
 room-picked true f g r e = subst InRoom (same-result f g e) (r refl)
 room-picked false f g r e = none-not-some e
 
+-- what is within the levels has room
 room-fitted : (n : ℕ) (f g : Build) → (n ≤ 32 → InRoom f) → _≡_ {A = Option Build} (pick (leb n 32) (some f) none) (some g) → InRoom g
 room-fitted n f g r e = room-picked (leb n 32) f g (λ t. r (leb-true n 32 t)) e
 
@@ -42,6 +44,7 @@ constant-height (lexeme p l (topVariable n)) = refl
 constant-height (lexeme p l (classVariable c n)) = refl
 constant-height (lexeme p l (mark k)) = refl
 
+-- so have variables
 variable-height : (x : Lexeme) → height (variableNode x) ≡ 1
 unfolding variableNode height
 variable-height (lexeme p l (word w)) = refl
@@ -89,7 +92,7 @@ module _ (x : Lexeme) where
       go none h others e = none-not-some e
       go (some i) h others e = others i e (room-act a f i h w)
 
--- a text
+-- a reading keeps room
 room-read : {k : List Symbol} {xs : List Lexeme} {f g : Build} → Reads k xs f g → InRoom f → InRoom g
 room-read done w = w
 room-read (takes {ds = ds} {x = x} {f = f} {f′ = h} e i r) w = room-read r (room-acts x ds f h i w)

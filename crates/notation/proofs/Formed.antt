@@ -52,6 +52,7 @@ pub data Heading (S : List ℕ → Type 0) (t : ℕ) : ListedPiece → ListedPie
 
 -- ---- The fields in it
 
+-- the tag of a field
 unfoldable pub tagIn : Node → ℕ
 tagIn (node p t h ks) = t
 

@@ -179,13 +179,14 @@ module _ {S : List ℕ → Type 0} where
   unfolding allowed formOf formIn forms
   device-of s = leaf-of Device refl (omega arith) (oneName (record { known = s; spelling = refl; type = refl })) refl
 
-  -- 30 with names; by default
+  -- 30 with names
   pub node-of : {p : ℕ} {d b : Node} {js : Nodes} → Of S Device d → More S Device (empty ▸ d) js → Of S Block b → Of S Item (node p 0x30 [] (js ▸ b))
   unfolding allowed formOf formIn forms mayEnd partMayEnd follow take
   node-of {d = d} o m b =
       let first : Has S (three Names (One Block) Over) (empty ▸ d) (three (Many Device) (One Block) Over) = has-next d (three (Many Device) (One Block) Over) has-none (o .form) (rw (o .right)) in
       whole-of Item (three Names (One Block) Over) refl (omega arith) noPiece refl (has-block Device refl (has-many-first first m) b) refl
 
+  -- 30 by default
   pub default-node-of : {p q : ℕ} {b : Node} → Of S Block b → Of S Item (node p 0x30 [] (empty ▸ leaf q 0x1b [] ▸ b))
   unfolding allowed formOf formIn forms mayEnd partMayEnd follow take tagIn
   default-node-of {q = q} b =
@@ -197,11 +198,12 @@ module _ {S : List ℕ → Type 0} where
   unfolding allowed formOf formIn forms mayEnd partMayEnd
   definition-of w m b = whole-of Item (three (Many Parameter) (One Block) Over) refl (omega arith) (oneName (word-in 0x32 refl refl w)) refl (has-block Parameter refl (has-many-first has-none m) b) refl
 
-  -- 33, without a default and with one
+  -- 33 without a default
   pub parameter-of : {p : ℕ} {w : List ℕ} → Word S w → Of S Parameter (leaf p 0x33 (name w ∷ []))
   unfolding allowed formOf formIn forms mayEnd partMayEnd
   parameter-of w = whole-of Parameter (three (UpTo 1 Constant) Over Over) refl (omega arith) (oneName (word-in 0x33 refl refl w)) refl has-none refl
 
+  -- 33 with a default
   pub parameter-with-default-of : {p : ℕ} {w : List ℕ} {c : Node} → Word S w → Of S Constant c → Of S Parameter (node p 0x33 (name w ∷ []) (empty ▸ c))
   unfolding allowed formOf formIn forms mayEnd partMayEnd follow take
   parameter-with-default-of {c = c} w o =
@@ -213,6 +215,7 @@ module _ {S : List ℕ → Type 0} where
   unfolding allowed formOf formIn forms
   parent-of w = leaf-of Parent refl (omega arith) (oneName (word-in 0x35 refl refl w)) refl
 
+  -- parameters leave what follows them as it is
   behind-more : {ps : Parts} {ks js : Nodes} → Behind S ps ks → More S Parameter ks js → Behind S ps js
   unfolding follow take allowed
   behind-more b enough = b
@@ -220,22 +223,25 @@ module _ {S : List ℕ → Type 0} where
       let tag = eqb-true (tagIn k) 0x33 (o .right) in
       behind-more (record { first = Over; has = has-next k (three Over (Many Parameter) (One Block)) (b .has) (o .form) (rw (tag, b .parameter)); parameter = refl; block = refl }) m
 
+  -- the block is the last part
   behind-block : {ps : Parts} {ks : Nodes} {k : Node} → Behind S ps ks → Of S Block k → Has S ps (ks ▸ k) (three Over Over Over)
   unfolding follow take allowed
   behind-block {k = k} b o = has-next k (three Over Over Over) (b .has) (o .form) (rw (eqb-true (tagIn k) 0x20 (o .right), b .block))
 
-  -- 34, without a parent and with one
+  -- 34 without a parent
   pub class-definition-of : {p : ℕ} {w : List ℕ} {b : Node} {js : Nodes} → Word S w → More S Parameter empty js → Of S Block b → Of S Item (node p 0x34 (name w ∷ []) (js ▸ b))
   unfolding allowed formOf formIn forms mayEnd partMayEnd take
   class-definition-of w m b =
       let begun : Behind S (three (UpTo 1 Parent) (Many Parameter) (One Block)) empty = record { first = UpTo 1 Parent; has = has-none; parameter = refl; block = refl } in
       whole-of Item (three (UpTo 1 Parent) (Many Parameter) (One Block)) refl (omega arith) (oneName (word-in 0x34 refl refl w)) refl (behind-block (behind-more begun m) b) refl
 
+  -- a field in front of others is as listed with them
   formed-front : {k : Node} {js : Nodes} → Formed S k → AllFormed S js → AllFormed S (inFront k js)
   unfolding inFront
   formed-front f noneFormed = alsoFormed noneFormed f
   formed-front f (alsoFormed all g) = alsoFormed (formed-front f all) g
 
+  -- 34 with a parent
   pub class-with-parent-of : {p : ℕ} {w : List ℕ} {a b : Node} {js : Nodes} → Word S w → More S Parameter empty js → Of S Parent a → Of S Block b → Of S Item (node p 0x34 (name w ∷ []) (inFront a js ▸ b))
   unfolding allowed formOf formIn forms mayEnd partMayEnd take follow inFront
   class-with-parent-of {a = a} {b = b} {js = js} w m o y =

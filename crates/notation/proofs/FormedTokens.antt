@@ -39,6 +39,7 @@ byte-before {x} {xs} h b = record { below = go }
     go zero = h
     go (suc i) = b .below i
 
+-- no byte at all
 pub no-bytes : IsBytes []
 no-bytes = record { below = λ i. omega arith }
 
@@ -50,6 +51,7 @@ high-bytes (suc k) n = byte-before (omega arith) (high-bytes k n)
 
 -- ---- Strings of tokens, by their kind
 
+-- a text
 pub text-spelled : (S : List ℕ → Type 0) (t : Token) → Good S t → kind t ≡ 2 → S (spelled t)
 unfolding spelled
 text-spelled S (word w) g e = absurd (omega arith)
@@ -61,6 +63,7 @@ text-spelled S (classVariable c n) g e = absurd (omega arith)
 text-spelled S (mark k) g e = absurd (omega arith)
 
 module _ {S : List ℕ → Type 0} where
+  -- a word
   pub word-spelled : (t : Token) → Good S t → kind t ≡ 0 → Word S (spelled t)
   unfolding spelled
   word-spelled (word w) g e = g
@@ -71,6 +74,7 @@ module _ {S : List ℕ → Type 0} where
   word-spelled (classVariable c n) g e = absurd (omega arith)
   word-spelled (mark k) g e = absurd (omega arith)
 
+  -- the name of a variable
   pub variable-spelled : (t : Token) → Good S t → kind t ≡ 3 → Word S (spelled t)
   unfolding spelled
   variable-spelled (word w) g e = absurd (omega arith)

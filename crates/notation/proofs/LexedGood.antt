@@ -13,7 +13,8 @@ use Rattle.rules.specs.EditRule.{IsBytes}
 use Rattle.notation.specs.Tokens.{Token, variable, topVariable, classVariable, mark, Lexeme, lexeme, kind, tokenOf, operandBehind, colon, minusSign, equals}
 use Rattle.notation.specs.Lexing.{find, isSpace, isLetter, isDigit, inWord, isQuote, signs, escapes, wordToken, nameToken, signedToken, textToken, Mode, between, comment, inName, behindDollar, inVariable, behindDollarColon, behindTop, inTop, behindTopColon, behindClass, inClassVariable, behindMinus, inNumber, inString, inEscape, behindEquals, broken, Read, reads, ends, fails, with, orElse, begins, ended, stepByte, finish, lex, tokens, lineBehind}
 use Rattle.notation.proofs.FormedTokens.{byte-before, no-bytes}
-use Rattle.notation.proofs.LexedTokens.{found-passes, Begun, begun-more, begun-first, GoodToken, word-good, name-good, number-good, text-good}
+use Rattle.notation.proofs.TableRows.{found-passes}
+use Rattle.notation.proofs.LexedTokens.{Begun, begun-more, begun-first, GoodToken, word-good, name-good, number-good, text-good}
 
 -- what is known of the piece that is being read
 abbrev GoodMode : Mode → Type 0
@@ -35,6 +36,7 @@ GoodMode (inEscape p l d s) = IsBytes s
 GoodMode (behindEquals p l) = Unit {0}
 GoodMode broken = Unit {0}
 
+-- a good token, wherever it stands
 abbrev pub GoodLexeme : Lexeme → Type 0
 GoodLexeme x = GoodToken (tokenOf x)
 
@@ -127,6 +129,7 @@ good-before q m t g all = also g all
 good-end : (p l k : ℕ) → 5 ≤ k → Each GoodLexeme (lexeme p l (mark k) ∷ [])
 good-end p l k h = also h noneLeft
 
+-- what is read where the text ends
 good-finish : (m : Mode) (p l : ℕ) → GoodMode m → Each GoodLexeme (finish m p l)
 unfolding finish
 good-finish (between o) p l g = good-end p l 5 (omega arith)

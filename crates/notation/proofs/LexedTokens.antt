@@ -14,34 +14,21 @@ use Rattle.rules.specs.Compile.{sameBytes}
 use Rattle.rules.specs.EditRule.{IsBytes}
 use Rattle.rules.proofs.Lists.{both-left, both-right, both-true}
 use Rattle.notation.specs.Tokens.{Token, number, text, mark}
-use Rattle.notation.specs.Lexing.{find, isLetter, isDigit, inWord, keywords, keywordIn, wordOr, upTo255, wordToken, ifNoKeyword, nameToken, signedToken, textToken}
+use Rattle.notation.specs.Lexing.{isLetter, isDigit, inWord, keywords, keywordIn, wordOr, upTo255, wordToken, ifNoKeyword, nameToken, signedToken, textToken}
 use Rattle.notation.specs.Printer.{allInWord, noKeyword, isName}
 use Rattle.notation.proofs.Written.{ShortText}
 use Rattle.notation.proofs.FormedNodes.{Word}
 use Rattle.notation.proofs.FormedTokens.{Good, byte-before, no-bytes}
 use Rattle.notation.proofs.NeedsKept.{none-not-some, same-result}
 
--- ---- Lists by number
-
--- a test holds of all that a list has
-abbrev pub allPass : (ℕ → Bool) → List (ℕ × ℕ) → Bool
-allPass test [] = true
-allPass test (x ∷ xs) = test (x .1) && allPass test xs
-
--- so it holds of what is found
-pub found-passes : (test : ℕ → Bool) (xs : List (ℕ × ℕ)) (k v : ℕ) → allPass test xs ≡ true → find k xs ≡ some v → test v ≡ true
-found-passes test [] k v a e = none-not-some e
-found-passes test (x ∷ xs) k v a e = go (eqb k (x .0)) (λ e. found-passes test xs k v (both-right (test (x .1)) (allPass test xs) a) e) e
-  where
-    go : (b : Bool) → (find k xs ≡ some v → test v ≡ true) → _≡_ {A = Option ℕ} (pick b (some (x .1)) (find k xs)) (some v) → test v ≡ true
-    go true others e = subst (λ (v : ℕ). test v ≡ true) (same-result (x .1) v e) (both-left (test (x .1)) (allPass test xs) a)
-    go false others e = others e
+-- ---- Keywords
 
 -- the kinds of keywords are not those of other tokens
 abbrev marksIn : List (List ℕ × ℕ) → Bool
 marksIn [] = true
 marksIn (x ∷ xs) = leb 5 (x .1) && marksIn xs
 
+-- so a keyword's kind is one of a mark
 keyword-kind : (xs : List (List ℕ × ℕ)) (w : List ℕ) (k : ℕ) → marksIn xs ≡ true → keywordIn xs w ≡ some k → 5 ≤ k
 unfolding keywordIn
 keyword-kind [] w k a e = none-not-some e
@@ -63,6 +50,7 @@ unfolding allInWord
 in-word-more [] c a e = both-true (inWord c) true e refl
 in-word-more (d ∷ cs) c a e = both-true (inWord d) _ (both-left (inWord d) (allInWord cs) a) (in-word-more cs c (both-right (inWord d) (allInWord cs) a) e)
 
+-- the word goes on
 pub begun-more : {w : List ℕ} (c : ℕ) → Begun w → inWord c ≡ true → Begun (w ++ (c ∷ []))
 begun-more c (begunWord {cs = cs} a b) e = begunWord a (in-word-more cs c b e)
 
@@ -71,10 +59,11 @@ pub begun-first : (c : ℕ) → isLetter c ≡ true → Begun (c ∷ [])
 unfolding allInWord
 begun-first c e = begunWord e refl
 
--- they are bytes
+-- letters are bytes
 letter-byte : (c : ℕ) → isLetter c ≡ true → c < 256
 letter-byte c e = let high = leb-true c 0x7a (both-right (leb 0x61 c) (leb c 0x7a) e) in omega arith
 
+-- so is every byte of a word
 in-word-byte : (c : ℕ) → inWord c ≡ true → c < 256
 in-word-byte c e = go (isLetter c) refl (isDigit c) refl e
   where
@@ -83,11 +72,13 @@ in-word-byte c e = go (isLetter c) refl (isDigit c) refl e
     go false h true i e = let high = leb-true c 0x39 (both-right (leb 0x30 c) (leb c 0x39) i) in omega arith
     go false h false i e = let same = eqb-true c 0x5f e in omega arith
 
+-- so are all of them
 word-bytes : (cs : List ℕ) → allInWord cs ≡ true → IsBytes cs
 unfolding allInWord
 word-bytes [] e = no-bytes
 word-bytes (c ∷ cs) e = byte-before (in-word-byte c (both-left (inWord c) (allInWord cs) e)) (word-bytes cs (both-right (inWord c) (allInWord cs) e))
 
+-- a word that is being read is bytes
 begun-bytes : {w : List ℕ} → Begun w → IsBytes w
 begun-bytes (begunWord {c = c} {cs = cs} a b) = byte-before (letter-byte c a) (word-bytes cs b)
 
@@ -98,6 +89,7 @@ begun-name (begunWord {c = c} {cs = cs} a b) e = both-true (isLetter c) _ a (bot
 
 -- ---- Tokens
 
+-- a token whose strings are bytes, at most 255
 abbrev pub GoodToken : Token → Type 0
 GoodToken t = Good ShortText t
 
@@ -113,6 +105,7 @@ short-token w t f = go (leb (length w) 255) refl
 word-ended : {w : List ℕ} → Begun w → length w ≤ 255 → keywordIn keywords w ≡ none → Word ShortText w
 word-ended v l e = record { known = record { bytes = begun-bytes v; short = l }; spelled = begun-name v e }
 
+-- a word that ends is good
 pub word-good : {w : List ℕ} → Begun w → GoodToken (wordToken w)
 unfolding wordToken
 word-good {w} v = short-token w _ (λ l. go l (keywordIn keywords w) refl)
@@ -121,6 +114,7 @@ word-good {w} v = short-token w _ (λ l. go l (keywordIn keywords w) refl)
     go l none e = word-ended v l e
     go l (some k) e = keyword-kind keywords w k refl e
 
+-- so is a token with a name
 pub name-good : {w : List ℕ} (t : Token) → Begun w → (Word ShortText w → GoodToken t) → GoodToken (nameToken w t)
 unfolding nameToken
 name-good {w} t v f = short-token w _ (λ l. go l (keywordIn keywords w) refl)
@@ -129,16 +123,19 @@ name-good {w} t v f = short-token w _ (λ l. go l (keywordIn keywords w) refl)
     go l none e = f (word-ended v l e)
     go l (some k) e = omega arith
 
+-- a number, or a malformed one
 number-picked : (b : Bool) (z : ℤ) → GoodToken (pick b (number z) (mark 6))
 number-picked true z = tt
 number-picked false z = omega arith
 
+-- numbers are good
 pub number-good : (s : Bool) (n : ℕ) → GoodToken (signedToken s n)
 unfolding signedToken
 number-good false n = number-picked (leb n 9223372036854775807) (pos n)
 number-good true zero = tt
 number-good true (suc n) = number-picked (leb n 9223372036854775807) (negsuc n)
 
+-- so are strings
 pub text-good : {s : List ℕ} → IsBytes s → GoodToken (textToken s)
 unfolding textToken
 text-good {s} v = short-token s (text s) (λ l. record { bytes = v; short = l })

@@ -42,3 +42,11 @@ pub mod LexedGood
 pub mod NumberedTree
 pub mod ConvertedSound
 pub mod PrintedThen
+pub mod PrintedRead
+pub mod ConvertedPrintable
+pub mod LabelsRise
+pub mod LinesRise
+pub mod PlainActions
+pub mod Printable
+pub mod TableRows
+pub mod OverUnplaced

@@ -13,6 +13,7 @@ use Rattle.notation.proofs.FormedNodes.{Word}
 pub data Bare (S : List ℕ → Type 0) : Node → Type 0 where
   bareWord : {p l : ℕ} {w : List ℕ} → Word S w → Bare S (leaf p 0x11 (byte l ∷ name w ∷ []))
 
+-- the kind of field that an entry is
 abbrev pub entryKind : Entry → Kind
 entryKind arm = Arm
 entryKind attribute = Attribute
@@ -64,10 +65,11 @@ module _ (S : List ℕ → Type 0) where
   Closing Q (build b f []) = Unit {0}
   Closing Q (build b (frame p t h ks) (frame q u g js ∷ fs)) = Q (build b (frame q u g (js ▸ node p t h ks)) fs)
 
-  -- a bracket is opened, is closed
+  -- a bracket is opened
   abbrev pub Opened : (Build → Type 0) → Build → Type 0
   Opened Q (build b f fs) = Q (build (suc b) f fs)
 
+  -- a bracket is closed
   abbrev pub Closed : (Build → Type 0) → Build → Type 0
   Closed Q (build zero f fs) = Unit {0}
   Closed Q (build (suc b) f fs) = Q (build b f fs)
@@ -106,28 +108,33 @@ module _ (S : List ℕ → Type 0) where
 
   -- ---- Actions, at the token x: Q holds of what they leave
 
-  -- a field more, in front
+  -- a field more
   abbrev pub With : Node → (Build → Type 0) → Build → Type 0
   With k Q (build b (frame q u g ks) fs) = Q (build b (frame q u g (ks ▸ k)) fs)
 
+  -- a field more, before the others
   abbrev pub WithFirst : Node → (Build → Type 0) → Build → Type 0
   WithFirst k Q (build b (frame q u g ks) fs) = Q (build b (frame q u g (inFront k ks)) fs)
 
-  -- a field begins: beside the others, around the last one, in its place
+  -- a field begins
   abbrev pub Begun : (place tag : ℕ) → (Build → Type 0) → Build → Type 0
   Begun p t Q (build b f fs) = Q (build b (frame p t [] empty) (f ∷ fs))
 
+  -- a field begins around the last one
   abbrev pub Around : (place tag : ℕ) → List Piece → (Build → Type 0) → Build → Type 0
   Around p t h Q (build b (frame q u g empty) fs) = Unit {0}
   Around p t h Q (build b (frame q u g (ks ▸ k)) fs) = Q (build b (frame p t h (empty ▸ k)) (frame q u g ks ∷ fs))
 
+  -- a field begins in the place of the last one, with its name
   abbrev pub Instead : (tag : ℕ) → (Build → Type 0) → Build → Type 0
   Instead t Q (build b (frame q u g empty) fs) = Unit {0}
   Instead t Q (build b (frame q u g (ks ▸ node p v h js)) fs) = Q (build b (frame p t (behindLabel h) empty) (frame q u g ks ∷ fs))
 
+  -- a name more
   abbrev pub WithName : List ℕ → (Build → Type 0) → Build → Type 0
   WithName w Q (build b (frame q u g ks) fs) = Q (build b (frame q u (g ++ (name w ∷ [])) ks) fs)
 
+  -- one action
   abbrev pub Doing : Action → Lexeme → (Build → Type 0) → Build → Type 0
   Doing (begin t) x Q f = Begun (placeOf x) t Q f
   Doing beginResource x Q f = Begun (placeOf x) (resourceTag (spelled (tokenOf x))) Q f
@@ -142,6 +149,7 @@ module _ (S : List ℕ → Type 0) where
   Doing enter x Q f = Opened Q f
   Doing leave x Q f = Closed Q f
 
+  -- some actions
   abbrev pub DoingAll : List Action → Lexeme → (Build → Type 0) → Build → Type 0
   DoingAll [] x Q f = Q f
   DoingAll (a ∷ ds) x Q f = Doing a x (DoingAll ds x Q) f

@@ -59,7 +59,7 @@ module _ (table : List (List ℕ)) where
 
   module _ (small : length table ≤ 1024) where
     -- a name is two bytes
-    name-bytes : {w : List ℕ} (i : Numbered table w) → highBytes 2 (orZero (stringNumber w table 0)) ≡ i .number / 256 ∷ i .number % 256 ∷ []
+    pub name-bytes : {w : List ℕ} (i : Numbered table w) → highBytes 2 (orZero (stringNumber w table 0)) ≡ i .number / 256 ∷ i .number % 256 ∷ []
     name-bytes i =
         let below = i .below in
         let start : 0 + i .number ≡ i .number = omega arith in

@@ -10,16 +10,16 @@ use borrow.Author.Tests.{eqb-true, leb-true}
 use Rattle.rules.specs.Bytes.{pick}
 use Rattle.rules.specs.Format.{within, allowed, forms, formIn, formOf}
 use Rattle.rules.specs.declared.Kind.the-variants.{Constant, Expression, Statement, Block, Item}
-use Rattle.rules.proofs.Lists.{both-left, both-right}
-use Rattle.notation.specs.Tokens.{word, number, text, variable, topVariable, classVariable, mark, Lexeme, lexeme, kind, tokenOf, aWord, question, colon, arrow, comma, equals, leftBrace, rightBrace, leftRound, rightRound, leftSquare, rightSquare, elseWord, inheritsWord}
+use Rattle.notation.specs.Tokens.{word, number, text, variable, topVariable, classVariable, mark, Lexeme, lexeme, kind, tokenOf, question, colon, arrow, leftBrace, rightBrace, leftSquare, rightSquare}
 use Rattle.notation.specs.Lexing.{find}
-use Rattle.notation.specs.Building.{Piece, byte, Node, node, Nodes, empty, _▸_, Frame, frame, Build, build, Action, begin, around, instead, constant, named, parentFirst, leave, constantNode}
+use Rattle.notation.specs.Building.{Piece, byte, Node, node, Nodes, empty, _▸_, Frame, frame, Build, build, Action, begin, around, instead, constant, constantNode}
 use Rattle.notation.specs.Grammar.{Entry, arm, attribute, parameter, Symbol, sign, aName, expression, operators, readOrWord, closeBracket, one, maybe, further, statements, block, otherwise, branches, items, classRest, parameters, defaultValue, aConstant, inherits, parent, devices, device, moreDevices, ends, Row, row, operandRows, constantRows, patternRows, entryRows, statementRows, inBlock, itemRows, classRows, deviceRows, nodeRows, operatorBytes, orZero, operatorByte, operatorRow, operatorIn, binds, rowOf}
 use Rattle.notation.proofs.Formed.{Of, further as furtherField, aString}
 use Rattle.notation.proofs.FormedNodes.{word-in, leaf-of, constant-expression, constant-pattern, statement-item, operation-of, negation-of, read-of, selector-of, arm-of, default-of, block-of, assignment-of, conditional-of, choice-of, branch-of, resource-of, attribute-of, class-of, include-of, device-of, node-of, default-node-of, definition-of, parameter-of, parameter-with-default-of, parent-of, class-definition-of, class-with-parent-of}
 use Rattle.notation.proofs.FormedTokens.{Good, word-spelled, variable-spelled, text-spelled, constant-of, variable-of}
 use Rattle.notation.proofs.Needs.{Bare, bareWord, Default, byDefault, BeforeAll, DoingAll}
 use Rattle.notation.proofs.NeedsKept.{none-not-some, same-result}
+use Rattle.notation.proofs.TableRows.{found-passes, rowsOf}
 
 -- ---- Bare words, defaults, operators
 
@@ -44,21 +44,13 @@ by-default-of : {S : List ℕ → Type 0} {p : ℕ} {d b : Node} → Default d �
 by-default-of byDefault b = default-node-of b
 
 -- the operator bytes are 0 to 6
-abbrev upToSix : List (ℕ × ℕ) → Bool
-upToSix [] = true
-upToSix (x ∷ xs) = leb (x .1) 6 && upToSix xs
-
-six-in : (xs : List (ℕ × ℕ)) (k : ℕ) → upToSix xs ≡ true → orZero (find k xs) ≤ 6
-six-in [] k e = omega arith
-six-in (x ∷ xs) k e = go (eqb k (x .0)) (six-in xs k (both-right (leb (x .1) 6) (upToSix xs) e))
-  where
-    go : (b : Bool) → orZero (find k xs) ≤ 6 → orZero (pick b (some (x .1)) (find k xs)) ≤ 6
-    go true others = leb-true (x .1) 6 (both-left (leb (x .1) 6) (upToSix xs) e)
-    go false others = others
-
 operator-byte : (k : ℕ) → operatorByte k ≤ 6
 unfolding operatorByte
-operator-byte k = six-in operatorBytes k refl
+operator-byte k = go (find k operatorBytes) refl
+  where
+    go : (o : Option ℕ) → find k operatorBytes ≡ o → orZero o ≤ 6
+    go none e = omega arith
+    go (some b) e = leb-true b 6 (found-passes (λ i. leb i 6) operatorBytes k b refl e)
 
 -- ---- One token x, where ks are the last fields and the symbols k come behind
 
@@ -75,6 +67,7 @@ module _ (S : List ℕ → Type 0) (Q : Build → Type 0) (x : Lexeme) (good : G
     abbrev RowKept : Symbol → ℕ → Row → Type 0
     RowKept s c (row ds ss) = kind (tokenOf x) ≡ c → BeforeAll S Q (s ∷ k) here → DoingAll S ds x (BeforeAll S Q (ss ++ k)) here
 
+    -- all rows of a list do
     abbrev EachRow : Symbol → List (ℕ × Row) → Type 0
     EachRow s [] = Unit {0}
     EachRow s (r ∷ rs) = RowKept s (r .0) (r .1) × EachRow s rs
@@ -90,6 +83,10 @@ module _ (S : List ℕ → Type 0) (Q : Build → Type 0) (x : Lexeme) (good : G
             subst (λ (c : ℕ). RowKept s c r) (sym (eqb-true _ _ h)) kept
         go false h others e = others e
 
+    -- so does the row that the symbol takes
+    taken-row : (s : Symbol) (ds : List Action) (ss : List Symbol) → find (kind (tokenOf x)) (rowsOf s) ≡ some (row ds ss) → EachRow s (rowsOf s) → BeforeAll S Q (s ∷ k) here → DoingAll S ds x (BeforeAll S Q (ss ++ k)) here
+    taken-row s ds ss e all = found-row s (rowsOf s) (row ds ss) e all refl
+
     -- rows of one symbol are those of another that asks for more
     rows-from : (s t : Symbol) → (BeforeAll S Q (t ∷ k) here → BeforeAll S Q (s ∷ k) here) → (rows : List (ℕ × Row)) → EachRow s rows → EachRow t rows
     rows-from s t f [] all = tt
@@ -100,6 +97,7 @@ module _ (S : List ℕ → Type 0) (Q : Build → Type 0) (x : Lexeme) (good : G
 
     -- ---- The rows
 
+    -- operands
     operand-rows : (l : ℕ) → EachRow (expression l) (operandRows l)
     operand-rows l = (
       (λ e w. (constant-expression (constant-here e refl), w)),
@@ -134,18 +132,21 @@ module _ (S : List ℕ → Type 0) (Q : Build → Type 0) (x : Lexeme) (good : G
     constant-rows : (s : Symbol) (ds : List Action) (ss : List Symbol) → ((c : ℕ) → within 3 4 c ≡ false → RowKept s c (row (ds ++ (constant ∷ [])) ss)) → EachRow s (constantRows ds ss)
     constant-rows s ds ss f = (f 1 refl, (f 2 refl, (f 26 refl, (f 27 refl, (f 0 refl, tt)))))
 
+    -- arms
     arm-rows : EachRow (one arm) (entryRows arm)
     arm-rows = (
       (λ e w i o. w _ (arm-of default-of o)),
       constant-rows (one arm) (begin 0x1a ∷ []) (sign arrow ∷ expression 1 ∷ ends ∷ further arm ∷ []) (λ c n e w i o. w _ (arm-of (constant-pattern (constant-here e n)) o)),
     )
 
+    -- entries of lists
     entry-rows : (y : Entry) → EachRow (one y) (entryRows y)
     entry-rows arm = arm-rows
     entry-rows attribute = ((λ e w i o. w _ (attribute-of (word-spelled (tokenOf x) good e) o)), tt)
     entry-rows parameter =
         ((λ e w. (w _ (parameter-of (variable-spelled (tokenOf x) good e)), λ c o. w _ (parameter-with-default-of (variable-spelled (tokenOf x) good e) o))), tt)
 
+    -- branches
     branch-rows : EachRow branches (patternRows 0x24 (sign colon ∷ block ∷ ends ∷ branches ∷ []))
     branch-rows = (
       (λ e w y p js m. w js (furtherField (branch-of default-of p) m)),
@@ -171,12 +172,14 @@ module _ (S : List ℕ → Type 0) (Q : Build → Type 0) (x : Lexeme) (good : G
       ),
     )
 
+    -- statements of a block
     block-rows : EachRow statements inBlock
     block-rows = (
       (λ e w v o is n js m. w js (furtherField (class-of o n) m)),
       statement-rows statements (λ w i o js m. w js (furtherField o m)),
     )
 
+    -- items
     item-rows : EachRow items itemRows
     item-rows = (
       (λ e w i o js m. w js (furtherField o m)),
@@ -189,6 +192,7 @@ module _ (S : List ℕ → Type 0) (Q : Build → Type 0) (x : Lexeme) (good : G
       ),
     )
 
+    -- classes outside of blocks
     class-rows : EachRow classRest classRows
     class-rows = (
       (λ e w v o js m. w _ (statement-item (class-of o m))),
@@ -198,9 +202,11 @@ module _ (S : List ℕ → Type 0) (Q : Build → Type 0) (x : Lexeme) (good : G
       ),
     )
 
+    -- names of devices
     device-rows : EachRow device deviceRows
     device-rows = ((λ e w. w _ (device-of (text-spelled S (tokenOf x) good e))), ((λ e w. w _ (device-of (word-spelled (tokenOf x) good e .known))), tt))
 
+    -- nodes
     node-rows : EachRow devices nodeRows
     node-rows = ((λ e w. w .0 _ byDefault), ((λ e w. w .1), rows-from device devices (λ w. w .1) deviceRows device-rows))
 
@@ -214,6 +220,7 @@ module _ (S : List ℕ → Type 0) (Q : Build → Type 0) (x : Lexeme) (good : G
   operator-row l m n c true ks i = λ e w a o js m. (selector-of (w .0) o m, w .1)
   operator-row l m n c false ks i = λ e w j o. (operation-of (operator-byte c) (w .0) o, w .1)
 
+  -- so it is with each operator of the levels asked for
   operator-kept : (l m c : ℕ) (ks : Nodes) (i : Node) (r : Row) (o : Option ℕ) → operatorIn l m c o ≡ some r → RowKept (ks ▸ i) (operators l m) c r
   operator-kept l m c ks i r none e = none-not-some e
   operator-kept l m c ks i r (some n) e = go (leb l n && leb n m) e
@@ -231,29 +238,29 @@ module _ (S : List ℕ → Type 0) (Q : Build → Type 0) (x : Lexeme) (good : G
   -- what must hold before a symbol is kept where it takes a token
   pub row-kept : (s : Symbol) (ks : Nodes) (ds : List Action) (ss : List Symbol) → rowOf s (kind (tokenOf x)) ≡ some (row ds ss) → BeforeAll S Q (s ∷ k) (build b (frame q u g ks) fs) → DoingAll S ds x (BeforeAll S Q (ss ++ k)) (build b (frame q u g ks) fs)
   unfolding rowOf
-  row-kept (sign c) ks ds ss e = found-row ks (sign c) ((c, row [] []) ∷ []) (row ds ss) e ((λ e w. w), tt) refl
-  row-kept aName ks ds ss e = found-row ks aName ((aWord, row (named ∷ []) []) ∷ []) (row ds ss) e ((λ e w. w _ (word-spelled (tokenOf x) good e)), tt) refl
-  row-kept (expression l) ks ds ss e = found-row ks (expression l) (operandRows l) (row ds ss) e (operand-rows ks l) refl
+  row-kept (sign c) ks ds ss e = taken-row ks (sign c) ds ss e ((λ e w. w), tt)
+  row-kept aName ks ds ss e = taken-row ks aName ds ss e ((λ e w. w _ (word-spelled (tokenOf x) good e)), tt)
+  row-kept (expression l) ks ds ss e = taken-row ks (expression l) ds ss e (operand-rows ks l)
   row-kept (operators l m) empty ds ss e = λ w. absurd w
   row-kept (operators l m) (ks ▸ i) ds ss e = operator-kept l m (kind (tokenOf x)) ks i (row ds ss) (binds (kind (tokenOf x))) e refl
   row-kept readOrWord empty ds ss e = λ w. absurd w
-  row-kept readOrWord (ks ▸ i) ds ss e = λ w. found-row (ks ▸ i) readOrWord ((leftSquare, row (instead 0x18 ∷ []) (expression 1 ∷ sign rightSquare ∷ sign leftSquare ∷ aName ∷ sign rightSquare ∷ ends ∷ [])) ∷ []) (row ds ss) e (bare-row ks i (w .0), tt) refl w
-  row-kept closeBracket ks ds ss e = found-row ks closeBracket ((rightRound, row (leave ∷ []) []) ∷ []) (row ds ss) e ((λ e w. w), tt) refl
-  row-kept (one y) ks ds ss e = found-row ks (one y) (entryRows y) (row ds ss) e (entry-rows ks y) refl
-  row-kept (maybe y) ks ds ss e = found-row ks (maybe y) (entryRows y) (row ds ss) e (rows-from ks (one y) (maybe y) (λ w i o js m. w js (furtherField o m)) (entryRows y) (entry-rows ks y)) refl
-  row-kept (further y) ks ds ss e = found-row ks (further y) ((comma, row [] (maybe y ∷ [])) ∷ []) (row ds ss) e ((λ e w. w), tt) refl
-  row-kept statements ks ds ss e = found-row ks statements inBlock (row ds ss) e (block-rows ks) refl
-  row-kept block ks ds ss e = found-row ks block ((leftBrace, row (begin 0x20 ∷ []) (statements ∷ sign rightBrace ∷ ends ∷ [])) ∷ []) (row ds ss) e ((λ e w js m. w _ (block-of m)), tt) refl
-  row-kept otherwise ks ds ss e = found-row ks otherwise ((elseWord, row [] (block ∷ [])) ∷ []) (row ds ss) e ((λ e w. w), tt) refl
-  row-kept branches ks ds ss e = found-row ks branches (patternRows 0x24 (sign colon ∷ block ∷ ends ∷ branches ∷ [])) (row ds ss) e (branch-rows ks) refl
-  row-kept items ks ds ss e = found-row ks items itemRows (row ds ss) e (item-rows ks) refl
-  row-kept classRest ks ds ss e = found-row ks classRest classRows (row ds ss) e (class-rows ks) refl
-  row-kept parameters ks ds ss e = found-row ks parameters ((leftRound, row [] (maybe parameter ∷ sign rightRound ∷ [])) ∷ []) (row ds ss) e ((λ e w. w), tt) refl
-  row-kept defaultValue ks ds ss e = found-row ks defaultValue ((equals, row [] (aConstant ∷ [])) ∷ []) (row ds ss) e ((λ e w. w .1), tt) refl
-  row-kept aConstant ks ds ss e = found-row ks aConstant (constantRows [] []) (row ds ss) e (constant-rows ks aConstant [] [] (λ c n e w. w _ (constant-here e n))) refl
-  row-kept inherits ks ds ss e = found-row ks inherits ((inheritsWord, row [] (parent ∷ [])) ∷ []) (row ds ss) e ((λ e w. w .1), tt) refl
-  row-kept parent ks ds ss e = found-row ks parent ((aWord, row (parentFirst ∷ []) []) ∷ []) (row ds ss) e ((λ e w. w _ (parent-of (word-spelled (tokenOf x) good e))), tt) refl
-  row-kept devices ks ds ss e = found-row ks devices nodeRows (row ds ss) e (node-rows ks) refl
-  row-kept device ks ds ss e = found-row ks device deviceRows (row ds ss) e (device-rows ks) refl
-  row-kept moreDevices ks ds ss e = found-row ks moreDevices ((comma, row [] (device ∷ [])) ∷ []) (row ds ss) e ((λ e w i o js m. w js (furtherField o m)), tt) refl
+  row-kept readOrWord (ks ▸ i) ds ss e = λ w. taken-row (ks ▸ i) readOrWord ds ss e (bare-row ks i (w .0), tt) w
+  row-kept closeBracket ks ds ss e = taken-row ks closeBracket ds ss e ((λ e w. w), tt)
+  row-kept (one y) ks ds ss e = taken-row ks (one y) ds ss e (entry-rows ks y)
+  row-kept (maybe y) ks ds ss e = taken-row ks (maybe y) ds ss e (rows-from ks (one y) (maybe y) (λ w i o js m. w js (furtherField o m)) (entryRows y) (entry-rows ks y))
+  row-kept (further y) ks ds ss e = taken-row ks (further y) ds ss e ((λ e w. w), tt)
+  row-kept statements ks ds ss e = taken-row ks statements ds ss e (block-rows ks)
+  row-kept block ks ds ss e = taken-row ks block ds ss e ((λ e w js m. w _ (block-of m)), tt)
+  row-kept otherwise ks ds ss e = taken-row ks otherwise ds ss e ((λ e w. w), tt)
+  row-kept branches ks ds ss e = taken-row ks branches ds ss e (branch-rows ks)
+  row-kept items ks ds ss e = taken-row ks items ds ss e (item-rows ks)
+  row-kept classRest ks ds ss e = taken-row ks classRest ds ss e (class-rows ks)
+  row-kept parameters ks ds ss e = taken-row ks parameters ds ss e ((λ e w. w), tt)
+  row-kept defaultValue ks ds ss e = taken-row ks defaultValue ds ss e ((λ e w. w .1), tt)
+  row-kept aConstant ks ds ss e = taken-row ks aConstant ds ss e (constant-rows ks aConstant [] [] (λ c n e w. w _ (constant-here e n)))
+  row-kept inherits ks ds ss e = taken-row ks inherits ds ss e ((λ e w. w .1), tt)
+  row-kept parent ks ds ss e = taken-row ks parent ds ss e ((λ e w. w _ (parent-of (word-spelled (tokenOf x) good e))), tt)
+  row-kept devices ks ds ss e = taken-row ks devices ds ss e (node-rows ks)
+  row-kept device ks ds ss e = taken-row ks device ds ss e (device-rows ks)
+  row-kept moreDevices ks ds ss e = taken-row ks moreDevices ds ss e ((λ e w i o js m. w js (furtherField o m)), tt)
   row-kept ends ks ds ss e = none-not-some e

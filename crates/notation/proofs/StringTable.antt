@@ -21,6 +21,7 @@ use Rattle.notation.proofs.NeedsKept.{none-not-some}
 
 -- ---- Strings in a table
 
+-- a string is in a table
 pub data Among (s : List ℕ) : List (List ℕ) → Type 0 where
   atFirst : {table : List (List ℕ)} → Among s (s ∷ table)
   later : {t : List ℕ} {table : List (List ℕ)} → Among s table → Among s (t ∷ table)
@@ -106,21 +107,25 @@ entered-rising s (t ∷ table) up = go (ascends s t) refl (ascends t s) refl
 
 -- ---- The strings of some tokens
 
+-- what was there is there
 all-kept : {r : List ℕ} (ss : List (List ℕ)) {table : List (List ℕ)} → Among r table → Among r (enteredAll ss table)
 unfolding enteredAll
 all-kept [] i = i
 all-kept (s ∷ ss) i = all-kept ss (entered-kept s i)
 
+-- each of the strings is there
 all-there : {r : List ℕ} {ss : List (List ℕ)} → Among r ss → (table : List (List ℕ)) → Among r (enteredAll ss table)
 unfolding enteredAll
 all-there {r} (atFirst {table = ss}) table = all-kept ss (entered-there r table)
 all-there (later {t = t} i) table = all-there i (entered t table)
 
+-- P holds of all
 all-each : {P : List ℕ → Type 0} {ss : List (List ℕ)} (table : List (List ℕ)) → Each P ss → Each P table → Each P (enteredAll ss table)
 unfolding enteredAll
 all-each table noneLeft all = all
 all-each table (also {x = s} p ps) all = all-each (entered s table) ps (entered-each s table p all)
 
+-- they rise
 all-rising : (ss table : List (List ℕ)) → Rising table → Rising (enteredAll ss table)
 unfolding enteredAll
 all-rising [] table up = up
@@ -178,11 +183,13 @@ pub record Numbered (table : List (List ℕ)) (s : List ℕ) : Type 0 where
   pub found : (i : ℕ) → stringNumber s table i ≡ some (i + number)
   pub back : stringAt table number ≡ s
 
+-- a string has the bytes of itself
 bytes-same : (s : List ℕ) → sameBytes s s ≡ true
 unfolding sameBytes
 bytes-same [] = refl
 bytes-same (x ∷ s) = both-true (eqb x x) (sameBytes s s) (eqb-same x) (bytes-same s)
 
+-- strings with the same bytes are equal
 bytes-equal : (s t : List ℕ) → sameBytes s t ≡ true → s ≡ t
 unfolding sameBytes
 bytes-equal [] [] e = refl
@@ -199,13 +206,14 @@ number-by x y ys i = go (sameBytes x y)
     go true = refl
     go false = refl
 
--- the first string of a table; one after it
+-- the first string has the first number
 number-first : (s t : List ℕ) (table : List (List ℕ)) → sameBytes s t ≡ true → Numbered (t ∷ table) s
 unfolding stringAt
 number-first s t table e =
     let zero-more : (i : ℕ) → i + 0 ≡ i = λ i. omega arith in
     record { number = 0; below = omega arith; found = λ i. rw (zero-more i, number-by s t table i, e); back = sym (bytes-equal s t e) }
 
+-- a string after the first has the next number
 number-later : (s t : List ℕ) (table : List (List ℕ)) → sameBytes s t ≡ false → Numbered table s → Numbered (t ∷ table) s
 unfolding stringAt
 number-later s t table e n =

@@ -1,0 +1,65 @@
+-- What converting a text gives can be printed, apart from its length.
+use Prim.Native.Nat.{ℕ, _≤_}
+use mathlib.Core.Path.{_≡_, refl, sym, ap, subst, _∙_}
+use mathlib.Core.Bool.{Bool, true, false, _&&_}
+use mathlib.Core.List.{List, [], _∷_}
+use mathlib.Core.Option.{Option, none, some}
+use lib.Dec.{eqb}
+use lib.ListN.{length}
+use Rattle.rules.specs.Bytes.{pick, byte as byteAt}
+use Rattle.rules.specs.Format.{isConstant}
+use Rattle.rules.specs.EditRule.{IsBytes}
+use Rattle.rules.specs.Fields.{Field, field, Fields, none as noFields, more, readAll, writeAll, headOf, tagOf, inner, first, others}
+use Rattle.rules.specs.Outcome.{done}
+use Rattle.rules.specs.Read.{stringsFrom, manifestFrom, manifestOf}
+use Rattle.rules.proofs.TypedBack.{unplaced, unplacedAll}
+use Rattle.notation.specs.Tokens.{Lexeme}
+use Rattle.notation.specs.Lexing.{tokens}
+use Rattle.notation.specs.Building.{Nodes}
+use Rattle.notation.specs.Convert.{tableBehind, manifestFields, lateAmong, manifestBytes, converted}
+use Rattle.notation.specs.Printer.{namesSpellable, typeRight, labelRight, Gone, stops, past, going, over, overAll, stoppedAt, unprintableAt}
+use Rattle.notation.proofs.WrittenRead.{read-back}
+use Rattle.notation.proofs.NeedsKept.{none-not-some, same-result}
+use Rattle.notation.proofs.Formed.{AllFormed}
+use Rattle.notation.proofs.StringTable.{Numbered}
+use Rattle.notation.proofs.LexedGood.{tokens-good}
+use Rattle.notation.proofs.ConvertedSound.{ReadWhole, items-has, manifest-complete, strings-back, text-whole, converted-steps}
+use Rattle.notation.proofs.LabelsRise.{Lines, AllRise, tree-rises}
+use Rattle.notation.proofs.LinesRise.{lines-rise}
+use Rattle.notation.proofs.Printable.{over-nodes}
+use Rattle.notation.proofs.OverUnplaced.{table-unplaced, others-unplaced, labelAfter, not-stopped, over-all-unplaced}
+
+-- ---- The whole
+
+-- the strings of the manifest are those of the table
+strings-of : (table : List (List ℕ)) (items : Nodes) → stringsFrom (inner (first (manifestFields table items))) ≡ table
+unfolding manifestFields first inner
+strings-of table items = strings-back table
+
+-- going over its items stops nowhere
+items-passed : (table : List (List ℕ)) → length table ≤ 1024 → {l : ℕ} {items : Nodes} → AllRise 0 items l → AllFormed (Numbered table) items → overAll table (others (manifestFields table items)) 0 ≡ past l
+unfolding manifestFields others over
+items-passed table few r all = over-nodes table few r all noFields
+
+-- a text that is read whole gives a manifest that can be printed
+manifest-printable : (xs : List Lexeme) (items : Nodes) → ReadWhole xs items → lateAmong items ≡ none → Lines 0 xs → unprintableAt (manifestBytes xs items) ≡ none
+unfolding unprintableAt manifestOf manifestFrom manifestBytes
+manifest-printable xs items r late lines =
+    let table : List (List ℕ) = tableBehind xs [] in
+    let fields : Fields = manifestFields table items in
+    let read : Fields = readAll (writeAll fields) in
+    let back : unplacedAll read ≡ unplacedAll fields = read-back fields (manifest-complete r late) in
+    let strings : stringsFrom (inner (first read)) ≡ table = sym (table-unplaced read) ∙ ap (λ (ks : Fields). stringsFrom (inner (first ks))) back ∙ table-unplaced fields ∙ strings-of table items in
+    let rise = tree-rises xs items lines (r .whole) in
+    let passed : overAll table (others fields) 0 ≡ past (rise .last) = items-passed table (r .few) (rise .rise) (items-has r late .all) in
+    let kept : unplacedAll (others read) ≡ unplacedAll (others fields) = sym (others-unplaced read) ∙ ap others back ∙ others-unplaced fields in
+    let last : labelAfter (overAll table (others read) 0) ≡ some (rise .last) =
+    sym (over-all-unplaced table (others read) 0) ∙ ap (λ (ks : Fields). labelAfter (overAll table ks 0)) kept ∙ over-all-unplaced table (others fields) 0 ∙ ap labelAfter passed in
+    rw strings (not-stopped (overAll table (others read) 0) (rise .last) last)
+
+-- what converting gives can be printed, apart from its length
+pub converted-printable : (given m : List ℕ) (outputLength memoryLength : ℕ) → IsBytes given → converted given outputLength memoryLength ≡ done m → unprintableAt m ≡ none
+converted-printable given m outputLength memoryLength b e =
+    let s = converted-steps given m outputLength memoryLength e in
+    let w = text-whole (tokens given) (s .items) (tokens-good given b) (s .read) in
+    subst (λ (n : List ℕ). unprintableAt n ≡ none) (s .same) (manifest-printable (tokens given) (s .items) w (s .late) (lines-rise given))

@@ -1,0 +1,187 @@
+-- The text of a manifest that the printer accepts is read as that manifest's tree by the bytes of every name.
+use Prim.Native.Nat.{ℕ, zero, suc, _≤_}
+use mathlib.Core.Path.{_≡_, refl, sym, ap, _∙_, subst}
+use mathlib.Core.Bool.{Bool, true, false, _&&_}
+use mathlib.Core.List.{List, [], _∷_, _++_}
+use mathlib.Core.Option.{Option, none, some}
+use native.Mathlib.Omega.{arith}
+use lib.IntN.{pos, negsuc}
+use Rattle.rules.specs.Bytes.{pick, byte}
+use Rattle.rules.specs.Format.{isConstant}
+use Rattle.rules.specs.Check.{check}
+use Rattle.rules.specs.Fields.{Field, field, Fields, none as noFields, more, readAll, others}
+use Rattle.rules.specs.Tree.{Item}
+use Rattle.rules.specs.Read.{manifestOf}
+use Rattle.rules.specs.Compile.{stringAt}
+use Rattle.rules.specs.EditRule.{IsBytes}
+use Rattle.rules.specs.Ranges.{Each, noneLeft, also}
+use Rattle.rules.specs.declared.Verdict.the-variants.{Sound}
+use Rattle.rules.proofs.Within.{false-not-true}
+use Rattle.rules.proofs.Fits.{manifest-fits}
+use Rattle.rules.proofs.TypedBack.{itemFields}
+use Rattle.rules.proofs.TypedBack
+use Rattle.notation.specs.Tokens.{Token, word, number, text, variable, topVariable, classVariable, mark, Lexeme, lexeme, kind, isAmong, tokenOf, endOfText}
+use Rattle.notation.specs.Lexing.{tokens}
+use Rattle.notation.specs.Building.{Node, node, Nodes, empty, _▸_, Frame, frame, Build, build}
+use Rattle.notation.specs.Grammar.{Ended, built, fault, reading}
+use Rattle.notation.specs.Print.{the, printedItems}
+use Rattle.notation.specs.Printer.{labelRight, namesSpellable, typeRight, Gone, stops, past, going, stoppedAt, over, overAll, unprintableAt, tokensOf, textOf}
+use Rattle.notation.specs.Named.{namedHead, named, namedOnto, namedTree}
+use Rattle.notation.proofs.Unplaced.{bare, bares, unplaced, unplacedAll, unplacedFrame, unplacedFrames, unplacedBuild, unplacedEnded, reading-same}
+use Rattle.notation.proofs.Expected.{itemsOnto}
+use Rattle.notation.proofs.EntriesBack.{EachOf}
+use Rattle.notation.proofs.ItemsBack.{WholeItem, round-trip}
+use Rattle.notation.proofs.LexedMarks.{spelledMarks}
+use Rattle.notation.proofs.LaidOut.{Spelled, Layable, endLine, text-lexed}
+use Rattle.notation.proofs.StatementsLaid.{constantsOfItems, laid-manifest}
+use Rattle.notation.proofs.PassedFields.{Passes}
+use Rattle.notation.proofs.Passed.{FoundItems, items-passed}
+use Rattle.notation.proofs.PrintedThen.{items-then}
+use Rattle.notation.proofs.TableStrings.{strings-short}
+use Rattle.notation.proofs.TypedNamed.{items-back, tree-named}
+use Rattle.notation.proofs.TypedWhole.{manifest-whole}
+use Rattle.notation.proofs.TreeLow.{tree-low}
+use Rattle.notation.proofs.FormedNodes.{Word}
+use Rattle.notation.proofs.FormedTokens.{Good}
+use Rattle.notation.proofs.Trees.{Items, tree-listed}
+use Rattle.notation.proofs.OverUnplaced.{Passed, never-stopped, goes-past, labelAfter, over-all-unplaced}
+
+-- ---- Tokens
+
+bares-append : (xs ys : List Lexeme) → bares (xs ++ ys) ≡ bares xs ++ bares ys
+bares-append [] ys = refl
+bares-append (x ∷ xs) ys = ap (λ (zs : List Lexeme). bare x ∷ zs) (bares-append xs ys)
+
+abbrev Known : List ℕ → Type 0
+Known s = Unit {0}
+
+abbrev GoodLexeme : Lexeme → Type 0
+GoodLexeme x = Good Known (tokenOf x)
+
+-- no kind of a mark that is spelled is that of another token
+mark-kind : (k : ℕ) → isAmong k spelledMarks ≡ true → 5 ≤ k
+mark-kind zero h = false-not-true h
+mark-kind (suc zero) h = false-not-true h
+mark-kind (suc (suc zero)) h = false-not-true h
+mark-kind (suc (suc (suc zero))) h = false-not-true h
+mark-kind (suc (suc (suc (suc zero)))) h = false-not-true h
+mark-kind (suc (suc (suc (suc (suc k))))) h = omega arith
+
+-- tokens that are spelled are good
+spelled-good : (before : Option ℕ) (t : Token) → Spelled before t → Good Known t
+spelled-good before (word w) h = record { known = tt; spelled = h .0 }
+spelled-good before (number (pos n)) h = tt
+spelled-good before (number (negsuc n)) h = tt
+spelled-good before (text s) h = tt
+spelled-good before (variable n) h = record { known = tt; spelled = h .0 }
+spelled-good before (topVariable n) h = record { known = tt; spelled = h .0 }
+spelled-good before (classVariable c n) h = (record { known = tt; spelled = h .0 .0 }, record { known = tt; spelled = h .1 .0 })
+spelled-good before (mark k) h = mark-kind k (h .0)
+
+layable-good : (xs : List Lexeme) (before : Option ℕ) (v : ℕ) → Layable before v xs → Each GoodLexeme xs
+layable-good [] before v h = noneLeft
+layable-good (lexeme p w t ∷ xs) before v h = also (spelled-good before t (h .1)) (layable-good xs (some (kind t)) w (h .2))
+
+-- what holds of tokens whatever their places holds of those with the same bare tokens
+good-same : (xs ys : List Lexeme) → bares xs ≡ bares ys → Each GoodLexeme ys → Each GoodLexeme xs
+good-same [] ys e h = noneLeft
+good-same (x ∷ xs) [] e h = absurd (let z : _≡_ {A = ℕ} 0 1 = cc in omega arith)
+good-same (lexeme p l t ∷ xs) (lexeme q m u ∷ ys) e (also g gs) =
+    let token : t ≡ u = cc in
+    let rest : bares xs ≡ bares ys = cc in
+    also (subst (λ (x : Token). Good Known x) (sym token) g) (good-same xs ys rest gs)
+
+good-append : (xs : List Lexeme) (v : ℕ) → Each GoodLexeme xs → Each GoodLexeme (xs ++ (the v endOfText ∷ []))
+good-append [] v h = also {x = the v endOfText} (omega arith) noneLeft
+good-append (x ∷ xs) v (also g gs) = also g (good-append xs v gs)
+
+-- ---- The tree by its names has no places
+
+mutual
+  unfolding unplaced named
+
+  named-bare : (strings : List (List ℕ)) (k : Field) → unplaced (named strings k) ≡ named strings k
+  named-bare strings (field p t h ks) = ap (λ (js : Nodes). node 0 t (namedHead strings t h) js) (onto-bare strings ks empty)
+
+  onto-bare : (strings : List (List ℕ)) (ks : Fields) (js : Nodes) → unplacedAll (namedOnto strings ks js) ≡ namedOnto strings ks (unplacedAll js)
+  onto-bare strings noFields js = refl
+  onto-bare strings (more k ks) js = onto-bare strings ks (js ▸ named strings k) ∙ ap (λ (n : Node). namedOnto strings ks (unplacedAll js ▸ n)) (named-bare strings k)
+
+-- ---- The law
+
+-- the tree that the text builds
+pub record ReadBack (m : List ℕ) : Type 0 where
+  pub items : Nodes
+  pub whole : reading (tokens (textOf (manifestOf m))) ≡ built (build 0 (frame 0 0 [] items) [])
+  pub same : unplacedAll items ≡ namedTree m
+
+module _ (m : List ℕ) (bytes : IsBytes m) (sound : check m ≡ Sound) (printable : unprintableAt m ≡ none) where
+  abbrev S : ℕ → List ℕ
+  S n = stringAt (manifestOf m .strings) n
+
+  abbrev is : List Item
+  is = manifestOf m .items
+
+  abbrev xs : List Lexeme
+  xs = tokensOf (manifestOf m)
+
+  -- the line of the text's end
+  abbrev last : ℕ
+  last = endLine xs none 0
+
+  passed : Passed (overAll (manifestOf m .strings) (others (readAll m)) 0)
+  unfolding unprintableAt
+  passed = never-stopped (overAll (manifestOf m .strings) (others (readAll m)) 0) printable
+
+  items-pass : going (overAll (manifestOf m .strings) (itemFields is) 0) past ≡ past (passed .label)
+  items-pass =
+      goes-past (overAll (manifestOf m .strings) (itemFields is) 0) (passed .label)
+      (ap (λ (ks : Fields). labelAfter (overAll (manifestOf m .strings) ks 0)) (items-back m bytes sound) ∙ over-all-unplaced (manifestOf m .strings) (others (readAll m)) 0 ∙ passed .passed)
+
+  found : Passes (FoundItems (manifestOf m .strings) (IsBytes m) bytes is) (constantsOfItems is) 0 past (passed .label)
+  found = items-passed (manifestOf m .strings) (IsBytes m) bytes is (manifest-fits m) 0 (passed .label) past items-pass
+
+  whole-items : EachOf (WholeItem S) is
+  whole-items = manifest-whole m bytes sound S (found .found .types)
+
+  pub layable : Layable none 0 xs
+  unfolding tokensOf
+  layable = laid-manifest S (strings-short m bytes sound) is (found .found .spelled whole-items) (found .rises)
+
+  -- the tokens of the text, without their places
+  pub text-tokens : bares (tokens (textOf (manifestOf m))) ≡ bares (xs ++ (the last endOfText ∷ []))
+  unfolding textOf
+  text-tokens = text-lexed xs layable ∙ sym (bares-append xs (the last endOfText ∷ []))
+
+  -- the printed tokens are read as the tree
+  tokens-read : reading (xs ++ (the last endOfText ∷ [])) ≡ built (build 0 (frame 0 0 [] (namedTree m)) [])
+  unfolding tokensOf
+  tokens-read =
+      ap reading (sym (items-then S (the last endOfText ∷ []) is 0))
+      ∙ round-trip S is whole-items (λ u. last) (tree-low m bytes sound)
+      ∙ ap (λ (ks : Nodes). built (build 0 (frame 0 0 [] ks) [])) (tree-named m bytes sound)
+
+  -- and so are those of the text
+  unplaced-read : unplacedEnded (reading (tokens (textOf (manifestOf m)))) ≡ built (build 0 (frame 0 0 [] (namedTree m)) [])
+  unfolding unplacedEnded unplacedBuild unplacedFrames unplacedFrame namedTree unplacedAll
+  unplaced-read =
+      sym (reading-same (tokens (textOf (manifestOf m)))) ∙ ap reading text-tokens ∙ reading-same (xs ++ (the last endOfText ∷ [])) ∙ ap unplacedEnded tokens-read
+      ∙ ap (λ (ks : Nodes). built (build 0 (frame 0 0 [] ks) [])) (onto-bare (manifestOf m .strings) (others (readAll m)) empty)
+
+  same-nodes : (ks : Nodes) → unplacedEnded (built (build 0 (frame 0 0 [] ks) [])) ≡ built (build 0 (frame 0 0 [] (namedTree m)) []) → unplacedAll ks ≡ namedTree m
+  unfolding unplacedEnded unplacedBuild unplacedFrame unplacedFrames
+  same-nodes ks e = cc
+
+  -- THE LAW: the text of a manifest is read as that manifest's tree
+  pub read-back : ReadBack m
+  unfolding unplacedEnded
+  read-back = go (reading (tokens (textOf (manifestOf m)))) refl unplaced-read
+    where
+      good : Each GoodLexeme (tokens (textOf (manifestOf m)))
+      good = good-same _ _ text-tokens (good-append xs last (layable-good xs none 0 layable))
+
+      go : (e : Ended) → reading (tokens (textOf (manifestOf m))) ≡ e → unplacedEnded e ≡ built (build 0 (frame 0 0 [] (namedTree m)) []) → ReadBack m
+      go (fault p) e h = absurd (let z : _≡_ {A = ℕ} 0 1 = cc in omega arith)
+      go (built g) e h =
+          let t = tree-listed Known (tokens (textOf (manifestOf m))) g good e in
+          record { items = t .nodes; whole = e ∙ ap built (t .same); same = same-nodes (t .nodes) (ap (λ (f : Build). unplacedEnded (built f)) (sym (t .same)) ∙ h) }
