@@ -7,3 +7,4 @@ pub mod Print
 pub mod Layout
 pub mod Printer
 pub mod Named
+pub mod Quoted
