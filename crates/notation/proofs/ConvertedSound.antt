@@ -222,7 +222,9 @@ pub record Manifest (m : List ℕ) : Type 0 where
   pub bytes : IsBytes m
 
 -- a text is converted: it is read whole, no constant is late, and what is written is not too long
-pub record Steps (given m : List ℕ) (outputLength : ℕ) : Type 0 where
+pub record Steps (given m : List ℕ) (outputLength memoryLength : ℕ) : Type 0 where
+  pub memory : ltb memoryLength 65536 ≡ false
+  pub short : ltb 65535 (length given) ≡ false
   pub items : Nodes
   pub read : textItems (tokens given) ≡ done items
   pub late : lateAmong items ≡ none
@@ -230,7 +232,7 @@ pub record Steps (given m : List ℕ) (outputLength : ℕ) : Type 0 where
   pub same : manifestBytes (tokens given) items ≡ m
 
 -- these are the steps of a converting that ends well
-pub converted-steps : (given m : List ℕ) (outputLength memoryLength : ℕ) → converted given outputLength memoryLength ≡ done m → Steps given m outputLength
+pub converted-steps : (given m : List ℕ) (outputLength memoryLength : ℕ) → converted given outputLength memoryLength ≡ done m → Steps given m outputLength memoryLength
 unfolding converted
 converted-steps given m outputLength memoryLength e =
     let one = both-done (refuseIf (ltb memoryLength 65536) MemoryTooShort 0) _ m e in
@@ -240,6 +242,8 @@ converted-steps given m outputLength memoryLength e =
     let five = both-done (refuseIf (tooLong (manifestBytes (tokens given) (three .between)) outputLength) OutsideNotation 0) _ m (four .behind) in
     let last = five .behind in
     record {
+      memory = not-refused (ltb memoryLength 65536) MemoryTooShort 0 (one .before);
+      short = not-refused (ltb 65535 (length given)) OutsideNotation 0 (two .before);
       items = three .between;
       read = three .before;
       late = not-refused-at (lateAmong (three .between)) PastLine255 (four .before);

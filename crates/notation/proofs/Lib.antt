@@ -50,3 +50,7 @@ pub mod PlainActions
 pub mod Printable
 pub mod TableRows
 pub mod OverUnplaced
+pub mod KnownFields
+pub mod KnownTree
+pub mod KnownTokens
+pub mod ConvertedExactly

@@ -1,0 +1,85 @@
+-- Converting gives a manifest precisely if the grammar gives the text a tree and the limits hold.
+use Prim.Native.Nat.{ℕ, _≤_}
+use mathlib.Core.Path.{_≡_, refl, sym, ap, _∙_, subst}
+use mathlib.Core.Bool.{Bool, true, false, _||_}
+use mathlib.Core.List.{List, [], _∷_}
+use mathlib.Core.Option.{Option, none, some}
+use native.Mathlib.Omega.{arith}
+use lib.Dec.{ltb}
+use lib.ListN.{length}
+use borrow.Author.Tests.{ltb-false, le-ltb}
+use Rattle.values.specs.declared.Reason.{Reason}
+use Rattle.rules.specs.Outcome.{Outcome, refused, done, _>>=_, refuseIf}
+use Rattle.rules.proofs.Lists.{either-left, either-right}
+use Rattle.notation.specs.Lexing.{tokens}
+use Rattle.notation.specs.Building.{Nodes, frame, Build, build, start}
+use Rattle.notation.specs.Grammar.{Reads, manifest, Ended, built, fault, reading}
+use Rattle.notation.specs.Convert.{crowdedAt, readText, lateAmong, refuseAt, tooLong, textItems, manifestBytes, converted}
+use Rattle.notation.proofs.OneReading.{reading-sound, reading-complete}
+use Rattle.notation.proofs.ConvertedSound.{converted-steps}
+
+-- the items of a tree
+abbrev pub partsOf : Build → Nodes
+partsOf (build b (frame p t h ks) fs) = ks
+
+-- the grammar gives the text a tree; document 01's limits hold: strings, lines of constants, lengths of text and manifest; memory and output suffice; and m is the tree written
+pub record Meant (given : List ℕ) (outputLength memoryLength : ℕ) (m : List ℕ) : Type 0 where
+  pub tree : Build
+  pub reads : Reads manifest (tokens given) start tree
+  pub fewStrings : crowdedAt (tokens given) [] ≡ none
+  pub earlyLines : lateAmong (partsOf tree) ≡ none
+  pub memory : 65536 ≤ memoryLength
+  pub textLength : length given ≤ 65535
+  pub same : manifestBytes (tokens given) (partsOf tree) ≡ m
+  pub manifestLength : length m ≤ 65535
+  pub outputFits : length m ≤ outputLength
+
+refused-not-done : {A B : Type 0} {r : Reason} {p : ℕ} {a : A} → refused r p ≡ done a → B
+refused-not-done e = absurd (let z : _≡_ {A = ℕ} 0 1 = cc in omega arith)
+
+-- what was read whole
+record Whole (e : Ended) (crowded : Option ℕ) (items : Nodes) : Type 0 where
+  tree : Build
+  read : e ≡ built tree
+  few : crowded ≡ none
+  parts : partsOf tree ≡ items
+
+read-whole : (e : Ended) (crowded : Option ℕ) (items : Nodes) → readText e crowded ≡ done items → Whole e crowded items
+unfolding readText
+read-whole (built (build b (frame p t h ks) fs)) none items e = record { tree = build b (frame p t h ks) fs; read = refl; few = refl; parts = let same : ks ≡ items = cc in same }
+read-whole (built (build b (frame p t h ks) fs)) (some q) items e = refused-not-done e
+read-whole (fault p) none items e = refused-not-done e
+read-whole (fault p) (some q) items e = refused-not-done e
+
+-- THE LAW: what converting gives is meant
+pub converted-meant : (given m : List ℕ) (outputLength memoryLength : ℕ) → converted given outputLength memoryLength ≡ done m → Meant given outputLength memoryLength m
+unfolding textItems tooLong
+converted-meant given m outputLength memoryLength e =
+    let s = converted-steps given m outputLength memoryLength e in
+    let written : List ℕ = manifestBytes (tokens given) (s .items) in
+    let w = read-whole (reading (tokens given)) (crowdedAt (tokens given) []) (s .items) (s .read) in
+    let long = subst (λ (n : List ℕ). tooLong n outputLength ≡ false) (s .same) (s .long) in
+    record {
+      tree = w .tree;
+      reads = reading-sound (tokens given) (w .tree) (w .read);
+      fewStrings = w .few;
+      earlyLines = rw (w .parts) (s .late);
+      memory = ltb-false memoryLength 65536 (s .memory);
+      textLength = ltb-false 65535 (length given) (s .short);
+      same = rw (w .parts) (s .same);
+      manifestLength = ltb-false 65535 (length m) (either-left (ltb 65535 (length m)) (ltb outputLength (length m)) long);
+      outputFits = ltb-false outputLength (length m) (either-right (ltb 65535 (length m)) (ltb outputLength (length m)) long);
+    }
+
+parts-read : (f : Build) → readText (built f) none ≡ done (partsOf f)
+unfolding readText
+parts-read (build b (frame p t h ks) fs) = refl
+
+-- THE LAW: what is meant is what converting gives
+pub meant-converted : (given m : List ℕ) (outputLength memoryLength : ℕ) → Meant given outputLength memoryLength m → converted given outputLength memoryLength ≡ done m
+unfolding converted textItems tooLong _>>=_ refuseIf refuseAt
+meant-converted given m outputLength memoryLength x =
+    let written : List ℕ = manifestBytes (tokens given) (partsOf (x .tree)) in
+    let few : ltb 65535 (length written) ≡ false = le-ltb 65535 (length written) (rw (x .same) (x .manifestLength)) in
+    let fits : ltb outputLength (length written) ≡ false = le-ltb outputLength (length written) (rw (x .same) (x .outputFits)) in
+    rw (converted, le-ltb memoryLength 65536 (x .memory), le-ltb 65535 (length given) (x .textLength), reading-complete (x .reads), x .fewStrings, parts-read (x .tree), x .earlyLines, few, fits) (ap done (x .same))
