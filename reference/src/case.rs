@@ -93,7 +93,7 @@ pub fn answer_line(answer: &Answer, catalog: &[u8]) -> String {
     }
 }
 
-fn length(text: &str) -> Result<usize, String> {
+pub fn length(text: &str) -> Result<usize, String> {
     match text.parse() {
         Ok(length) if length <= LONGEST_LENT => Ok(length),
         _ => Err(format!("no length: {text}")),

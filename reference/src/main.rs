@@ -1,8 +1,8 @@
 //! The program made apart: device catalogs from a manifest, with label sets.
 //!
 //! It implements the scope paper (document 01), what is asked first in document
-//! 02 (default goes last) and our readings of both, and shares nothing with
-//! the compiler it is compared with. Plain Rust, edition 2021, the standard
+//! 02 (default goes last, manifests as people write them) and our readings of
+//! both, and shares nothing with the compiler it is compared with. Plain Rust, edition 2021, the standard
 //! library only.
 //!
 //! Building, either way:
@@ -31,12 +31,21 @@
 //! reference named NAME              a special input in batch format
 //! reference named --list            the names of the special inputs
 //! reference time-named [NAME]       nanoseconds for one compile of a special input, or of each
+//!
+//! reference convert < text          the manifest of a text
+//! reference print < manifest        the text of a manifest
+//! reference text-batch < cases      a text case to a line in; an answer to a line out
 //! ```
 //!
 //! A case is a line of five parts with single spaces between them: device,
 //! limit, output length, memory length, manifest. Byte strings are hexadecimal,
 //! '-' for an empty one; numbers are decimal. Its answer is `ok STEPS HEX`,
 //! where HEX is the catalog, or `refused NUMBER PLACE`.
+//!
+//! A text case is a line of four parts: `convert` or `print`, output length,
+//! memory length, and the text or manifest. Its answer is `ok HEX`, where HEX
+//! is what was written, or `refused NUMBER PLACE`. The calls `convert` and
+//! `print` say `refused NUMBER at PLACE` on standard error and exit with 1.
 //!
 //! The modules, from the bottom: `answer` (answers, the 23 reasons), `labels`,
 //! `tree` (the fields once read), `reader` (refusals 3, 4 and 5), `scopes`,
@@ -45,17 +54,24 @@
 //! fields), `random`, `program`, `shapes`, `generate`, `special` (named inputs),
 //! `case` (batch lines), `default_last` (which cases tell that a default is
 //! tried last), `modes` (what the arguments ask for).
+//!
+//! The text notation: `text_answer` (answers, refusals 24 to 26), `lexer`
+//! (tokens), `converter`, `walk` (a manifest's fields by offset), `printer`.
+//! For tests: `text_case` (lines), `text_modes`.
 
 mod answer;
 mod assemble;
 mod case;
 mod catalog;
 mod compile;
+mod converter;
 mod default_last;
 mod generate;
 mod labels;
+mod lexer;
 mod machine;
 mod modes;
+mod printer;
 mod program;
 mod random;
 mod reader;
@@ -63,7 +79,11 @@ mod schedule;
 mod scopes;
 mod shapes;
 mod special;
+mod text_answer;
+mod text_case;
+mod text_modes;
 mod tree;
+mod walk;
 
 #[cfg(test)]
 mod tests;

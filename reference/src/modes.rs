@@ -9,12 +9,14 @@ use crate::generate::cases;
 use crate::labels::Labels;
 use crate::schedule::schedule;
 use crate::special::{named, NAMED};
+use crate::text_case::Call;
+use crate::text_modes;
 use std::io::{self, BufRead, BufWriter, Read, Write};
 use std::time::{Duration, Instant};
 
 const USAGE: &str = "use: reference schedule | batch | default-last | generate SEED COUNT | \
                      histogram SEED COUNT | time SEED COUNT | named NAME | named --list | \
-                     time-named [NAME]";
+                     time-named [NAME] | convert | print | text-batch";
 
 pub fn run(arguments: &[String]) -> Result<(), String> {
     let words: Vec<&str> = arguments.iter().map(String::as_str).collect();
@@ -29,6 +31,9 @@ pub fn run(arguments: &[String]) -> Result<(), String> {
         ["named", name] => print_named(&find(name)?),
         ["time-named"] => return NAMED.iter().try_for_each(|(name, _)| time_named(name)),
         ["time-named", name] => return time_named(name),
+        ["convert"] => return text_modes::one(Call::Convert),
+        ["print"] => return text_modes::one(Call::Print),
+        ["text-batch"] => return text_modes::batch(),
         _ => return Err(USAGE.to_string()),
     };
     done.map_err(broken)
