@@ -17,14 +17,26 @@ fn case(random: &mut Random) -> Case {
         0 => whole_program(random),
         _ => shape(random),
     };
-    let bytes = match random.weighted(&[840, 80, 60, 15, 5]) {
+    let way = random.weighted(&[840, 80, 60, 15, 5]);
+    let bytes = damage(random, manifest, way);
+    lend(random, bytes)
+}
+
+/// The bytes of a manifest, damaged in one of the ways.
+pub fn damaged(random: &mut Random, manifest: Manifest) -> Vec<u8> {
+    let way = random.weighted(&[0, 80, 60, 15, 5]);
+    damage(random, manifest, way)
+}
+
+/// The bytes of a manifest, damaged in that way; the first is not at all.
+fn damage(random: &mut Random, manifest: Manifest, way: usize) -> Vec<u8> {
+    match way {
         0 => manifest.build().bytes,
         1 => damage_fields(random, manifest).build().bytes,
         2 => damage_bytes(random, manifest.build()),
         3 => damage_table(random, manifest).build().bytes,
         _ => odd_length(random, manifest.build().bytes),
-    };
-    lend(random, bytes)
+    }
 }
 
 /// A program, mostly a careful one.

@@ -35,6 +35,9 @@
 //! reference convert < text          the manifest of a text
 //! reference print < manifest        the text of a manifest
 //! reference text-batch < cases      a text case to a line in; an answer to a line out
+//! reference text-generate SEED COUNT   random text cases
+//! reference text-histogram SEED COUNT  how often each answer occurs among them, and why
+//! reference round-trip SEED COUNT   random trees and texts, there and back
 //! ```
 //!
 //! A case is a line of five parts with single spaces between them: device,
@@ -56,8 +59,10 @@
 //! tried last), `modes` (what the arguments ask for).
 //!
 //! The text notation: `text_answer` (answers, refusals 24 to 26), `lexer`
-//! (tokens), `converter`, `walk` (a manifest's fields by offset), `printer`.
-//! For tests: `text_case` (lines), `text_modes`.
+//! (tokens), `converter`, `walk` (a manifest's fields by offset), `printer`. For
+//! tests and random cases: `text_random` (texts by the grammar), `text_limits`
+//! (texts near limits), `text_trees` (manifests to print), `text_generate`,
+//! `text_trips` (there and back), `text_case` (lines), `text_modes`.
 
 mod answer;
 mod assemble;
@@ -81,7 +86,12 @@ mod shapes;
 mod special;
 mod text_answer;
 mod text_case;
+mod text_generate;
+mod text_limits;
 mod text_modes;
+mod text_random;
+mod text_trees;
+mod text_trips;
 mod tree;
 mod walk;
 

@@ -16,7 +16,9 @@ use std::time::{Duration, Instant};
 
 const USAGE: &str = "use: reference schedule | batch | default-last | generate SEED COUNT | \
                      histogram SEED COUNT | time SEED COUNT | named NAME | named --list | \
-                     time-named [NAME] | convert | print | text-batch";
+                     time-named [NAME] | convert | print | text-batch | \
+                     text-generate SEED COUNT | text-histogram SEED COUNT | \
+                     round-trip SEED COUNT";
 
 pub fn run(arguments: &[String]) -> Result<(), String> {
     let words: Vec<&str> = arguments.iter().map(String::as_str).collect();
@@ -34,6 +36,9 @@ pub fn run(arguments: &[String]) -> Result<(), String> {
         ["convert"] => return text_modes::one(Call::Convert),
         ["print"] => return text_modes::one(Call::Print),
         ["text-batch"] => return text_modes::batch(),
+        ["text-generate", seed, count] => text_modes::generate(number(seed)?, number(count)?),
+        ["text-histogram", seed, count] => text_modes::histogram(number(seed)?, number(count)?),
+        ["round-trip", seed, count] => return text_modes::round_trip(number(seed)?, number(count)?),
         _ => return Err(USAGE.to_string()),
     };
     done.map_err(broken)

@@ -1,7 +1,11 @@
 //! What the arguments ask of the text notation.
 
 use crate::text_case::{written_line, Call, TextCase};
+use crate::text_generate::text_cases;
+use crate::text_trips;
+use std::collections::BTreeMap;
 use std::io::{self, BufRead, BufWriter, Read, Write};
+use std::time::Instant;
 
 fn broken(error: io::Error) -> String {
     error.to_string()
@@ -30,5 +34,55 @@ pub fn batch() -> Result<(), String> {
         writeln!(out, "{}", written_line(&case.answer())).map_err(broken)?;
     }
     out.flush().map_err(broken)
+}
+
+pub fn generate(seed: u64, count: u64) -> io::Result<()> {
+    let mut out = BufWriter::new(io::stdout().lock());
+    for case in text_cases(seed, count) {
+        writeln!(out, "{}", case.line())?;
+    }
+    out.flush()
+}
+
+/// How often each answer occurs: by call, number and why.
+pub fn tally(seed: u64, count: u64) -> BTreeMap<(&'static str, u8, &'static str), u64> {
+    let mut tally = BTreeMap::new();
+    for case in text_cases(seed, count) {
+        let (number, why) = match case.answer() {
+            Ok(_) => (0, ""),
+            Err(refused) => (refused.number, refused.why),
+        };
+        let call = match case.call {
+            Call::Convert => "convert",
+            Call::Print => "print",
+        };
+        *tally.entry((call, number, why)).or_insert(0) += 1;
+    }
+    tally
+}
+
+pub fn histogram(seed: u64, count: u64) -> io::Result<()> {
+    let mut out = BufWriter::new(io::stdout().lock());
+    for ((call, number, why), times) in tally(seed, count) {
+        let share = 100.0 * times as f64 / count.max(1) as f64;
+        let answer = match (number, why) {
+            (0, _) => "ok".to_string(),
+            (_, "") => format!("refused {number}"),
+            _ => format!("refused {number}, {why}"),
+        };
+        writeln!(out, "{call} {answer}: {times} ({share:.2}%)")?;
+    }
+    out.flush()
+}
+
+pub fn round_trip(seed: u64, count: u64) -> Result<(), String> {
+    let started = Instant::now();
+    let (trees, texts) = text_trips::compare(seed, count)?;
+    let seconds = started.elapsed().as_secs_f64();
+    writeln!(
+        io::stdout().lock(),
+        "{trees} trees and {texts} texts compared in {seconds:.1} seconds"
+    )
+    .map_err(broken)
 }
 
