@@ -38,6 +38,9 @@
 //! reference text-generate SEED COUNT   random text cases
 //! reference text-histogram SEED COUNT  how often each answer occurs among them, and why
 //! reference round-trip SEED COUNT   random trees and texts, there and back
+//! reference text-named NAME         a special text or manifest as a text case
+//! reference text-named --list       the names of those
+//! reference time-text [NAME]        nanoseconds for one convert or print of one, or of each
 //! ```
 //!
 //! A case is a line of five parts with single spaces between them: device,
@@ -62,7 +65,8 @@
 //! (tokens), `converter`, `walk` (a manifest's fields by offset), `printer`. For
 //! tests and random cases: `text_random` (texts by the grammar), `text_limits`
 //! (texts near limits), `text_trees` (manifests to print), `text_generate`,
-//! `text_trips` (there and back), `text_case` (lines), `text_modes`.
+//! `text_named` (named inputs), `text_trips` (there and back), `text_case`
+//! (lines), `text_modes`.
 
 mod answer;
 mod assemble;
@@ -89,6 +93,7 @@ mod text_case;
 mod text_generate;
 mod text_limits;
 mod text_modes;
+mod text_named;
 mod text_random;
 mod text_trees;
 mod text_trips;

@@ -18,7 +18,8 @@ const USAGE: &str = "use: reference schedule | batch | default-last | generate S
                      histogram SEED COUNT | time SEED COUNT | named NAME | named --list | \
                      time-named [NAME] | convert | print | text-batch | \
                      text-generate SEED COUNT | text-histogram SEED COUNT | \
-                     round-trip SEED COUNT";
+                     round-trip SEED COUNT | text-named NAME | text-named --list | \
+                     time-text [NAME]";
 
 pub fn run(arguments: &[String]) -> Result<(), String> {
     let words: Vec<&str> = arguments.iter().map(String::as_str).collect();
@@ -39,6 +40,10 @@ pub fn run(arguments: &[String]) -> Result<(), String> {
         ["text-generate", seed, count] => text_modes::generate(number(seed)?, number(count)?),
         ["text-histogram", seed, count] => text_modes::histogram(number(seed)?, number(count)?),
         ["round-trip", seed, count] => return text_modes::round_trip(number(seed)?, number(count)?),
+        ["text-named", "--list"] => text_modes::list_names(),
+        ["text-named", name] => return text_modes::print_named(name),
+        ["time-text"] => return text_modes::time_all(),
+        ["time-text", name] => return text_modes::time(name),
         _ => return Err(USAGE.to_string()),
     };
     done.map_err(broken)

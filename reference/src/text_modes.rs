@@ -1,7 +1,9 @@
 //! What the arguments ask of the text notation.
 
+use crate::text_answer::{Written, LONGEST};
 use crate::text_case::{written_line, Call, TextCase};
 use crate::text_generate::text_cases;
+use crate::text_named::{text_named, TEXT_NAMED};
 use crate::text_trips;
 use std::collections::BTreeMap;
 use std::io::{self, BufRead, BufWriter, Read, Write};
@@ -9,6 +11,10 @@ use std::time::Instant;
 
 fn broken(error: io::Error) -> String {
     error.to_string()
+}
+
+fn find(name: &str) -> Result<TextCase, String> {
+    text_named(name).ok_or_else(|| format!("no input of that name: {name}"))
 }
 
 /// Converts or prints standard input. A refusal is a line of standard error
@@ -86,3 +92,40 @@ pub fn round_trip(seed: u64, count: u64) -> Result<(), String> {
     .map_err(broken)
 }
 
+pub fn list_names() -> io::Result<()> {
+    let mut out = io::stdout().lock();
+    for (name, _) in TEXT_NAMED {
+        writeln!(out, "{name}")?;
+    }
+    Ok(())
+}
+
+pub fn print_named(name: &str) -> Result<(), String> {
+    let line = find(name)?.line();
+    writeln!(io::stdout().lock(), "{line}").map_err(broken)
+}
+
+pub fn time_all() -> Result<(), String> {
+    TEXT_NAMED.iter().try_for_each(|(name, _)| time(name))
+}
+
+pub fn time(name: &str) -> Result<(), String> {
+    let case = find(name)?;
+    let started = Instant::now();
+    let written = std::hint::black_box(case.answer());
+    let nanoseconds = started.elapsed().as_nanos();
+    let given = case.bytes.len();
+    writeln!(
+        io::stdout().lock(),
+        "{name}: {nanoseconds} nanoseconds, {given} bytes in, {}",
+        in_short(&written)
+    )
+    .map_err(broken)
+}
+
+fn in_short(written: &Written) -> String {
+    match written {
+        Ok(bytes) if bytes.len() <= LONGEST => format!("{} bytes out", bytes.len()),
+        other => written_line(other),
+    }
+}
