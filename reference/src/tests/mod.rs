@@ -10,6 +10,7 @@ mod label_sets;
 mod lent;
 mod order;
 mod papers_cases;
+mod text;
 
 use crate::answer::Answer;
 use crate::assemble::*;
