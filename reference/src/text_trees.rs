@@ -33,7 +33,8 @@ pub fn printable(random: &mut Random) -> Manifest {
 /// A manifest of every form, in which anything may stand where the fields let
 /// it.
 fn any_tree(random: &mut Random) -> Manifest {
-    let items = (0..random.between(0, 6)).map(|_| any_item(random));
+    let count = random.weighted(&[1, 8, 8, 6, 4, 2]);
+    let items = (0..count).map(|_| any_item(random));
     Manifest::new(items.collect())
 }
 
