@@ -54,3 +54,4 @@ pub mod KnownFields
 pub mod KnownTree
 pub mod KnownTokens
 pub mod ConvertedExactly
+pub mod TablePart
