@@ -55,3 +55,4 @@ pub mod KnownTree
 pub mod KnownTokens
 pub mod ConvertedExactly
 pub mod TablePart
+pub mod LabelsLow

@@ -1,10 +1,10 @@
 -- A rising table whose strings are all in another rising table is a part of it: it weighs no more, whatever a string weighs. So a text whose
 -- strings are those of a sound manifest brings no string too many.
 use Prim.Native.Nat.{ℕ, _+_, _≤_}
-use mathlib.Core.Path.{_≡_, refl, sym}
+use mathlib.Core.Path.{_≡_, refl}
 use mathlib.Core.Bool.{Bool, true, false}
 use mathlib.Core.List.{List, [], _∷_}
-use mathlib.Core.Option.{Option, none, some}
+use mathlib.Core.Option.{none}
 use native.Mathlib.Omega.{arith}
 use lib.Dec.{ltb}
 use lib.ListN.{length}
@@ -14,7 +14,7 @@ use Rattle.rules.specs.Check.{ascends}
 use Rattle.rules.specs.Ranges.{Each, noneLeft, also}
 use Rattle.rules.proofs.Lists.{each-map}
 use Rattle.rules.proofs.Within.{false-not-true}
-use Rattle.notation.specs.Tokens.{Lexeme, tokenOf, placeOf}
+use Rattle.notation.specs.Tokens.{Lexeme, tokenOf}
 use Rattle.notation.specs.Convert.{stringsOf, enteredAll, crowdedAt}
 use Rattle.notation.proofs.WrittenNames.{Rising, noString, oneString, nextString}
 use Rattle.notation.proofs.StringTable.{Among, atFirst, later, StringsIn, all-each, all-rising}

@@ -33,7 +33,7 @@ use Rattle.notation.proofs.WrittenNames.{Rising, noString, oneString, n
 -- ---- Texts
 
 -- bytes taken of bytes are bytes
-taken-bytes : (n : ℕ) (m : List ℕ) → IsBytes m → IsBytes (takeBytes n m)
+pub taken-bytes : (n : ℕ) (m : List ℕ) → IsBytes m → IsBytes (takeBytes n m)
 taken-bytes n m b = record { below = λ i. go n m (b .below) i }
   where
     go : (n : ℕ) (m : List ℕ) → ((i : ℕ) → byte m i < 256) → (i : ℕ) → byte (takeBytes n m) i < 256
@@ -43,7 +43,7 @@ taken-bytes n m b = record { below = λ i. go n m (b .below) i }
     go (suc n) (x ∷ m) b (suc i) = go n m (λ j. b (suc j)) i
 
 -- and so are bytes from a place on
-later-bytes : (a : ℕ) (m : List ℕ) → IsBytes m → IsBytes (drop a m)
+pub later-bytes : (a : ℕ) (m : List ℕ) → IsBytes m → IsBytes (drop a m)
 later-bytes a m b = record { below = λ i. rw (getD-drop a m i 0) (b .below (a + i)) }
 
 -- a body cut out by its ends is the text taken by its length
