@@ -56,3 +56,4 @@ pub mod KnownTokens
 pub mod ConvertedExactly
 pub mod TablePart
 pub mod LabelsLow
+pub mod NumberedBack

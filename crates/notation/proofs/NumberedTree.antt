@@ -52,7 +52,7 @@ two-bytes v h =
 
 module _ (table : List (List ℕ)) where
   -- bytes are themselves
-  plain-bytes : (bs : List ℕ) → headBytes table (map byte bs) ≡ bs
+  pub plain-bytes : (bs : List ℕ) → headBytes table (map byte bs) ≡ bs
   unfolding headBytes pieceBytes
   plain-bytes [] = refl
   plain-bytes (b ∷ bs) = ap (λ (cs : List ℕ). b ∷ cs) (plain-bytes bs)

@@ -187,7 +187,7 @@ module _ (strings : List (List ℕ)) {Given : Type 0} (given : Given) where
 
 -- ---- The manifest
 
-others-unplaced : (ks : Fields) → others (unplacedAll ks) ≡ unplacedAll (others ks)
+pub others-unplaced : (ks : Fields) → others (unplacedAll ks) ≡ unplacedAll (others ks)
 unfolding others unplaced
 others-unplaced none = refl
 others-unplaced (more k ks) = refl
