@@ -57,3 +57,4 @@ pub mod ConvertedExactly
 pub mod TablePart
 pub mod LabelsLow
 pub mod NumberedBack
+pub mod ConvertedLength

@@ -120,7 +120,7 @@ nothing-right i Operator = refl
 nothing-right i Name = refl
 
 -- so the pieces of a text are none
-text-head : (t : ℕ) → formOf t .rest ≡ Text → HeadIs (formOf t) []
+pub text-head : (t : ℕ) → formOf t .rest ≡ Text → HeadIs (formOf t) []
 text-head t e =
     let l : Form = formOf t in
     let none-there : headSize l ≡ 0 = eqb-true _ _ (subst (λ (x : Rest). plain x (headSize (formOf t)) ≡ true) e (text-plain t)) in
