@@ -58,3 +58,4 @@ pub mod TablePart
 pub mod LabelsLow
 pub mod NumberedBack
 pub mod ConvertedLength
+pub mod ConvertedBack
