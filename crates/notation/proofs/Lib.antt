@@ -59,3 +59,4 @@ pub mod LabelsLow
 pub mod NumberedBack
 pub mod ConvertedLength
 pub mod ConvertedBack
+pub mod LaidGood

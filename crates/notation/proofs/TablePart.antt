@@ -72,7 +72,7 @@ others-rise (nextString e up) = up
 -- ---- A part of a table
 
 -- what holds of each string holds of one that is among them
-among-each : {P : List ℕ → Type 0} {s : List ℕ} {ss : List (List ℕ)} → Among s ss → Each P ss → P s
+pub among-each : {P : List ℕ → Type 0} {s : List ℕ} {ss : List (List ℕ)} → Among s ss → Each P ss → P s
 among-each atFirst (also p all) = p
 among-each (later i) (also p all) = among-each i all
 
