@@ -4,17 +4,16 @@ use mathlib.Core.Path.{_≡_, refl, sym, ap, _∙_, subst}
 use mathlib.Core.Bool.{Bool, true, false, _||_}
 use mathlib.Core.List.{List, [], _∷_}
 use mathlib.Core.Option.{Option, none, some}
-use native.Mathlib.Omega.{arith}
 use lib.Dec.{ltb}
 use lib.ListN.{length}
 use borrow.Author.Tests.{ltb-false, le-ltb}
-use Rattle.values.specs.declared.Reason.{Reason}
 use Rattle.rules.specs.Outcome.{Outcome, refused, done, _>>=_, refuseIf}
 use Rattle.rules.proofs.Lists.{either-left, either-right}
 use Rattle.notation.specs.Lexing.{tokens}
 use Rattle.notation.specs.Building.{Nodes, frame, Build, build, start}
 use Rattle.notation.specs.Grammar.{Reads, manifest, Ended, built, fault, reading}
 use Rattle.notation.specs.Convert.{crowdedAt, readText, lateAmong, refuseAt, tooLong, textItems, manifestBytes, converted}
+use Rattle.notation.proofs.Outcomes.{refused-not-done}
 use Rattle.notation.proofs.OneReading.{reading-sound, reading-complete}
 use Rattle.notation.proofs.ConvertedSound.{converted-steps}
 
@@ -33,9 +32,6 @@ pub record Meant (given : List ℕ) (outputLength memoryLength : ℕ) (m : List 
   pub same : manifestBytes (tokens given) (partsOf tree) ≡ m
   pub manifestLength : length m ≤ 65535
   pub outputFits : length m ≤ outputLength
-
-refused-not-done : {A B : Type 0} {r : Reason} {p : ℕ} {a : A} → refused r p ≡ done a → B
-refused-not-done e = absurd (let z : _≡_ {A = ℕ} 0 1 = cc in omega arith)
 
 -- what was read whole
 record Whole (e : Ended) (crowded : Option ℕ) (items : Nodes) : Type 0 where

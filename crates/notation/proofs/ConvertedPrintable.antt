@@ -26,8 +26,9 @@ use Rattle.notation.proofs.LexedGood.{tokens-good}
 use Rattle.notation.proofs.ConvertedSound.{ReadWhole, items-has, manifest-complete, strings-back, text-whole, converted-steps}
 use Rattle.notation.proofs.LabelsRise.{Lines, AllRise, tree-rises}
 use Rattle.notation.proofs.LinesRise.{lines-rise}
+use Rattle.notation.proofs.TypedNamed.{others-unplaced}
 use Rattle.notation.proofs.Printable.{over-nodes}
-use Rattle.notation.proofs.OverUnplaced.{table-unplaced, others-unplaced, labelAfter, not-stopped, over-all-unplaced}
+use Rattle.notation.proofs.OverUnplaced.{table-unplaced, labelAfter, not-stopped, over-all-unplaced}
 
 -- ---- The whole
 

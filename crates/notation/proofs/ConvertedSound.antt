@@ -27,6 +27,7 @@ use Rattle.notation.specs.Lexing.{tokens}
 use Rattle.notation.specs.Building.{Nodes, empty, tallest, frame, build}
 use Rattle.notation.specs.Grammar.{Ended, built, fault, reading}
 use Rattle.notation.specs.Convert.{stringsOf, tableBehind, crowdedAt, stringFields, numberedOnto, manifestFields, readText, lateAmong, refuseAt, tooLong, textItems, manifestBytes, converted}
+use Rattle.notation.proofs.Outcomes.{refused-not-done, both-done, not-refused, not-refused-at}
 use Rattle.notation.proofs.Stands.{write-nonempty}
 use Rattle.notation.proofs.Written.{after, noField, alsoField, Complete, ShortText, Right, manifestParts, bytes-right}
 use Rattle.notation.proofs.WrittenNames.{AllKnown, noneKnown, Rising, noString}
@@ -53,11 +54,11 @@ good-strings (classVariable c n) g = also (g .0 .known) (also (g .1 .known) none
 good-strings (mark k) g = noneLeft
 
 -- the first of some strings
-each-first : {P : List ℕ → Type 0} {s : List ℕ} {ss : List (List ℕ)} → Each P (s ∷ ss) → P s
+pub each-first : {P : List ℕ → Type 0} {s : List ℕ} {ss : List (List ℕ)} → Each P (s ∷ ss) → P s
 each-first (also p ps) = p
 
 -- the second of some strings
-each-second : {P : List ℕ → Type 0} {s t : List ℕ} {ss : List (List ℕ)} → Each P (s ∷ t ∷ ss) → P t
+pub each-second : {P : List ℕ → Type 0} {s t : List ℕ} {ss : List (List ℕ)} → Each P (s ∷ t ∷ ss) → P t
 each-second (also p (also q ps)) = q
 
 -- a token stays good where something else is known of its strings
@@ -161,34 +162,6 @@ module _ {xs : List Lexeme} {items : Nodes} (r : ReadWhole xs items) (late : lat
 
 -- ---- The whole
 
--- two steps that end well
-record Both {A B : Type 0} (o : Outcome A) (f : A → Outcome B) (z : B) : Type 0 where
-  between : A
-  before : o ≡ done between
-  behind : f between ≡ done z
-
--- what ends well in two steps does so in each
-both-done : {A B : Type 0} (o : Outcome A) (f : A → Outcome B) (z : B) → (o >>= f) ≡ done z → Both o f z
-unfolding _>>=_
-both-done (refused x p) f z e = let i : _≡_ {A = ℕ} 0 1 = cc in absurd (omega arith)
-both-done (done a) f z e = record { between = a; before = refl; behind = e }
-
--- a test that does not refuse
-not-refused : (b : Bool) (x : Reason) (p : ℕ) {z : Unit {0}} → refuseIf b x p ≡ done z → b ≡ false
-unfolding refuseIf
-not-refused true x p e = let i : _≡_ {A = ℕ} 0 1 = cc in absurd (omega arith)
-not-refused false x p e = refl
-
--- nothing was found to refuse
-not-refused-at : (o : Option ℕ) (x : Reason) {z : Unit {0}} → refuseAt o x ≡ done z → o ≡ none
-unfolding refuseAt
-not-refused-at none x e = refl
-not-refused-at (some p) x e = let i : _≡_ {A = ℕ} 0 1 = cc in absurd (omega arith)
-
--- a fault is no tree
-fault-not-done : {A : Type 0} {items : Nodes} {x : Reason} {p : ℕ} → _≡_ {A = Outcome Nodes} (refused x p) (done items) → A
-fault-not-done e = let i : _≡_ {A = ℕ} 0 1 = cc in absurd (omega arith)
-
 -- good tokens that are read are read whole
 pub text-whole : (xs : List Lexeme) (items : Nodes) → Each GoodLexeme xs → textItems xs ≡ done items → ReadWhole xs items
 unfolding textItems readText
@@ -210,9 +183,9 @@ text-whole xs items good e = go (reading xs) refl (crowdedAt xs []) refl e
           few = table-size xs [] (omega arith) j;
           short = table-each [] (each-map (λ (x : Lexeme) g. good-strings (tokenOf x) g) good) noneLeft;
         }
-    go (built f) i (some q) j e = fault-not-done e
-    go (fault p) i none j e = fault-not-done e
-    go (fault p) i (some q) j e = fault-not-done e
+    go (built f) i (some q) j e = refused-not-done e
+    go (fault p) i none j e = refused-not-done e
+    go (fault p) i (some q) j e = refused-not-done e
 
 -- what is known of a manifest that converting gives
 pub record Manifest (m : List ℕ) : Type 0 where

@@ -60,3 +60,5 @@ pub mod NumberedBack
 pub mod ConvertedLength
 pub mod ConvertedBack
 pub mod LaidGood
+pub mod RoundTrip
+pub mod Outcomes

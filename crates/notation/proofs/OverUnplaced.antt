@@ -29,12 +29,6 @@ unfolding unplaced first inner
 table-unplaced noFields = refl
 table-unplaced (more (field p t h js) ks) = strings-unplaced js
 
--- the fields after the first
-pub others-unplaced : (ks : Fields) → others (unplacedAll ks) ≡ unplacedAll (others ks)
-unfolding unplaced others
-others-unplaced noFields = refl
-others-unplaced (more k ks) = refl
-
 -- the label of the last constant, where going over fields stops nowhere
 abbrev pub labelAfter : Gone → Option ℕ
 labelAfter (stops p) = none

@@ -5,7 +5,6 @@ use mathlib.Core.Bool.{Bool, true, false, _&&_}
 use mathlib.Core.List.{List, [], _∷_, _++_}
 use mathlib.Core.Option.{Option, none, some}
 use native.Mathlib.Omega.{arith}
-use lib.IntN.{pos, negsuc}
 use Rattle.rules.specs.Bytes.{pick, byte}
 use Rattle.rules.specs.Format.{isConstant}
 use Rattle.rules.specs.Check.{check}
@@ -24,6 +23,7 @@ use Rattle.notation.specs.Tokens.{Token, word, number, text, variable, t
 use Rattle.notation.specs.Lexing.{tokens}
 use Rattle.notation.specs.Building.{Node, node, Nodes, empty, _▸_, Frame, frame, Build, build}
 use Rattle.notation.specs.Grammar.{Ended, built, fault, reading}
+use Rattle.notation.specs.Convert.{stringsOf}
 use Rattle.notation.specs.Print.{the, printedItems}
 use Rattle.notation.specs.Printer.{labelRight, namesSpellable, typeRight, Gone, stops, past, going, stoppedAt, over, overAll, unprintableAt, tokensOf, textOf}
 use Rattle.notation.specs.Named.{namedHead, named, namedOnto, namedTree}
@@ -31,18 +31,21 @@ use Rattle.notation.proofs.Unplaced.{bare, bares, unplaced, unplacedAll
 use Rattle.notation.proofs.Expected.{itemsOnto}
 use Rattle.notation.proofs.EntriesBack.{EachOf}
 use Rattle.notation.proofs.ItemsBack.{WholeItem, round-trip}
-use Rattle.notation.proofs.LexedMarks.{spelledMarks}
-use Rattle.notation.proofs.LaidOut.{Spelled, Layable, endLine, text-lexed}
+use Rattle.notation.proofs.LaidOut.{Layable, endLine, text-lexed}
+use Rattle.notation.proofs.LaidGood.{laid-good, lexed-each}
 use Rattle.notation.proofs.StatementsLaid.{constantsOfItems, laid-manifest}
 use Rattle.notation.proofs.PassedFields.{Passes}
 use Rattle.notation.proofs.Passed.{FoundItems, items-passed}
 use Rattle.notation.proofs.PrintedThen.{items-then}
-use Rattle.notation.proofs.TableStrings.{strings-short}
+use Rattle.notation.proofs.TableStrings.{each-short, strings-short}
 use Rattle.notation.proofs.TypedNamed.{items-back, tree-named}
 use Rattle.notation.proofs.TypedWhole.{manifest-whole}
 use Rattle.notation.proofs.TreeLow.{tree-low}
-use Rattle.notation.proofs.FormedNodes.{Word}
-use Rattle.notation.proofs.FormedTokens.{Good}
+use Rattle.notation.proofs.Written.{ShortText}
+use Rattle.notation.proofs.StringTable.{Among, StringsIn}
+use Rattle.notation.proofs.LexedTokens.{GoodToken}
+use Rattle.notation.proofs.LexedGood.{GoodLexeme}
+use Rattle.notation.proofs.KnownTokens.{tokens-known}
 use Rattle.notation.proofs.Trees.{Items, tree-listed}
 use Rattle.notation.proofs.OverUnplaced.{Passed, never-stopped, goes-past, labelAfter, over-all-unplaced}
 
@@ -51,49 +54,6 @@ use Rattle.notation.proofs.OverUnplaced.{Passed, never-stopped, goes-pa
 bares-append : (xs ys : List Lexeme) → bares (xs ++ ys) ≡ bares xs ++ bares ys
 bares-append [] ys = refl
 bares-append (x ∷ xs) ys = ap (λ (zs : List Lexeme). bare x ∷ zs) (bares-append xs ys)
-
-abbrev Known : List ℕ → Type 0
-Known s = Unit {0}
-
-abbrev GoodLexeme : Lexeme → Type 0
-GoodLexeme x = Good Known (tokenOf x)
-
--- no kind of a mark that is spelled is that of another token
-mark-kind : (k : ℕ) → isAmong k spelledMarks ≡ true → 5 ≤ k
-mark-kind zero h = false-not-true h
-mark-kind (suc zero) h = false-not-true h
-mark-kind (suc (suc zero)) h = false-not-true h
-mark-kind (suc (suc (suc zero))) h = false-not-true h
-mark-kind (suc (suc (suc (suc zero)))) h = false-not-true h
-mark-kind (suc (suc (suc (suc (suc k))))) h = omega arith
-
--- tokens that are spelled are good
-spelled-good : (before : Option ℕ) (t : Token) → Spelled before t → Good Known t
-spelled-good before (word w) h = record { known = tt; spelled = h .0 }
-spelled-good before (number (pos n)) h = tt
-spelled-good before (number (negsuc n)) h = tt
-spelled-good before (text s) h = tt
-spelled-good before (variable n) h = record { known = tt; spelled = h .0 }
-spelled-good before (topVariable n) h = record { known = tt; spelled = h .0 }
-spelled-good before (classVariable c n) h = (record { known = tt; spelled = h .0 .0 }, record { known = tt; spelled = h .1 .0 })
-spelled-good before (mark k) h = mark-kind k (h .0)
-
-layable-good : (xs : List Lexeme) (before : Option ℕ) (v : ℕ) → Layable before v xs → Each GoodLexeme xs
-layable-good [] before v h = noneLeft
-layable-good (lexeme p w t ∷ xs) before v h = also (spelled-good before t (h .1)) (layable-good xs (some (kind t)) w (h .2))
-
--- what holds of tokens whatever their places holds of those with the same bare tokens
-good-same : (xs ys : List Lexeme) → bares xs ≡ bares ys → Each GoodLexeme ys → Each GoodLexeme xs
-good-same [] ys e h = noneLeft
-good-same (x ∷ xs) [] e h = absurd (let z : _≡_ {A = ℕ} 0 1 = cc in omega arith)
-good-same (lexeme p l t ∷ xs) (lexeme q m u ∷ ys) e (also g gs) =
-    let token : t ≡ u = cc in
-    let rest : bares xs ≡ bares ys = cc in
-    also (subst (λ (x : Token). Good Known x) (sym token) g) (good-same xs ys rest gs)
-
-good-append : (xs : List Lexeme) (v : ℕ) → Each GoodLexeme xs → Each GoodLexeme (xs ++ (the v endOfText ∷ []))
-good-append [] v h = also {x = the v endOfText} (omega arith) noneLeft
-good-append (x ∷ xs) v (also g gs) = also g (good-append xs v gs)
 
 -- ---- The tree by its names has no places
 
@@ -172,16 +132,22 @@ module _ (m : List ℕ) (bytes : IsBytes m) (sound : check m ≡ Sound) (printab
   unfolding unplacedEnded unplacedBuild unplacedFrame unplacedFrames
   same-nodes ks e = cc
 
+  -- what holds of the strings of the printed tokens holds of those of the text
+  pub text-known : Each (StringsIn (λ s. Among s (manifestOf m .strings))) (tokens (textOf (manifestOf m)))
+  unfolding textOf tokensOf stringsOf
+  text-known = lexed-each (λ t. Each (λ s. Among s (manifestOf m .strings)) (stringsOf t)) (tokens (textOf (manifestOf m))) xs last (text-lexed xs layable) (tokens-known m bytes sound) noneLeft
+
+  pub text-good : Each GoodLexeme (tokens (textOf (manifestOf m)))
+  unfolding textOf tokensOf
+  text-good = lexed-each GoodToken (tokens (textOf (manifestOf m))) xs last (text-lexed xs layable) (laid-good (each-short m bytes sound) none 0 xs layable (tokens-known m bytes sound)) (omega arith)
+
   -- THE LAW: the text of a manifest is read as that manifest's tree
   pub read-back : ReadBack m
   unfolding unplacedEnded
   read-back = go (reading (tokens (textOf (manifestOf m)))) refl unplaced-read
     where
-      good : Each GoodLexeme (tokens (textOf (manifestOf m)))
-      good = good-same _ _ text-tokens (good-append xs last (layable-good xs none 0 layable))
-
       go : (e : Ended) → reading (tokens (textOf (manifestOf m))) ≡ e → unplacedEnded e ≡ built (build 0 (frame 0 0 [] (namedTree m)) []) → ReadBack m
       go (fault p) e h = absurd (let z : _≡_ {A = ℕ} 0 1 = cc in omega arith)
       go (built g) e h =
-          let t = tree-listed Known (tokens (textOf (manifestOf m))) g good e in
+          let t = tree-listed ShortText (tokens (textOf (manifestOf m))) g text-good e in
           record { items = t .nodes; whole = e ∙ ap built (t .same); same = same-nodes (t .nodes) (ap (λ (f : Build). unplacedEnded (built f)) (sym (t .same)) ∙ h) }

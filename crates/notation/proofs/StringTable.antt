@@ -120,13 +120,13 @@ all-there {r} (atFirst {table = ss}) table = all-kept ss (entered-there r table)
 all-there (later {t = t} i) table = all-there i (entered t table)
 
 -- P holds of all
-all-each : {P : List ℕ → Type 0} {ss : List (List ℕ)} (table : List (List ℕ)) → Each P ss → Each P table → Each P (enteredAll ss table)
+pub all-each : {P : List ℕ → Type 0} {ss : List (List ℕ)} (table : List (List ℕ)) → Each P ss → Each P table → Each P (enteredAll ss table)
 unfolding enteredAll
 all-each table noneLeft all = all
 all-each table (also {x = s} p ps) all = all-each (entered s table) ps (entered-each s table p all)
 
 -- they rise
-all-rising : (ss table : List (List ℕ)) → Rising table → Rising (enteredAll ss table)
+pub all-rising : (ss table : List (List ℕ)) → Rising table → Rising (enteredAll ss table)
 unfolding enteredAll
 all-rising [] table up = up
 all-rising (s ∷ ss) table up = all-rising ss (entered s table) (entered-rising s table up)
