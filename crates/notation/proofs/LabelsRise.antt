@@ -100,7 +100,7 @@ module _ {p t : ℕ} {h : List Piece} {ks : Nodes} {fs : List Frame} where
   frame-closed (inFrame d (inFrame c r i) a) = inFrame c r (alsoRise i (risesPlain d a))
 
 -- no tag of a constant
-plain-tag : (t : ℕ) → not (isConstant t) ≡ true → isConstant t ≡ false
+pub plain-tag : (t : ℕ) → not (isConstant t) ≡ true → isConstant t ≡ false
 plain-tag t e = go (isConstant t) e
   where
     go : (b : Bool) → not b ≡ true → b ≡ false
@@ -108,7 +108,7 @@ plain-tag t e = go (isConstant t) e
     go false e = refl
 
 -- no resource has the tag of a constant
-resource-plain : (w : List ℕ) → isConstant (resourceTag w) ≡ false
+pub resource-plain : (w : List ℕ) → isConstant (resourceTag w) ≡ false
 unfolding resourceTag
 resource-plain w = go (any (sameBytes w) builtInTypes)
   where

@@ -62,3 +62,6 @@ pub mod ConvertedBack
 pub mod LaidGood
 pub mod RoundTrip
 pub mod Outcomes
+pub mod ConstantLines
+pub mod LabelsAreLines
+pub mod ConvertedLines
