@@ -1,25 +1,20 @@
 -- What converting a text gives can be printed, apart from its length.
 use Prim.Native.Nat.{ℕ, _≤_}
-use mathlib.Core.Path.{_≡_, refl, sym, ap, subst, _∙_}
-use mathlib.Core.Bool.{Bool, true, false, _&&_}
-use mathlib.Core.List.{List, [], _∷_}
-use mathlib.Core.Option.{Option, none, some}
-use lib.Dec.{eqb}
+use mathlib.Core.Path.{_≡_, sym, ap, subst, _∙_}
+use mathlib.Core.List.{List, []}
+use mathlib.Core.Option.{none, some}
 use lib.ListN.{length}
-use Rattle.rules.specs.Bytes.{pick, byte as byteAt}
-use Rattle.rules.specs.Format.{isConstant}
 use Rattle.rules.specs.EditRule.{IsBytes}
-use Rattle.rules.specs.Fields.{Field, field, Fields, none as noFields, more, readAll, writeAll, headOf, tagOf, inner, first, others}
+use Rattle.rules.specs.Fields.{Fields, none as noFields, readAll, writeAll, inner, first, others}
 use Rattle.rules.specs.Outcome.{done}
 use Rattle.rules.specs.Read.{stringsFrom, manifestFrom, manifestOf}
-use Rattle.rules.proofs.TypedBack.{unplaced, unplacedAll}
+use Rattle.rules.proofs.TypedBack.{unplacedAll}
 use Rattle.notation.specs.Tokens.{Lexeme}
 use Rattle.notation.specs.Lexing.{tokens}
 use Rattle.notation.specs.Building.{Nodes}
 use Rattle.notation.specs.Convert.{tableBehind, manifestFields, lateAmong, manifestBytes, converted}
-use Rattle.notation.specs.Printer.{namesSpellable, typeRight, labelRight, Gone, stops, past, going, over, overAll, stoppedAt, unprintableAt}
+use Rattle.notation.specs.Printer.{past, over, overAll, unprintableAt}
 use Rattle.notation.proofs.WrittenRead.{read-back}
-use Rattle.notation.proofs.NeedsKept.{none-not-some, same-result}
 use Rattle.notation.proofs.Formed.{AllFormed}
 use Rattle.notation.proofs.StringTable.{Numbered}
 use Rattle.notation.proofs.LexedGood.{tokens-good}

@@ -1,20 +1,19 @@
 -- What converting a text gives is a manifest that passes the check.
 use Prim.Native.Nat.{ℕ, zero, suc, _-_, _<_, _≤_}
 use mathlib.Core.Path.{_≡_, refl, ap, subst, _∙_}
-use mathlib.Core.Bool.{Bool, true, false}
+use mathlib.Core.Bool.{false}
 use mathlib.Core.List.{List, [], _∷_}
 use mathlib.Core.Option.{Option, none, some}
 use native.Mathlib.Omega.{arith}
 use lib.Dec.{ltb, eqb}
 use lib.ListN.{length, length-append}
 use borrow.Author.Tests.{ltb-false, ne-eqb}
-use Rattle.values.specs.declared.Reason.{Reason}
 use Rattle.values.specs.declared.Reason.the-variants.{MemoryTooShort, OutsideNotation, PastLine255}
 use Rattle.rules.specs.Format.{three, allowed, take, follow, forms, formIn, formOf, size, headSize, mayEnd, partMayEnd, pieceRight}
 use Rattle.rules.specs.Check.{check}
 use Rattle.rules.specs.EditRule.{IsBytes}
 use Rattle.rules.specs.Fields.{Field, field, none as noFields, write, writeAll, headOf, tagOf, inner, first, others}
-use Rattle.rules.specs.Outcome.{Outcome, refused, done, _>>=_, refuseIf}
+use Rattle.rules.specs.Outcome.{done, refuseIf}
 use Rattle.rules.specs.Ranges.{Each, noneLeft, also}
 use Rattle.rules.specs.Read.{stringsFrom}
 use Rattle.rules.specs.declared.Kind.the-variants.{Text as AText, Item}

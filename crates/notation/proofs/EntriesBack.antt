@@ -1,5 +1,5 @@
 -- Printed entries with commas are read back, if each entry is: attributes, parameters and devices.
-use Prim.Native.Nat.{ℕ, _+_, _≤_, max}
+use Prim.Native.Nat.{ℕ, _+_, _≤_}
 use mathlib.Core.Path.{_≡_, refl}
 use mathlib.Core.List.{List, [], _∷_}
 use mathlib.Core.Option.{none, some}
@@ -10,7 +10,7 @@ use Rattle.notation.specs.Tokens.{Lexeme, kind, tokenOf, comma}
 use Rattle.notation.specs.Building.{Piece, Node, Nodes, _▸_, height, tallest, Frame, frame, build, acts}
 use Rattle.notation.specs.Grammar.{Symbol, row, rowOf, leftOut, binds}
 use Rattle.notation.specs.Print.{the, Rest, printedEntries}
-use Rattle.notation.proofs.Machine.{State, state, _⇒_, _▹_, take, leave}
+use Rattle.notation.proofs.Machine.{state, _⇒_, _▹_, take, leave}
 use Rattle.notation.proofs.Steps.{Calm}
 use Rattle.notation.proofs.Expected.{lastLineEntries, nodesOnto}
 

@@ -1,8 +1,8 @@
 -- A printed expression is read back: one lemma for each form.
-use Prim.Native.Nat.{ℕ, zero, suc, _+_, _≤_, _<_, max}
+use Prim.Native.Nat.{ℕ, suc, _+_, _≤_, _<_}
 use mathlib.Core.Path.{_≡_, refl, ap, _∙_}
 use mathlib.Core.List.{List, [], _∷_, _++_}
-use mathlib.Core.Option.{Option, none, some}
+use mathlib.Core.Option.{some}
 use mathlib.Core.Bool.{Bool, true, false, _&&_}
 use native.Mathlib.Omega.{arith}
 use lib.Dec.{leb}
@@ -15,13 +15,13 @@ use Rattle.values.specs.declared.Value.{Value}
 use Rattle.values.specs.declared.Value.the-variants.{Integer, String, Boolean}
 use Rattle.rules.specs.Tree.{Constant, Operator, plus, minus, divide, greater, equal, and, or, Expression, constant, variable, topVariable, classVariable, operation, negation, attributeRead, selector, Arms, noArm, arm, defaultArm}
 use Rattle.rules.specs.Tree
-use Rattle.notation.specs.Tokens.{Lexeme, lexeme, mark, kind, tokenOf, rightRound, leftBrace, rightBrace, arrow, comma, question, defaultWord}
+use Rattle.notation.specs.Tokens.{Lexeme, lexeme, kind, tokenOf, rightRound, leftBrace, rightBrace, arrow, comma, question, defaultWord}
 use Rattle.notation.specs.Lexing.{find}
 use Rattle.notation.specs.Building.{Piece, byte, Node, Nodes, empty, _▸_, height, tallest, Frame, frame, Build, build, Action, around, acts, act, added, constantNode, variableNode, spelled}
-use Rattle.notation.specs.Grammar.{Symbol, expression, operators, ends, sign, one, maybe, further, Entry, entryRows, Row, row, rowOf, leftOut, binds, operatorByte}
+use Rattle.notation.specs.Grammar.{Symbol, expression, operators, ends, sign, one, maybe, further, Entry, entryRows, row, rowOf, leftOut, binds, operatorByte}
 use Rattle.notation.specs.Print.{the, Rest, bracketed, operatorKind, levelOf, valueToken, constantLexeme, printed, printedArms}
-use Rattle.notation.proofs.Machine.{State, state, _⇒_, _▹_, take, leave}
-use Rattle.notation.proofs.Steps.{Calm, Below, calmer, operators-pass, height-positive, added-fits, acts-first, take-begin, take-adding, take-around, take-enter, ends-here}
+use Rattle.notation.proofs.Machine.{state, _⇒_, _▹_, take, leave}
+use Rattle.notation.proofs.Steps.{Calm, calmer, operators-pass, height-positive, added-fits, acts-first, take-begin, take-adding, take-around, take-enter, ends-here}
 use Rattle.notation.proofs.Expected.{lastLine, lastLineArms, bareNode, defaultNode, valueNode, constantNodeOf, nodeOf, armsOnto}
 
 -- ---- Operators

@@ -1,13 +1,13 @@
 -- The tokens of a manifest that passes check 26 can be laid out: they are spelled as the lexer reads them, and their lines rise. Each lemma takes the
 -- constants that come behind its form, so that a form's constants and those behind them rise together.
-use Prim.Native.Nat.{ℕ, suc, _≤_, _<_}
+use Prim.Native.Nat.{ℕ, suc, _≤_}
 use mathlib.Core.Path.{_≡_, refl, sym}
 use mathlib.Core.Bool.{Bool, true, false}
-use mathlib.Core.List.{List, [], _∷_, _++_}
-use mathlib.Core.Option.{Option, none, some}
+use mathlib.Core.List.{List, _∷_, _++_}
+use mathlib.Core.Option.{Option, some}
 use native.Mathlib.Omega.{arith}
 use lib.Dec.{leb, eqb}
-use lib.IntN.{ℤ, pos, negsuc}
+use lib.IntN.{pos, negsuc}
 use lib.ListN.{length}
 use borrow.Author.Tests.{ltb-true}
 use Rattle.values.specs.declared.Value.{Value}
@@ -16,9 +16,9 @@ use Rattle.rules.specs.Arithmetic.{fits64}
 use Rattle.rules.specs.Tree.{Constant, Operator, plus, minus, divide, greater, equal, and, or, Expression, constant, variable, topVariable, classVariable, operation, negation, attributeRead, selector, Arms, noArm, arm, defaultArm}
 use Rattle.rules.specs.Tree
 use Rattle.rules.proofs.Within.{false-not-true}
-use Rattle.notation.specs.Tokens.{Token, Lexeme, kind, aVariable, aQualified, leftRound, rightRound, leftBrace, rightBrace, leftSquare, rightSquare, colon, comma, exclamation, arrow, operandBehind, isAmong}
-use Rattle.notation.specs.Print.{at, the, Rest, constantsOf, constantsOfArms, lineFor, operatorKind, levelOf, bracketed, separated, valueToken, constantLexeme, printed, printedArms}
-use Rattle.notation.proofs.LaidOut.{operandAfter, isColon, Spelled, Layable}
+use Rattle.notation.specs.Tokens.{Token, Lexeme, kind, aVariable, aQualified, leftRound, rightRound, leftBrace, rightBrace, leftSquare, rightSquare, colon, comma, exclamation, arrow, operandBehind}
+use Rattle.notation.specs.Print.{the, Rest, constantsOf, constantsOfArms, lineFor, operatorKind, levelOf, bracketed, separated, valueToken, constantLexeme, printed, printedArms}
+use Rattle.notation.proofs.LaidOut.{operandAfter, Spelled, Layable}
 use Rattle.notation.proofs.Spelled.{ValueFits, Rises, rises-assoc, begins, SpelledExpression, SpelledArms}
 
 -- what follows can be laid out behind any token but a colon, on any line from which its constants rise

@@ -1,7 +1,7 @@
 -- Printed items are read back, and so is a whole manifest: the round trip on tokens.
-use Prim.Native.Nat.{ℕ, suc, _+_, _≤_, max}
+use Prim.Native.Nat.{ℕ, suc, _+_, _≤_}
 use mathlib.Core.Path.{_≡_, refl, ap, _∙_, subst}
-use mathlib.Core.List.{List, [], _∷_, _++_}
+use mathlib.Core.List.{List, [], _∷_}
 use mathlib.Core.Option.{Option, none, some}
 use mathlib.Core.Bool.{Bool, true, false}
 use native.Mathlib.Omega.{arith}
@@ -11,15 +11,15 @@ use borrow.Author.Tests.{eqb-true, le-leb}
 use Rattle.rules.specs.Bytes.{pick}
 use Rattle.values.specs.declared.Value.{Value}
 use Rattle.values.specs.declared.Value.the-variants.{Integer, String, Boolean}
-use Rattle.rules.specs.Tree.{Constant, Block, Parameter, Parent, Definition, typeDefinition, classDefinition, TypeDefinition, ClassDefinition, Devices, named, byDefault, Item, statement, definition}
+use Rattle.rules.specs.Tree.{Constant, Parameter, Parent, typeDefinition, classDefinition, ClassDefinition, Devices, named, byDefault, Item, statement, definition}
 use Rattle.rules.specs.Tree
-use Rattle.notation.specs.Tokens.{Token, Lexeme, kind, tokenOf, endOfText, leftBrace, rightRound, equals, inheritsWord, nodeWord, defineWord, classWord, leftRound}
-use Rattle.notation.specs.Building.{Piece, name, Node, Nodes, empty, _▸_, height, tallest, inFront, Frame, frame, Build, build, Action, acts, act, added, addedFirst, leaf, spelled, start}
-use Rattle.notation.specs.Grammar.{Symbol, aName, block, ends, Row, row, maybe, further, Entry, items, parameters, defaultValue, aConstant, inherits, parent, devices, device, moreDevices, sign, rowOf, leftOut, binds, run, built, manifest, reading}
-use Rattle.notation.specs.Print.{the, at, Rest, lineFor, constantsOfDefault, constantsOfItem, valueToken, constantLexeme, printedEntries, printedDefault, printedParameter, printedParameters, printedParent, printedDevice, printedDevices, inBraces, printedBlock, printedItem, printedItems}
-use Rattle.notation.proofs.Machine.{State, state, _⇒_, _▹_, take, leave, swap}
-use Rattle.notation.proofs.Steps.{Calm, Below, height-positive, added-fits, acts-first, take-begin, take-adding, ends-here}
-use Rattle.notation.proofs.Expected.{lastLineEntries, lastLineDefault, lastLineParameter, lastLineBlock, lastLineItem, lastLineItems, bareNode, constantNodeOf, nodesOnto, blockOnto, defaultOnto, parameterNode, parentOnto, deviceNode, devicesOnto, itemNode, itemsOnto}
+use Rattle.notation.specs.Tokens.{Token, Lexeme, kind, tokenOf, endOfText, leftBrace, rightRound, equals, inheritsWord, nodeWord, defineWord, classWord}
+use Rattle.notation.specs.Building.{Piece, name, Node, Nodes, empty, _▸_, height, tallest, inFront, Frame, frame, Build, build, Action, acts, act, addedFirst, leaf, spelled}
+use Rattle.notation.specs.Grammar.{Symbol, block, ends, row, maybe, further, Entry, items, parameters, defaultValue, aConstant, inherits, parent, devices, device, moreDevices, rowOf, leftOut, binds, run, built, manifest, reading}
+use Rattle.notation.specs.Print.{the, at, Rest, lineFor, constantsOfItem, valueToken, printedEntries, printedDefault, printedParameter, printedParameters, printedParent, printedDevice, printedDevices, printedItem, printedItems}
+use Rattle.notation.proofs.Machine.{state, _⇒_, _▹_, take, leave, swap}
+use Rattle.notation.proofs.Steps.{Calm, Below, height-positive, acts-first, take-begin, take-adding, ends-here}
+use Rattle.notation.proofs.Expected.{lastLineEntries, lastLineDefault, lastLineParameter, lastLineItem, bareNode, constantNodeOf, nodesOnto, defaultOnto, parameterNode, parentOnto, deviceNode, devicesOnto, itemNode, itemsOnto}
 use Rattle.notation.proofs.ExpressionsBack.{constant-added}
 use Rattle.notation.proofs.EntriesBack.{EachOf, Always, always, nodes-taller, EntryBack, entries-back}
 use Rattle.notation.proofs.StatementsBack.{Behind, at-top, WholeStatement, WholeBlock, with-statement, every-statement, every-block, braces-back}

@@ -1,7 +1,7 @@
 -- A constant's label is its line: each constant in the tree that a text builds comes from a token with its place and its label, and a token has the line of its first byte.
 use Prim.Native.Nat.{ℕ, zero, suc, _+_}
 use mathlib.Core.Path.{_≡_, refl, subst}
-use mathlib.Core.Bool.{Bool, true, false, not}
+use mathlib.Core.Bool.{Bool, true, false}
 use mathlib.Core.List.{List, [], _∷_}
 use mathlib.Core.Option.{Option, none, some}
 use lib.Dec.{leb, ltb}
@@ -10,10 +10,9 @@ use Rattle.rules.specs.Bytes.{pick}
 use Rattle.rules.specs.Format.{isConstant}
 use Rattle.rules.specs.Ranges.{Each, also}
 use Rattle.rules.proofs.Lists.{both-left, both-right}
-use Rattle.rules.proofs.Within.{false-not-true}
 use Rattle.notation.specs.Tokens.{word, number, text, variable, topVariable, classVariable, mark, Lexeme, lexeme, kind, tokenOf}
 use Rattle.notation.specs.Lexing.{tokens}
-use Rattle.notation.specs.Building.{Piece, Node, node, Nodes, empty, _▸_, height, Frame, frame, Build, build, Action, begin, beginResource, around, instead, close, constant, read, named, parentFirst, void, enter, leave, leaf, spelled, constantNode, variableNode, resourceTag, added, addedFirst, inFront, begun, act, acts, start}
+use Rattle.notation.specs.Building.{Piece, Node, node, Nodes, empty, _▸_, height, Frame, frame, Build, build, Action, begin, beginResource, around, instead, close, constant, read, named, parentFirst, void, enter, leave, leaf, spelled, constantNode, variableNode, added, addedFirst, inFront, begun, act, acts, start}
 use Rattle.notation.specs.Grammar.{Symbol, Reads, done, takes, leaves, manifest, built, reading}
 use Rattle.notation.proofs.Machine.{sound}
 use Rattle.notation.proofs.NeedsKept.{none-not-some, same-result}

@@ -17,7 +17,7 @@ use Rattle.notation.specs.Tokens.{Token, word, number, text, variable, t
 use Rattle.notation.specs.Lexing.{between, begins, stepByte, finish, lex, tokens}
 use Rattle.notation.specs.Printer.{isName}
 use Rattle.notation.specs.Layout.{signOf, keywordOf, markSpelling, spelling, noSpaceBehind, noSpaceBefore, gap, bracketsBehind, laidOut}
-use Rattle.notation.proofs.Unplaced.{bare, bares}
+use Rattle.notation.proofs.Unplaced.{bares}
 use Rattle.notation.proofs.Lexing.{Leads, Gives, _then_, Each, all, _▹_, of-each, space-passed, stops, colonFirst, twoColons}
 use Rattle.notation.proofs.LexedNames.{name-is-word, name-as-word, word-lexed, variable-lexed, top-lexed, class-lexed}
 use Rattle.notation.proofs.LexedValues.{string-lexed, number-lexed, negative-lexed}

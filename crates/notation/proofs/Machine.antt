@@ -1,10 +1,10 @@
 -- The machine: what a step is in each case, and that reading by the next token finds a reading of the grammar.
-use Prim.Native.Nat.{ℕ, zero, suc, _+_}
-use mathlib.Core.Path.{_≡_, refl, sym, ap, _∙_, subst}
+use Prim.Native.Nat.{ℕ, _+_}
+use mathlib.Core.Path.{_≡_, refl, sym, _∙_, subst}
 use mathlib.Core.List.{List, [], _∷_, _++_}
 use mathlib.Core.Option.{Option, none, some}
 use native.Mathlib.Omega.{arith}
-use Rattle.notation.specs.Tokens.{Lexeme, lexeme, kind, tokenOf, placeOf}
+use Rattle.notation.specs.Tokens.{Lexeme, kind, tokenOf, placeOf}
 use Rattle.notation.specs.Building.{Build, Action, acts}
 use Rattle.notation.specs.Grammar.{Symbol, Row, row, rowOf, leftOut, Reads, done, takes, leaves, Stepped, stuck, to, toward, step, Ended, built, fault, run}
 

@@ -1,5 +1,5 @@
 -- A text has one reading: where a symbol is left out, the next token is none that it takes. Each symbol guards some kinds of token: what follows it never begins with one.
-use Prim.Native.Nat.{ℕ, zero, suc, _+_, _≤_, _<_}
+use Prim.Native.Nat.{ℕ, suc, _+_, _≤_}
 use mathlib.Core.Path.{_≡_, refl, sym, ap, _∙_, subst}
 use mathlib.Core.List.{List, [], _∷_, _++_}
 use mathlib.Core.Option.{Option, none, some}
@@ -7,14 +7,14 @@ use mathlib.Core.Logic.{_⊎_, inl, inr}
 use mathlib.Core.Bool.{Bool, true, false, not, _&&_, _||_}
 use native.Mathlib.Omega.{arith}
 use lib.Dec.{leb, eqb}
-use borrow.Author.Tests.{le-leb, lt-leb, leb-true, leb-false, eqb-true, eqb-false}
+use borrow.Author.Tests.{le-leb, lt-leb, leb-true, eqb-true}
 use Rattle.rules.specs.Bytes.{pick}
-use Rattle.notation.specs.Tokens.{Lexeme, kind, tokenOf, isAmong, aWord, aNumber, aText, aVariable, leftSquare, leftBrace, rightBrace, leftRound, rightRound, colon, equals, inheritsWord, rightSquare, comma, question, endOfText, trueWord, falseWord, defaultWord, elseWord}
+use Rattle.notation.specs.Tokens.{Lexeme, kind, tokenOf, isAmong, aWord, aNumber, aText, aVariable, leftSquare, leftBrace, rightBrace, leftRound, rightRound, colon, equals, inheritsWord, comma, question, endOfText, trueWord, falseWord, defaultWord, elseWord}
 use Rattle.rules.proofs.Within.{false-not-true}
-use Rattle.notation.specs.Building.{Build, Action, acts, byte, start}
+use Rattle.notation.specs.Building.{Build, Action, byte, start}
 use Rattle.notation.specs.Lexing.{find}
 use Rattle.notation.specs.Grammar.{Symbol, sign, aName, expression, operators, readOrWord, closeBracket, one, maybe, further, Entry, arm, attribute, parameter, branches, items, classRest, parameters, defaultValue, aConstant, inherits, parent, devices, device, moreDevices, inBlock, itemRows, classRows, deviceRows, nodeRows, constantRows, patternRows, statements, block, otherwise, ends, Row, row, levels, binds, operatorByte, operandRows, entryRows, operatorRow, operatorIn, rowOf, leftOut, Reads, done, takes, leaves, run, built, manifest, reading}
-use Rattle.notation.proofs.Machine.{sound, State, state, _⇒_, _▹_, take, leave}
+use Rattle.notation.proofs.Machine.{sound, take, leave}
 
 -- ---- Tests
 

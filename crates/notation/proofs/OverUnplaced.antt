@@ -2,12 +2,12 @@
 use Prim.Native.Nat.{ℕ}
 use mathlib.Core.Path.{_≡_, refl, sym, ap, _∙_}
 use mathlib.Core.Bool.{Bool, true, false, _&&_}
-use mathlib.Core.List.{List, [], _∷_}
+use mathlib.Core.List.{List, _∷_}
 use mathlib.Core.Option.{Option, none, some}
 use lib.Dec.{eqb}
 use Rattle.rules.specs.Bytes.{pick, byte as byteAt}
 use Rattle.rules.specs.Format.{isConstant}
-use Rattle.rules.specs.Fields.{Field, field, Fields, none as noFields, more, headOf, tagOf, inner, first, others}
+use Rattle.rules.specs.Fields.{Field, field, Fields, none as noFields, more, headOf, tagOf, inner, first}
 use Rattle.rules.specs.Read.{stringsFrom}
 use Rattle.rules.proofs.TypedBack.{unplaced, unplacedAll}
 use Rattle.notation.specs.Printer.{namesSpellable, typeRight, labelRight, Gone, stops, past, going, over, overAll, stoppedAt}

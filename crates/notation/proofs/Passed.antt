@@ -1,10 +1,10 @@
 -- What check 26 finds in a tree written as fields: names that can be spelled, types of the right sort, and constants whose labels rise.
-use Prim.Native.Nat.{ℕ, _≤_, _<_}
-use mathlib.Core.Path.{_≡_, refl, sym, ap, _∙_, subst}
+use Prim.Native.Nat.{ℕ, _<_}
+use mathlib.Core.Path.{_≡_, refl, subst}
 use mathlib.Core.Bool.{Bool, true, false, not}
-use mathlib.Core.List.{List, [], _∷_, _++_}
+use mathlib.Core.List.{List, [], _∷_}
 use mathlib.Core.Option.{Option, none, some}
-use Rattle.rules.specs.Bytes.{pick, two}
+use Rattle.rules.specs.Bytes.{pick}
 use Rattle.rules.specs.Catalog.{highBytes}
 use Rattle.rules.specs.Compile.{stringAt, sameBytes, builtInTypes, isBuiltIn}
 use Rattle.rules.specs.Evaluate.{any}
@@ -14,16 +14,16 @@ use Rattle.rules.specs.Tree
 use Rattle.rules.proofs.Within.{false-not-true}
 use Rattle.rules.proofs.ReadBack.{two-back}
 use Rattle.rules.proofs.Lists.{Each, noneLeft, also, Perhaps, notThere, there}
-use Rattle.rules.proofs.Fits.{FitsConstant, FitsExpression, fitsConstant, fitsVariable, fitsTopVariable, fitsClassVariable, fitsOperation, fitsNegation, fitsAttributeRead, fitsSelector, fitsUnreadable, FitsArms, fitsNoArm, fitsArm, fitsDefaultArm, FitsAttributeField, FitsStatement, fitsAssignment, fitsConditional, fitsChoice, fitsResource, fitsDefined, fitsClass, fitsInclude, fitsUnreadableStatement, FitsBlock, fitsEnd, fitsNext, FitsBranches, fitsNoBranch, fitsBranch, fitsDefaultBranch, FitsParameter, FitsParent, FitsDevices, fitsNamed, fitsByDefault, FitsItem, fitsStatementItem, fitsNode, fitsDefinitionItem, fitsTypeDefinition, fitsClassDefinitions}
+use Rattle.rules.proofs.Fits.{FitsConstant, FitsExpression, fitsConstant, fitsVariable, fitsTopVariable, fitsClassVariable, fitsOperation, fitsNegation, fitsAttributeRead, fitsSelector, fitsUnreadable, FitsArms, fitsNoArm, fitsArm, fitsDefaultArm, FitsAttributeField, FitsStatement, fitsAssignment, fitsConditional, fitsChoice, fitsResource, fitsDefined, fitsClass, fitsInclude, fitsUnreadableStatement, FitsBlock, fitsEnd, fitsNext, FitsBranches, fitsNoBranch, fitsBranch, fitsDefaultBranch, FitsParameter, FitsParent, FitsItem, fitsStatementItem, fitsNode, fitsDefinitionItem, fitsTypeDefinition, fitsClassDefinitions}
 use Rattle.rules.proofs.TypedBack.{constantField, operatorByte, expressionField, armFields, attributeFields, statementField, blockFields, branchFields, defaultFields, parameterFields, parentFields, deviceFields, devicesFields, definitionField, itemField, itemFields}
 use Rattle.notation.specs.Building.{resourceTag}
 use Rattle.notation.specs.Print.{constantsOf, constantsOfArms, constantsOfAttributes, constantsOfStatement, constantsOfBlock, constantsOfBranches, constantsOfDefault, constantsOfParameters, constantsOfItem}
-use Rattle.notation.specs.Printer.{typeRight, Gone, stops, past, going, over, overAll}
+use Rattle.notation.specs.Printer.{typeRight, Gone, past, going, over, overAll}
 use Rattle.notation.proofs.EntriesBack.{EachOf}
 use Rattle.notation.proofs.ExpressionsBack.{Whole, WholeArms}
 use Rattle.notation.proofs.StatementsBack.{WholeAttribute, WholeStatement, WholeBlock, WholeBranches}
 use Rattle.notation.proofs.ItemsBack.{WholeItem}
-use Rattle.notation.proofs.Spelled.{Rises, lastLabel, SpelledExpression, SpelledArms, SpelledAttribute, SpelledStatement, SpelledBlock, SpelledBranches, SpelledParameter, SpelledParent, SpelledItem}
+use Rattle.notation.proofs.Spelled.{SpelledExpression, SpelledArms, SpelledAttribute, SpelledStatement, SpelledBlock, SpelledBranches, SpelledParameter, SpelledParent, SpelledItem}
 use Rattle.notation.proofs.StatementsLaid.{constantsOfItems}
 use Rattle.notation.proofs.TypedWhole.{TypesRightStatement, TypesRightBlock, TypesRightBranches, TypesRightItem, TypesRight}
 use Rattle.notation.proofs.PassedFields.{Passes, both-pass, then-all, first-passed, bare-passed, name-passed, names-passed, constant-passed, sixteen, seventeen, nineteen, arm-tag, default-tag, block-tag, if-tag, case-tag, branch-tag, node-tag, device-tag, zero-tag, thirteen, fourteen, assignment-tag, built-in-tag, attribute-tag, defined-tag, class-tag, include-tag, type-tag, parameter-tag, definition-tag, parent-tag, fifteen, eighteen}

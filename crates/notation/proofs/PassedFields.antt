@@ -1,34 +1,28 @@
 -- What check 26 finds in one field: a name that can be spelled, a type of the right sort, a label that does not fall. Each lemma takes what is done behind
 -- the field, g, as the check goes over the fields.
 use Prim.Native.Nat.{ℕ, _≤_, _<_, _+_}
-use mathlib.Core.Path.{_≡_, refl, sym, ap, _∙_, subst}
-use mathlib.Core.Bool.{Bool, true, false, not, _&&_, _||_}
+use mathlib.Core.Path.{_≡_, refl, sym, _∙_, subst}
+use mathlib.Core.Bool.{Bool, true, false, _&&_}
 use mathlib.Core.List.{List, [], _∷_, _++_}
-use mathlib.Core.Option.{Option, none, some}
 use native.Mathlib.Omega.{arith}
-use lib.Dec.{leb, eqb}
+use lib.Dec.{leb}
 use borrow.Author.Tests.{leb-true}
 use Rattle.values.specs.declared.Value.{Value}
 use Rattle.values.specs.declared.Value.the-variants.{Integer, String, Boolean}
-use Rattle.rules.specs.Bytes.{pick, byte, two}
+use Rattle.rules.specs.Bytes.{pick, two}
 use Rattle.rules.specs.Format.{forms, formIn, formOf, size, isConstant}
-use Rattle.rules.specs.declared.Piece.the-variants.{Nothing, Name}
-use Rattle.rules.specs.Catalog.{highBytes, word64, booleanByte}
-use Rattle.rules.specs.Compile.{stringAt, sameBytes, builtInTypes, isBuiltIn}
-use Rattle.rules.specs.Evaluate.{any}
+use Rattle.rules.specs.Catalog.{highBytes}
+use Rattle.rules.specs.Compile.{stringAt}
 use Rattle.rules.specs.Fields.{Field, field, Fields, none as noFields, more}
-use Rattle.rules.specs.Tree.{Constant, Expression, constant, variable, topVariable, classVariable, operation, negation, attributeRead, selector, Arms, noArm, arm, defaultArm}
+use Rattle.rules.specs.Tree.{Constant}
 use Rattle.rules.specs.Tree
-use Rattle.rules.specs.Ranges.{FitsValue, fitsInteger, fitsString, fitsBoolean}
-use Rattle.rules.proofs.Within.{false-not-true}
+use Rattle.rules.specs.Ranges.{FitsValue, fitsInteger}
 use Rattle.rules.proofs.ReadBack.{two-back}
 use Rattle.rules.proofs.Listed.{both-left, both-right}
-use Rattle.rules.proofs.Fits.{ConstantInRange, FitsConstant, FitsExpression, fitsConstant, fitsVariable, fitsTopVariable, fitsClassVariable, fitsOperation, fitsNegation, fitsAttributeRead, fitsSelector, fitsUnreadable, FitsArms, fitsNoArm, fitsArm, fitsDefaultArm}
-use Rattle.rules.proofs.TypedBack.{valueField, constantField, operatorByte, expressionField, armFields}
-use Rattle.notation.specs.Print.{constantsOf, constantsOfArms}
+use Rattle.rules.proofs.Fits.{ConstantInRange}
+use Rattle.rules.proofs.TypedBack.{valueField, constantField}
 use Rattle.notation.specs.Printer.{isName, spellable, namesSpellable, typeRight, labelRight, Gone, stops, past, going, over, overAll}
-use Rattle.notation.proofs.ExpressionsBack.{Whole, WholeArms}
-use Rattle.notation.proofs.Spelled.{ValueFits, Rises, lastLabel, last-append, rises-append, SpelledExpression, SpelledArms}
+use Rattle.notation.proofs.Spelled.{ValueFits, Rises, lastLabel, last-append, rises-append}
 
 -- a test that the check passed, and what it went on with
 passed-test : (b : Bool) (x : Gone) (p z : ℕ) (g : ℕ → Gone) → going (pick b x (stops p)) g ≡ past z → (b ≡ true) × (going x g ≡ past z)

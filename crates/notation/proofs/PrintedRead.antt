@@ -1,34 +1,29 @@
 -- The text of a manifest that the printer accepts is read as that manifest's tree by the bytes of every name.
-use Prim.Native.Nat.{ℕ, zero, suc, _≤_}
-use mathlib.Core.Path.{_≡_, refl, sym, ap, _∙_, subst}
-use mathlib.Core.Bool.{Bool, true, false, _&&_}
+use Prim.Native.Nat.{ℕ}
+use mathlib.Core.Path.{_≡_, refl, sym, ap, _∙_}
 use mathlib.Core.List.{List, [], _∷_, _++_}
-use mathlib.Core.Option.{Option, none, some}
+use mathlib.Core.Option.{none}
 use native.Mathlib.Omega.{arith}
-use Rattle.rules.specs.Bytes.{pick, byte}
-use Rattle.rules.specs.Format.{isConstant}
 use Rattle.rules.specs.Check.{check}
 use Rattle.rules.specs.Fields.{Field, field, Fields, none as noFields, more, readAll, others}
 use Rattle.rules.specs.Tree.{Item}
 use Rattle.rules.specs.Read.{manifestOf}
 use Rattle.rules.specs.Compile.{stringAt}
 use Rattle.rules.specs.EditRule.{IsBytes}
-use Rattle.rules.specs.Ranges.{Each, noneLeft, also}
+use Rattle.rules.specs.Ranges.{Each, noneLeft}
 use Rattle.rules.specs.declared.Verdict.the-variants.{Sound}
-use Rattle.rules.proofs.Within.{false-not-true}
 use Rattle.rules.proofs.Fits.{manifest-fits}
 use Rattle.rules.proofs.TypedBack.{itemFields}
 use Rattle.rules.proofs.TypedBack
-use Rattle.notation.specs.Tokens.{Token, word, number, text, variable, topVariable, classVariable, mark, Lexeme, lexeme, kind, isAmong, tokenOf, endOfText}
+use Rattle.notation.specs.Tokens.{Lexeme, endOfText}
 use Rattle.notation.specs.Lexing.{tokens}
-use Rattle.notation.specs.Building.{Node, node, Nodes, empty, _▸_, Frame, frame, Build, build}
+use Rattle.notation.specs.Building.{Node, node, Nodes, empty, _▸_, frame, Build, build}
 use Rattle.notation.specs.Grammar.{Ended, built, fault, reading}
 use Rattle.notation.specs.Convert.{stringsOf}
-use Rattle.notation.specs.Print.{the, printedItems}
-use Rattle.notation.specs.Printer.{labelRight, namesSpellable, typeRight, Gone, stops, past, going, stoppedAt, over, overAll, unprintableAt, tokensOf, textOf}
+use Rattle.notation.specs.Print.{the}
+use Rattle.notation.specs.Printer.{past, going, overAll, unprintableAt, tokensOf, textOf}
 use Rattle.notation.specs.Named.{namedHead, named, namedOnto, namedTree}
 use Rattle.notation.proofs.Unplaced.{bare, bares, unplaced, unplacedAll, unplacedFrame, unplacedFrames, unplacedBuild, unplacedEnded, reading-same}
-use Rattle.notation.proofs.Expected.{itemsOnto}
 use Rattle.notation.proofs.EntriesBack.{EachOf}
 use Rattle.notation.proofs.ItemsBack.{WholeItem, round-trip}
 use Rattle.notation.proofs.LaidOut.{Layable, endLine, text-lexed}
@@ -46,7 +41,7 @@ use Rattle.notation.proofs.StringTable.{Among, StringsIn}
 use Rattle.notation.proofs.LexedTokens.{GoodToken}
 use Rattle.notation.proofs.LexedGood.{GoodLexeme}
 use Rattle.notation.proofs.KnownTokens.{tokens-known}
-use Rattle.notation.proofs.Trees.{Items, tree-listed}
+use Rattle.notation.proofs.Trees.{tree-listed}
 use Rattle.notation.proofs.OverUnplaced.{Passed, never-stopped, goes-past, labelAfter, over-all-unplaced}
 
 -- ---- Tokens

@@ -1,8 +1,8 @@
 -- The round trip: where the printer gives a text for a manifest, the converter accepts it, and gives a manifest whose tree is equal to the first by the bytes
 -- of every name. The two differ at most in unused strings and in the numbering that follows.
 use Prim.Native.Nat.{ℕ, _≤_}
-use mathlib.Core.Path.{_≡_, refl, sym, ap, _∙_, subst}
-use mathlib.Core.Bool.{Bool, true, false, _||_}
+use mathlib.Core.Path.{_≡_, sym, ap, subst}
+use mathlib.Core.Bool.{false, _||_}
 use mathlib.Core.List.{List}
 use mathlib.Core.Option.{none}
 use lib.Dec.{eqb, ltb}

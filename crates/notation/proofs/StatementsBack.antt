@@ -1,7 +1,7 @@
 -- Printed statements and blocks are read back: one lemma for each form.
-use Prim.Native.Nat.{ℕ, suc, _+_, _≤_, max}
+use Prim.Native.Nat.{ℕ, suc, _+_, _≤_}
 use mathlib.Core.Path.{_≡_, refl, ap, _∙_}
-use mathlib.Core.List.{List, [], _∷_, _++_}
+use mathlib.Core.List.{List, [], _∷_}
 use mathlib.Core.Option.{none, some}
 use mathlib.Core.Bool.{true, false}
 use native.Mathlib.Omega.{arith}
@@ -12,10 +12,10 @@ use Rattle.rules.specs.Tree.{Constant, Expression, AttributeField, Statement, a
 use Rattle.rules.specs.Tree
 use Rattle.notation.specs.Tokens.{Token, Lexeme, kind, tokenOf, placeOf, aWord, aVariable, leftBrace, rightBrace, colon, ifWord, caseWord, classWord, includeWord, defaultWord}
 use Rattle.notation.specs.Lexing.{find}
-use Rattle.notation.specs.Building.{Piece, name, Node, Nodes, empty, _▸_, height, tallest, Frame, frame, Build, build, Action, acts, act, added, begun, leaf, spelled, resourceTag}
+use Rattle.notation.specs.Building.{Piece, name, Node, Nodes, empty, _▸_, height, tallest, Frame, frame, build, Action, acts, act, added, begun, leaf, spelled, resourceTag}
 use Rattle.notation.specs.Grammar.{Symbol, aName, branches, block, otherwise, ends, row, maybe, further, Entry, statements, items, sign, statementRows, rowOf, leftOut, binds}
-use Rattle.notation.specs.Print.{the, at, printedEntries, Rest, lineFor, constantsOfStatement, constantsOfBlock, valueToken, constantLexeme, printed, printedAttribute, printedAttributes, printedResource, printedElse, printedStatement, printedBlock, printedBranches}
-use Rattle.notation.proofs.Machine.{State, state, _⇒_, _▹_, take, leave}
+use Rattle.notation.specs.Print.{the, at, printedEntries, Rest, lineFor, constantsOfStatement, constantsOfBlock, valueToken, constantLexeme, printedAttribute, printedAttributes, printedResource, printedElse, printedStatement, printedBlock, printedBranches}
+use Rattle.notation.proofs.Machine.{state, _⇒_, _▹_, take, leave}
 use Rattle.notation.proofs.Steps.{Calm, added-fits, acts-first, take-begun, take-begin, ends-here}
 use Rattle.notation.proofs.Expected.{lastLine, lastLineEntries, lastLineAttribute, lastLineStatement, lastLineBlock, lastLineBranches, bareNode, defaultNode, constantNodeOf, nodeOf, nodesOnto, attributeNode, statementNode, blockOnto, branchesOnto}
 use Rattle.notation.proofs.ExpressionsBack.{Whole, whole, every, constant-added}

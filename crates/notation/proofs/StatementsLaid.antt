@@ -1,8 +1,8 @@
 -- The tokens of statements and items that pass check 26 can be laid out.
 use Prim.Native.Nat.{ℕ, _≤_}
-use mathlib.Core.Path.{_≡_, refl, sym, ap, _∙_, subst}
+use mathlib.Core.Path.{_≡_, refl, sym, subst}
 use mathlib.Core.Bool.{Bool, true, false}
-use mathlib.Core.List.{List, [], _∷_, _++_, append-assoc}
+use mathlib.Core.List.{List, [], _∷_, _++_}
 use mathlib.Core.Option.{Option, none, some}
 use native.Mathlib.Omega.{arith}
 use lib.Dec.{eqb}
@@ -10,12 +10,12 @@ use lib.ListN.{length}
 use Rattle.rules.specs.Tree.{Constant, Expression, AttributeField, Statement, assignment, conditional, choice, builtInResource, definedResource, classWithAttributes, include, Block, end, next, Branches, noBranch, branch, defaultBranch, Parameter, Parent, typeDefinition, classDefinition, Devices, named, byDefault, Item, statement, definition}
 use Rattle.rules.specs.Tree
 use Rattle.rules.proofs.Within.{false-not-true}
-use Rattle.notation.specs.Tokens.{Lexeme, aWord, aText, aVariable, leftBrace, rightBrace, leftRound, rightRound, colon, arrow, equals, defaultWord, ifWord, caseWord, includeWord, inheritsWord, nodeWord, elseWord, operandBehind, isAmong}
+use Rattle.notation.specs.Tokens.{Lexeme, aWord, aText, aVariable, leftBrace, rightBrace, leftRound, rightRound, colon, arrow, equals, defaultWord, ifWord, caseWord, nodeWord, operandBehind}
 use Rattle.notation.specs.Printer.{isName}
-use Rattle.notation.specs.Print.{Rest, the, constantsOf, constantsOfAttributes, constantsOfStatement, constantsOfBlock, constantsOfBranches, constantsOfDefault, constantsOfParameters, constantsOfItem, lineFor, separated, printedEntries, printedElse, printed, printedAttribute, printedAttributes, printedResource, printedStatement, printedBlock, printedBranches, printedDefault, printedParameter, printedParameters, printedParent, printedDevice, printedDevices, inBraces, printedItem, printedItems}
+use Rattle.notation.specs.Print.{Rest, the, constantsOf, constantsOfAttributes, constantsOfStatement, constantsOfBlock, constantsOfBranches, constantsOfDefault, constantsOfParameters, constantsOfItem, printedEntries, printedElse, printedAttribute, printedAttributes, printedResource, printedStatement, printedBlock, printedBranches, printedDefault, printedParameter, printedParameters, printedParent, printedDevice, printedDevices, inBraces, printedItem, printedItems}
 use Rattle.notation.proofs.LaidOut.{operandAfter, Layable}
 use Rattle.notation.proofs.EntriesBack.{EachOf, Always, always}
-use Rattle.notation.proofs.Spelled.{Rises, rises-assoc, Begins, begins, SpelledExpression, SpelledAttribute, SpelledStatement, SpelledBlock, SpelledBranches, SpelledParameter, SpelledParent, SpelledItem}
+use Rattle.notation.proofs.Spelled.{Rises, rises-assoc, begins, SpelledExpression, SpelledAttribute, SpelledStatement, SpelledBlock, SpelledBranches, SpelledParameter, SpelledParent, SpelledItem}
 use Rattle.notation.proofs.ExpressionsLaid.{Goes, laid-constant, laid-separated, laid-expression}
 
 -- the constants of items, in their order

@@ -1,5 +1,5 @@
 -- Steps of reading that a printed text takes: a token taken whose action depends on the depth, operators that do not follow, the end of a field.
-use Prim.Native.Nat.{ℕ, zero, suc, _+_, _≤_, _<_}
+use Prim.Native.Nat.{ℕ, suc, _+_, _≤_, _<_}
 use mathlib.Core.Path.{_≡_, refl, _∙_}
 use mathlib.Core.List.{List, [], _∷_, _++_}
 use mathlib.Core.Option.{Option, none, some}
@@ -8,8 +8,8 @@ use lib.ListN.{length}
 use borrow.Author.Tests.{le-leb, lt-ltb, lt-leb}
 use Rattle.notation.specs.Tokens.{Lexeme, kind, tokenOf, placeOf}
 use Rattle.notation.specs.Building.{Piece, Node, node, Nodes, empty, _▸_, height, Frame, frame, Build, build, Action, around, acts, act, added, begun}
-use Rattle.notation.specs.Grammar.{Symbol, operators, ends, Row, row, rowOf, leftOut, binds}
-use Rattle.notation.proofs.Machine.{State, state, _⇒_, _▹_, take, leave}
+use Rattle.notation.specs.Grammar.{Symbol, operators, ends, row, rowOf, leftOut, binds}
+use Rattle.notation.proofs.Machine.{state, _⇒_, take, leave}
 
 -- ---- Behind an operand
 

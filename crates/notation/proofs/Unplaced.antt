@@ -1,14 +1,14 @@
 -- Where tokens stand does not matter to what they build, but for the places in it: reading tokens without their places builds the tree without its places.
 use Prim.Native.Nat.{ℕ, zero, suc, _+_, max}
-use mathlib.Core.Path.{_≡_, refl, sym, ap, ap₂, _∙_}
-use mathlib.Core.List.{List, [], _∷_, _++_, map}
+use mathlib.Core.Path.{_≡_, refl, ap, ap₂, _∙_}
+use mathlib.Core.List.{List, [], _∷_, _++_}
 use mathlib.Core.Option.{Option, none, some}
 use mathlib.Core.Bool.{Bool, true, false}
 use lib.Dec.{leb, ltb}
 use lib.ListN.{length}
 use Rattle.rules.specs.Bytes.{pick}
-use Rattle.notation.specs.Tokens.{Token, word, number, text, variable, topVariable, classVariable, mark, Lexeme, lexeme, kind, tokenOf, placeOf}
-use Rattle.notation.specs.Building.{Piece, Node, node, Nodes, empty, _▸_, height, tallest, Frame, frame, Build, build, Action, begin, beginResource, around, instead, close, constant, read, named, parentFirst, void, enter, leave, constantNode, variableNode, resourceTag, spelled, leaf, behindLabel, fitting, added, inFront, addedFirst, begun, act, acts, start}
+use Rattle.notation.specs.Tokens.{word, number, text, variable, topVariable, classVariable, mark, Lexeme, lexeme, kind, tokenOf}
+use Rattle.notation.specs.Building.{Piece, Node, node, Nodes, empty, _▸_, height, tallest, Frame, frame, Build, build, Action, begin, beginResource, around, instead, close, constant, read, named, parentFirst, void, enter, leave, constantNode, variableNode, resourceTag, spelled, leaf, fitting, added, inFront, addedFirst, begun, act, acts, start}
 use Rattle.notation.specs.Grammar.{Symbol, Row, row, rowOf, leftOut, Stepped, stuck, to, toward, step, Ended, built, fault, run, manifest, reading}
 
 -- a token without its place

@@ -1,8 +1,8 @@
 -- From a text to a manifest: the table of its strings, the tree with their numbers, the refusals, and every byte lent.
-use Prim.Native.Nat.{ℕ, zero, suc, _-_, min}
+use Prim.Native.Nat.{ℕ, _-_, min}
 use mathlib.Core.List.{List, [], _∷_, _++_}
 use mathlib.Core.Option.{Option, none, some}
-use mathlib.Core.Bool.{Bool, true, false, _&&_, _||_}
+use mathlib.Core.Bool.{Bool, _&&_, _||_}
 use lib.Dec.{ltb}
 use lib.ListN.{length, replicate}
 use Rattle.values.specs.declared.Reason.the-variants.{MemoryTooShort, OutsideNotation, PastLine255}
@@ -17,7 +17,7 @@ use Rattle.rules.specs.Compile.{stringNumber}
 use Rattle.rules.specs.Outcome.{Outcome, refused, done, _>>=_, refuseIf}
 use Rattle.notation.specs.Tokens.{Token, word, number, text, variable, topVariable, classVariable, mark, Lexeme, placeOf, tokenOf}
 use Rattle.notation.specs.Lexing.{tokens}
-use Rattle.notation.specs.Building.{Piece, byte, name, Node, node, Nodes, empty, _▸_, Frame, frame, Build, build}
+use Rattle.notation.specs.Building.{Piece, byte, name, Node, node, Nodes, empty, _▸_, frame, build}
 use Rattle.notation.specs.Grammar.{orZero, Ended, built, fault, reading}
 use Rattle.notation.specs.declared.Answer.{Answer}
 use Rattle.notation.specs.declared.Answer.the-variants.{Written, Refused}

@@ -4,7 +4,7 @@ use Prim.Native.Nat.{ℕ, suc}
 use mathlib.Core.Path.{_≡_}
 use mathlib.Core.List.{List, [], _∷_, _++_}
 use mathlib.Core.Option.{Option, none, some}
-use mathlib.Core.Bool.{Bool, true, false, _&&_}
+use mathlib.Core.Bool.{_&&_}
 use lib.Dec.{leb, eqb}
 use Rattle.rules.specs.Bytes.{pick}
 use Rattle.notation.specs.Tokens.{Lexeme, kind, tokenOf, placeOf, aWord, aNumber, aText, aVariable, aQualified, endOfText, leftBrace, rightBrace, leftRound, rightRound, leftSquare, rightSquare, colon, comma, arrow, question, exclamation, plusSign, minusSign, slash, above, twoEquals, equals, andWord, orWord, trueWord, falseWord, defaultWord, ifWord, elseWord, caseWord, classWord, includeWord, nodeWord, defineWord, inheritsWord}

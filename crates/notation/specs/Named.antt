@@ -9,7 +9,6 @@ use Rattle.rules.specs.Format.{formOf, size}
 use Rattle.rules.specs.declared.Piece.the-variants.{Nothing, Label, Integer, Boolean, Operator, Name}
 use Rattle.rules.specs.declared.Piece as format
 use Rattle.rules.specs.Fields.{Field, field, Fields, none, more, readAll, others}
-use Rattle.rules.specs.Tree.{Manifest}
 use Rattle.rules.specs.Read.{manifestOf}
 use Rattle.rules.specs.Compile.{stringAt}
 use Rattle.notation.specs.Building.{Piece, byte, name, Node, node, Nodes, empty, _▸_}

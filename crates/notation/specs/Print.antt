@@ -5,10 +5,9 @@ use mathlib.Core.List.{List, [], _∷_, _++_}
 use mathlib.Core.Option.{Option, none, some}
 use mathlib.Core.Bool.{Bool, true, false}
 use lib.Dec.{leb}
-use Rattle.rules.specs.Bytes.{pick}
 use Rattle.values.specs.declared.Value.{Value}
 use Rattle.values.specs.declared.Value.the-variants.{Integer, String, Boolean}
-use Rattle.rules.specs.Tree.{Constant, Operator, plus, minus, divide, greater, equal, and, or, Expression, constant, variable, topVariable, classVariable, operation, negation, attributeRead, selector, Arms, noArm, arm, defaultArm, AttributeField, Statement, assignment, conditional, choice, builtInResource, definedResource, classWithAttributes, include, Block, end, next, Branches, noBranch, branch, defaultBranch, Parameter, Parent, Definition, typeDefinition, classDefinition, Devices, named, byDefault, Item, statement, node, definition}
+use Rattle.rules.specs.Tree.{Constant, Operator, plus, minus, divide, greater, equal, and, or, Expression, constant, variable, topVariable, classVariable, operation, negation, attributeRead, selector, Arms, noArm, arm, defaultArm, AttributeField, Statement, assignment, conditional, choice, builtInResource, definedResource, classWithAttributes, include, Block, end, next, Branches, noBranch, branch, defaultBranch, Parameter, Parent, typeDefinition, classDefinition, Devices, named, byDefault, Item, statement, node, definition}
 use Rattle.rules.specs.Tree
 use Rattle.notation.specs.Tokens
 use Rattle.notation.specs.Tokens.{Token, Lexeme, lexeme, mark, leftBrace, rightBrace, leftRound, rightRound, leftSquare, rightSquare, colon, comma, arrow, question, exclamation, plusSign, minusSign, slash, above, twoEquals, equals, andWord, orWord, trueWord, falseWord, defaultWord, ifWord, elseWord, caseWord, classWord, includeWord, nodeWord, defineWord, inheritsWord}

@@ -10,7 +10,6 @@ use Rattle.rules.specs.Bytes.{pick, byte, two}
 use Rattle.rules.specs.Format.{formOf, size, isConstant}
 use Rattle.rules.specs.declared.Piece.{Piece}
 use Rattle.rules.specs.declared.Piece.the-variants.{Nothing, Label, Integer, Boolean, Operator, Name}
-use Rattle.rules.specs.declared.Form.{Form}
 use Rattle.rules.specs.Check.{check}
 use Rattle.rules.specs.Fields.{Field, field, Fields, none as noFields, more, readAll, others}
 use Rattle.rules.specs.Read.{manifestOf}

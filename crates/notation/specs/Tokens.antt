@@ -1,7 +1,7 @@
 -- The tokens of a text. The end of the text and a malformed piece of it are tokens too, so that a fault is always at a token.
 use Prim.Native.Nat.{ℕ}
 use mathlib.Core.List.{List, [], _∷_}
-use mathlib.Core.Bool.{Bool, true, false, not, _||_}
+use mathlib.Core.Bool.{Bool, false, not, _||_}
 use lib.Dec.{eqb}
 use lib.IntN.{ℤ}
 
