@@ -1,0 +1,6 @@
+pub mod Scanning
+pub mod Words
+pub mod FoundTokens
+pub mod Ends
+pub mod Names
+pub mod Qualified

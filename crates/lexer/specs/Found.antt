@@ -1,0 +1,87 @@
+-- What the lexer's code finds: the next token of a text.
+use Prim.Native.Nat.{ℕ, suc, _+_, _≤_, _<_}
+use mathlib.Core.Path.{_≡_}
+use mathlib.Core.Bool.{Bool, true, false}
+use mathlib.Core.List.{List, [], _∷_}
+use lib.Dec.{eqb}
+use lib.IntN.{pos}
+use lib.ListN.{length, getD, drop}
+use lib.Seq.{slice}
+use Rattle.rules.specs.Bytes.{pick}
+use Rattle.notation.specs.Tokens.{word, number, text, variable, topVariable, classVariable, mark, aWord, aNumber, aText, aVariable, aQualified, endOfText, malformed, operandBehind, Lexeme, lexeme}
+use Rattle.notation.specs.Tokens as tokens
+use Rattle.notation.specs.Lexing.{lex, between}
+use Rattle.lexer.specs.declared.Token.{Token}
+
+-- ---- Strings
+
+-- the byte that an escape's letter stands for
+abbrev pub escaped : ℕ → ℕ
+escaped c = pick (eqb c 0x6e) 0x0a c
+
+-- what the bytes behind an opening quote mean, up to the closing one
+unfoldable mutual
+  pub unquoted : List ℕ → (quote : ℕ) → List ℕ
+  unquoted [] q = []
+  unquoted (c ∷ cs) q = pick (eqb c q) [] (pick (eqb c 0x5c) (unescaped cs q) (c ∷ unquoted cs q))
+
+  pub unescaped : List ℕ → (quote : ℕ) → List ℕ
+  unescaped [] q = []
+  unescaped (c ∷ cs) q = escaped c ∷ unquoted cs q
+
+-- the string whose opening quote is at p
+abbrev pub quotedAt : List ℕ → ℕ → List ℕ
+quotedAt t p = unquoted (drop (p + 1) t) (getD t p 0)
+
+-- ---- Tokens
+
+-- the token that r stands for
+unfoldable pub tokenIn : (text : List ℕ) → Token → tokens.Token
+tokenIn t r =
+    pick (eqb (r .kind) aWord) (word (slice (r .start) (r .end) t))
+    (pick (eqb (r .kind) aNumber) (number (r .value))
+    (pick (eqb (r .kind) aText) (text (quotedAt t (r .start)))
+    (pick (eqb (r .kind) aVariable) (variable (slice (r .start + 1) (r .end) t))
+    (pick (eqb (r .kind) aQualified)
+    (pick (eqb (r .«class_end») 0)
+    (topVariable (slice (r .start + 3) (r .end) t))
+    (classVariable (slice (r .start + 3) (r .«class_end») t) (slice (r .«class_end» + 2) (r .end) t)))
+    (mark (r .kind))))))
+
+-- a token that holds no class and no number, on one line
+abbrev pub plainToken : (kind start line end : ℕ) → Token
+plainToken k p l e = record { kind = k; start = p; line = l; end = e; «line_behind» = l; «class_end» = 0; value = pos 0 }
+
+-- a name from a to b
+pub record Named (a b : ℕ) : Type 0 where
+  pub some-byte : a < b
+  pub at-most-255 : b ≤ a + 255
+
+-- the names and strings in a token are not too long
+pub record Sized (t : List ℕ) (r : Token) : Type 0 where
+  pub word-size : r .kind ≡ aWord → Named (r .start) (r .end)
+  pub variable-size : r .kind ≡ aVariable → Named (r .start + 1) (r .end)
+  pub top-size : r .kind ≡ aQualified → r .«class_end» ≡ 0 → Named (r .start + 3) (r .end)
+  pub class-size : r .kind ≡ aQualified → (r .«class_end» ≡ 0 → ⊥) → Named (r .start + 3) (r .«class_end») × Named (r .«class_end» + 2) (r .end)
+  pub text-size : r .kind ≡ aText → length (quotedAt t (r .start)) ≤ 255
+
+-- the tokens xs begin with x
+pub record Begins (x : Lexeme) (xs : List Lexeme) : Type 0 where
+  pub rest : List Lexeme
+  pub begins : xs ≡ x ∷ rest
+
+-- the next token from `at` on, which is on this line; o: an operand may begin here
+pub record Found (t : List ℕ) (at line : ℕ) (o : Bool) (r : Token) : Type 0 where
+  pub low : at ≤ r .start
+  pub high : r .end ≤ length t
+  pub forward : r .start ≤ r .end
+  pub line-low : line ≤ r .line
+  pub line-forward : r .line ≤ r .«line_behind»
+  pub line-bound : r .line ≤ r .start
+  pub line-behind-bound : r .«line_behind» ≤ r .end
+  pub sized : Sized t r
+  pub at-end : r .kind ≡ endOfText → lex (drop at t) (between o) at line ≡ lexeme (r .start) (r .line) (mark endOfText) ∷ []
+  pub at-fault : r .kind ≡ malformed → Begins (lexeme (r .start) (r .line) (mark malformed)) (lex (drop at t) (between o) at line)
+  pub some-byte : (r .kind ≡ endOfText → ⊥) → (r .kind ≡ malformed → ⊥) → r .start < r .end
+  pub first : (r .kind ≡ endOfText → ⊥) → (r .kind ≡ malformed → ⊥)
+      → lex (drop at t) (between o) at line ≡ lexeme (r .start) (r .line) (tokenIn t r) ∷ lex (drop (r .end) t) (between (operandBehind (r .kind))) (r .end) (r .«line_behind»)

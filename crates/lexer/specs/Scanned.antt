@@ -1,0 +1,55 @@
+-- What the lexer's loops find.
+use Prim.Native.Nat.{ℕ, suc, _+_, _≤_, _<_}
+use mathlib.Core.Path.{_≡_}
+use mathlib.Core.Bool.{Bool, true, false, _&&_, _||_}
+use mathlib.Core.List.{List, [], _∷_}
+use lib.Dec.{ltb, eqb}
+use lib.ListN.{length, getD, drop}
+use lib.Seq.{slice}
+use Rattle.notation.specs.Lexing.{lex, between, comment, inTop, inWord, isSpace, lineBehind}
+use Rattle.lexer.specs.declared.Spot.{Spot}
+
+-- the bytes from `at` to r are in a word, and the one at r, if there is one, is not
+pub record WordRun (t : List ℕ) (at r : ℕ) : Type 0 where
+  pub low : at ≤ r
+  pub high : r ≤ length t
+  pub inside : (i : ℕ) → at ≤ i → i < r → inWord (getD t i 0) ≡ true
+  pub stops : r < length t → inWord (getD t r 0) ≡ false
+
+-- a comment that goes on at `at` ends at r: there the tokens are as if it had been none
+pub record CommentRun (t : List ℕ) (at r : ℕ) : Type 0 where
+  pub low : at ≤ r
+  pub high : r ≤ length t
+  pub same-tokens : (o : Bool) (line : ℕ) → lex (drop at t) (comment o) at line ≡ lex (drop r t) (between o) r line
+
+-- white space, or the # of a comment
+abbrev pub isGap : ℕ → Bool
+isGap c = isSpace c || eqb c 0x23
+
+-- the byte at `at`, white space or a whole comment, ends before r
+pub record GapRun (t : List ℕ) (at r : ℕ) : Type 0 where
+  pub low : at < r
+  pub high : r ≤ length t
+  pub same-tokens : (o : Bool) (line : ℕ) → lex (drop at t) (between o) at line ≡ lex (drop r t) (between o) r (lineBehind (getD t at 0) line)
+
+-- the tokens from there on are the same, and neither white space nor a comment is left
+pub record Skipped (t : List ℕ) (from to : Spot) : Type 0 where
+  pub low : from .at ≤ to .at
+  pub high : to .at ≤ length t
+  pub line-low : from .line ≤ to .line
+  pub line-bound : to .line ≤ to .at
+  pub same-tokens : (o : Bool) → lex (drop (from .at) t) (between o) (from .at) (from .line) ≡ lex (drop (to .at) t) (between o) (to .at) (to .line)
+  pub stops : to .at < length t → isGap (getD t (to .at) 0) ≡ false
+
+-- ---- Variables
+
+-- two colons at `at`
+abbrev pub twoColons : List ℕ → (at : ℕ) → Bool
+twoColons t at = ltb (at + 1) (length t) && (eqb (getD t at 0) 0x3a && eqb (getD t (at + 1) 0) 0x3a)
+
+-- $::a stands from p on line l to e
+pub record TopRead (t : List ℕ) (p l e : ℕ) : Type 0 where
+  pub line-bound : l ≤ p
+  pub some-byte : p + 3 < e
+  pub run : WordRun t (p + 3) e
+  pub same-tokens : (o : Bool) → lex (drop p t) (between o) p l ≡ lex (drop e t) (inTop p l (slice (p + 3) e t)) e l
