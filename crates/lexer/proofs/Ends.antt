@@ -50,14 +50,19 @@ begins-behind e b = record { rest = b .rest; begins = e ∙ b .begins }
 pub begins-token : {p l : ℕ} {a b : Token} {xs rest : List Lexeme} → xs ≡ lexeme p l a ∷ rest → a ≡ b → Begins (lexeme p l b) xs
 begins-token {rest = rest} e h = record { rest = rest; begins = e ∙ rw h }
 
--- the byte breaks off the token that began at p on line k, or the text ends in it
+-- the byte breaks off the token that began at p on line k
+pub broken-here : (t : List ℕ) (i : ℕ) (m : Mode) (l p k : ℕ) → i < length t → stepByte m i l (getD t i 0) ≡ fails p k → Begins (lexeme p k (mark malformed)) (lex (drop i t) m i l)
+broken-here t i m l p k h e = record {
+  rest = lex (drop (suc i) t) Mode.broken (suc i) (lineBehind (getD t i 0) l);
+  begins = rw (drop-cons t i 0 h) (lex-step (getD t i 0) (drop (suc i) t) m i l (lexeme p k (mark malformed) ∷ []) Mode.broken e);
+}
+
+-- or the text ends in it
 pub breaks-off : (t : List ℕ) (i : ℕ) (m : Mode) (l p k : ℕ) → (i < length t → stepByte m i l (getD t i 0) ≡ fails p k) → finish m i l ≡ notWhole p k → Begins (lexeme p k (mark malformed)) (lex (drop i t) m i l)
 breaks-off t i m l p k f g = go (ltb i (length t)) refl
   where
     go : (b : Bool) → ltb i (length t) ≡ b → Begins (lexeme p k (mark malformed)) (lex (drop i t) m i l)
-    go true j =
-        let h = ltb-true i (length t) j in
-        record { rest = lex (drop (suc i) t) Mode.broken (suc i) (lineBehind (getD t i 0) l); begins = rw (drop-cons t i 0 h) (lex-step (getD t i 0) (drop (suc i) t) m i l (lexeme p k (mark malformed) ∷ []) Mode.broken (f h)) }
+    go true j = let h = ltb-true i (length t) j in broken-here t i m l p k h (f h)
     go false j = record { rest = []; begins = at-the-end t i m l (ltb-false i (length t) j) ∙ g }
 
 -- ---- Names

@@ -4,3 +4,4 @@ pub mod FoundTokens
 pub mod Ends
 pub mod Names
 pub mod Qualified
+pub mod Numbers

@@ -1,3 +1,4 @@
 pub mod Scanned
 pub mod Words
+pub mod Numbers
 pub mod Found
