@@ -5,3 +5,4 @@ pub mod Ends
 pub mod Names
 pub mod Qualified
 pub mod Numbers
+pub mod Strings
