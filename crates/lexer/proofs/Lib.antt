@@ -6,3 +6,4 @@ pub mod Names
 pub mod Qualified
 pub mod Numbers
 pub mod Strings
+pub mod Signs

@@ -3,6 +3,7 @@ use Prim.Native.Nat.{ℕ, suc, _+_, _≤_, _<_}
 use mathlib.Core.Path.{_≡_}
 use mathlib.Core.Bool.{Bool, true, false}
 use mathlib.Core.List.{List, [], _∷_}
+use mathlib.Core.Option.{Option, none, some}
 use lib.Dec.{eqb}
 use lib.IntN.{pos}
 use lib.ListN.{length, getD, drop}
@@ -51,6 +52,11 @@ tokenIn t r =
 -- a token that holds no class and no number, on one line
 abbrev pub plainToken : (kind start line end : ℕ) → Token
 plainToken k p l e = record { kind = k; start = p; line = l; end = e; «line_behind» = l; «class_end» = 0; value = pos 0 }
+
+-- a sign of one byte, or none
+abbrev pub signToken : Option ℕ → (start line : ℕ) → Token
+signToken none p l = plainToken malformed p l p
+signToken (some k) p l = plainToken k p l (p + 1)
 
 -- a name from a to b
 pub record Named (a b : ℕ) : Type 0 where

@@ -9,8 +9,9 @@ ghost use Rattle.notation.specs.Lexing.{isSpace, isLetter, isDigit, isQuote, in
 ghost use Rattle.lexer.specs.Scanned.{WordRun, CommentRun, isGap, GapRun, Skipped, TopRead, twoColons};
 ghost use Rattle.lexer.specs.Words.{little, kindFound, keywordNumbers, nameFits};
 ghost use Rattle.lexer.specs.Numbers.{moreDigits, DigitsRun, wordAt, largestOf, signedOf, DigitRead};
-ghost use Rattle.lexer.specs.Found.{plainToken, Found};
+ghost use Rattle.lexer.specs.Found.{plainToken, signToken, Found};
 ghost use Rattle.lexer.specs.Strings.{isEscape, escapeAt, pieceSize, StringRun};
+use wire::byte_at;
 
 // Kinds of tokens, as the notation numbers them.
 const NUMBER: u8 = 1;
@@ -21,7 +22,17 @@ const VARIABLE: u8 = 3;
 
 const QUALIFIED: u8 = 4;
 
+const END: u8 = 5;
+
 const MALFORMED: u8 = 6;
+
+const ARROW: u8 = 15;
+
+const MINUS: u8 = 19;
+
+const TWO_EQUALS: u8 = 22;
+
+const EQUALS: u8 = 23;
 
 // A place in the text, and its line.
 pub struct Spot {
@@ -80,6 +91,12 @@ fn in_word(c: u8) -> bool
     ensures { λ r. ⌜ r ≡ inWord c ⌝ }
 {
     ((97 <= c) & (c <= 122)) | (((48 <= c) & (c <= 57)) | (c == 95))
+}
+
+fn is_quote(c: u8) -> bool
+    ensures { λ r. ⌜ r ≡ isQuote c ⌝ }
+{
+    (c == 39) | (c == 34)
 }
 
 // White space, or the # of a comment.
@@ -548,4 +565,87 @@ fn string_token(text: &[u8], start: usize, line: usize) -> Token
         class_end: 0,
         value: 0,
     }
+}
+
+// ---- Signs
+
+// The = at `start`, with what belongs to it: = == =>.
+fn equals_token(text: &[u8], start: usize, line: usize) -> Token
+    requires { ⌜ (start < length (now text)) × (line ≤ start) × (getD (now text) start 0 ≡ 61) ⌝ }
+    ensures { λ r. ⌜ ((o : Bool) → Found (now (text .entry)) start line o r) ⌝ }
+{
+    let next = start + 1;
+    let c = byte_at(text, next);
+    if c == 61 {
+        return plain(TWO_EQUALS, start, line, next + 1);
+    }
+    if c == 62 {
+        return plain(ARROW, start, line, next + 1);
+    }
+    plain(EQUALS, start, line, next)
+}
+
+// The - at `start`, where an operand may begin: of a number, or the sign.
+fn minus_token(text: &[u8], start: usize, line: usize) -> Token
+    requires { ⌜ (start < length (now text)) × (line ≤ start) × (getD (now text) start 0 ≡ 45) ⌝ }
+    ensures { λ r. ⌜ Found (now (text .entry)) start line true r ⌝ }
+{
+    let next = start + 1;
+    if is_digit(byte_at(text, next)) {
+        return number_token(text, start, line, next, true);
+    }
+    plain(MINUS, start, line, next)
+}
+
+// The sign c of one byte at `start`.
+fn sign_token(c: u8, start: usize, line: usize) -> Token
+    requires { ⌜ start < 18446744073709551615 ⌝ }
+    ensures { λ r. ⌜ r ≡ signToken (find c signs) start line ⌝ }
+{
+    let kind = sign_kind(c);
+    if kind == 0 {
+        return plain(MALFORMED, start, line, start);
+    }
+    plain(kind, start, line, start + 1)
+}
+
+// ---- The next token
+
+// The token at `at`, where neither white space nor a comment stands.
+fn token_at(text: &[u8], at: usize, line: usize, operand: bool) -> Token
+    requires { ⌜ (at ≤ length (now text)) × (line ≤ at) × (at < length (now text) → isGap (getD (now text) at 0) ≡ false) ⌝ }
+    ensures { λ r. ⌜ Found (now (text .entry)) at line operand r ⌝ }
+{
+    if text.len() <= at {
+        return plain(END, at, line, at);
+    }
+    let c = text[at];
+    if is_letter(c) {
+        return word_token(text, at, line);
+    }
+    if c == 36 {
+        return variable_token(text, at, line);
+    }
+    if is_digit(c) {
+        return number_token(text, at, line, at, false);
+    }
+    if (c == 45) & operand {
+        return minus_token(text, at, line);
+    }
+    if is_quote(c) {
+        return string_token(text, at, line);
+    }
+    if c == 61 {
+        return equals_token(text, at, line);
+    }
+    sign_token(c, at, line)
+}
+
+// The next token from `at` on, which is on this line; `operand`: an operand may begin here.
+pub fn next_token(text: &[u8], at: usize, line: usize, operand: bool) -> Token
+    requires { ⌜ (at ≤ length (now text)) × (length (now text) ≤ 65535) × (line ≤ at) ⌝ }
+    ensures { λ r. ⌜ Found (now (text .entry)) at line operand r ⌝ }
+{
+    let from = skip(text, Spot { at: at, line: line });
+    token_at(text, from.at, from.line, operand)
 }
