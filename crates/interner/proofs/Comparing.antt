@@ -1,7 +1,7 @@
 -- One law for each way through comparing two strings.
 use Prim.Native.Nat.{ℕ, zero, suc, _-_, _<_, _≤_}
 use mathlib.Core.Path.{_≡_, refl, sym, _∙_}
-use mathlib.Core.List.{List, [], _∷_}
+use mathlib.Core.List.{List}
 use native.Mathlib.Omega.{arith}
 use lib.ListN.{length}
 use borrow.Author.Tests.{lt-ltb, le-ltb}
@@ -37,26 +37,26 @@ module _ (x y : List ℕ) where
   same-first (suc a) l = rw (le-ltb a a (omega arith))
 
 -- two strings of the text, each with a step in it, whose order is that of the whole strings
-module _ {t : List ℕ} {f g p q a b pʹ qʹ : ℕ} {whole : Order} (one : Stepped t f p a pʹ) (other : Stepped t g q b qʹ) (inv : orderOf (restOf t f p) (restOf t g q) ≡ whole) where
-  by-codes : orderOf (fromCode a (restOf t f pʹ)) (fromCode b (restOf t g qʹ)) ≡ whole
+module _ {t : List ℕ} {f g p q a b p′ q′ : ℕ} {whole : Order} (one : Stepped t f p a p′) (other : Stepped t g q b q′) (inv : orderOf (restOf t f p) (restOf t g q) ≡ whole) where
+  by-codes : orderOf (fromCode a (restOf t f p′)) (fromCode b (restOf t g q′)) ≡ whole
   by-codes = rw (one .string, other .string) at inv
 
   pub comes-first : a < b → Before ≡ whole
-  comes-first l = sym (lower-first (restOf t f pʹ) (restOf t g qʹ) a b l) ∙ by-codes
+  comes-first l = sym (lower-first (restOf t f p′) (restOf t g q′) a b l) ∙ by-codes
 
   pub comes-last : b < a → After ≡ whole
-  comes-last l = sym (higher-last (restOf t f pʹ) (restOf t g qʹ) a b l) ∙ by-codes
+  comes-last l = sym (higher-last (restOf t f p′) (restOf t g q′) a b l) ∙ by-codes
 
   pub ends-same : b ≤ a → a ≡ 0 → Same ≡ whole
   ends-same l e =
       let z : b ≡ 0 = omega arith in
-      sym (both-ended (restOf t f pʹ) (restOf t g qʹ)) ∙ (rw (e, z) at by-codes)
+      sym (both-ended (restOf t f p′) (restOf t g q′)) ∙ (rw (e, z) at by-codes)
 
-  pub both-go-on : b ≤ a → a ≤ b → (a ≡ 0 → ⊥) → orderOf (restOf t f pʹ) (restOf t g qʹ) ≡ whole
+  pub both-go-on : b ≤ a → a ≤ b → (a ≡ 0 → ⊥) → orderOf (restOf t f p′) (restOf t g q′) ≡ whole
   both-go-on l k n =
       let same : b ≡ a = omega arith in
-      sym (same-first (restOf t f pʹ) (restOf t g qʹ) a (omega arith)) ∙ (rw same at by-codes)
+      sym (same-first (restOf t f p′) (restOf t g q′) a (omega arith)) ∙ (rw same at by-codes)
 
   -- the first string gets shorter
-  pub goes-onward : (a ≡ 0 → ⊥) → length t - pʹ < length t - p
+  pub goes-onward : (a ≡ 0 → ⊥) → length t - p′ < length t - p
   goes-onward n = omega (arith, one .onward (omega arith), one .within (omega arith))

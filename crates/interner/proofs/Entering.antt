@@ -6,7 +6,7 @@ use mathlib.Core.List.{List, [], _∷_}
 use mathlib.Core.Option.{some}
 use native.Mathlib.Omega.{arith}
 use lib.Dec.{eqb}
-use lib.ListN.{getD}
+use lib.ListN.{length, getD}
 use borrow.Author.Tests.{eqb-true, eqb-false}
 use Rattle.rules.specs.Check.{ascends}
 use Rattle.rules.specs.Compile.{stringNumber}
@@ -17,7 +17,7 @@ use Rattle.notation.proofs.StringTable.{table-rising}
 use Rattle.interner.specs.Table.{listed, Belongs}
 use Rattle.interner.proofs.Ascending.{not-itself, not-back, other-bytes, own-bytes}
 
--- strings that rise still do with one more
+-- strings that rise still do with one more: they are the table behind one token
 pub entered-rises : (s : List ℕ) (table : List (List ℕ)) → Rising table → Rising (entered s table)
 unfolding tableBehind enteredAll stringsOf
 entered-rises s table up = table-rising (lexeme 0 0 (text s) ∷ []) table up
@@ -25,6 +25,12 @@ entered-rises s table up = table-rising (lexeme 0 0 (text s) ∷ []) table up
 -- ---- Values of a function, listed
 
 module _ {A : Type 0} where
+  -- as many as asked for
+  pub listed-length : (f : ℕ → A) (k n : ℕ) → length (listed f k n) ≡ n
+  unfolding listed
+  listed-length f k zero = refl
+  listed-length f k (suc n) = ap suc (listed-length f (suc k) n)
+
   -- the value at i
   listed-at : (d : A) (f : ℕ → A) (k n i : ℕ) → i < n → getD (listed f k n) i d ≡ f (k + i)
   unfolding listed

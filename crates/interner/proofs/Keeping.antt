@@ -1,8 +1,9 @@
 -- The bytes of the table after a string was entered, and what they stand for.
-use Prim.Native.Nat.{ℕ, zero, suc, _+_, _*_, _<_, _≤_}
+use Prim.Native.Nat.{ℕ, suc, _+_, _*_, _<_, _≤_}
 use mathlib.Core.Path.{_≡_, refl, sym, ap, _∙_}
 use mathlib.Core.Bool.{true}
 use mathlib.Core.List.{List, []}
+use mathlib.Core.Option.{some}
 use native.Mathlib.Omega.{arith}
 use native.Mathlib.Numerals.{add-one}
 use lib.ListN.{length}
@@ -11,12 +12,13 @@ use Rattle.wire.specs.Runs.{over}
 use Rattle.wire.proofs.Laws.{two-same, same-run, stored-outside, stored-two, byte-outside, high-length, over-length}
 use Rattle.rules.specs.Bytes.{byte, two}
 use Rattle.rules.specs.Check.{ascends}
-use Rattle.rules.specs.Compile.{stringAt}
+use Rattle.rules.specs.Compile.{stringAt, stringNumber}
 use Rattle.notation.specs.Quoted.{stringFrom}
 use Rattle.notation.specs.Convert.{entered}
-use Rattle.interner.specs.Table.{listed, entryString, strings, Belongs, StandsAt, Moved, Ready, Kept}
+use Rattle.notation.proofs.WrittenNames.{Rising}
+use Rattle.interner.specs.Table.{entryString, strings, Belongs, StandsAt, Moved, Ready, Kept}
 use Rattle.interner.proofs.Searching.{rises}
-use Rattle.interner.proofs.Entering.{entered-rises, listed-first, number-is, entered-known, PutIn, entered-new}
+use Rattle.interner.proofs.Entering.{entered-rises, listed-length, listed-first, number-is, entered-known, PutIn, entered-new}
 
 -- ---- The bytes
 
@@ -46,15 +48,40 @@ module _ (m w : List ℕ) (i count at : ℕ) (within : i ≤ count) (room : 2 * 
 
 -- ---- The table
 
+module _ (t m : List ℕ) (count : ℕ) where
+  -- it has as many strings as are counted
+  pub strings-counted : length (strings t m count) ≡ count
+  unfolding strings
+  strings-counted = listed-length (entryString t m) 0 count
+
+  -- the string with the number i is that of entry i
+  pub string-of : {i : ℕ} → i < count → stringAt (strings t m count) i ≡ entryString t m i
+  unfolding strings stringAt
+  string-of {i} l = listed-first [] (entryString t m) count i l
+
+module _ (t m : List ℕ) (count at : ℕ) (up : Rising (strings t m count)) {i : ℕ} (h : StandsAt (stringFrom t at) (entryString t m) count i) where
+  -- all before a string come before it
+  before : (j : ℕ) → j < i → ascends (entryString t m j) (stringFrom t at) ≡ true
+  before j l = rw (h .same) at (rises t m count up j i l (h .within))
+
+  -- its number is where it stands
+  pub number-of : stringNumber (stringFrom t at) (strings t m count) 0 ≡ some i
+  unfolding strings
+  number-of = number-is (entryString t m) before (h .same) 0 count (omega arith) (omega (arith, h .within))
+
+  -- entering it changes nothing
+  pub table-kept : strings t m count ≡ entered (stringFrom t at) (strings t m count)
+  unfolding strings
+  table-kept = sym (entered-known (entryString t m) before (h .same) 0 count (omega arith) (omega (arith, h .within)))
+
 module _ (t m : List ℕ) (count at : ℕ) (ready : Ready t m count at) where
   -- the string was there
   pub kept-known : {i : ℕ} → StandsAt (stringFrom t at) (entryString t m) count i → Kept t m m count at i count
-  unfolding strings stringAt
   kept-known {i} h = record {
-    table = sym (entered-known (entryString t m) before (h .same) 0 count (omega arith) (omega (arith, h .within)));
+    table = table-kept t m count at (ready .rising) h;
     rising = ready .rising;
-    found = number-is (entryString t m) before (h .same) 0 count (omega arith) (omega (arith, h .within));
-    back = listed-first [] (entryString t m) count i (h .within) ∙ h .same;
+    found = number-of t m count at (ready .rising) h;
+    back = string-of t m count (h .within) ∙ h .same;
     known = h .within;
     grown = omega arith;
     atMostOne = omega arith;
@@ -62,30 +89,29 @@ module _ (t m : List ℕ) (count at : ℕ) (ready : Ready t m count at) where
     size = refl;
     above = λ x l. refl;
   }
-    where
-      before : (j : ℕ) → j < i → ascends (entryString t m j) (stringFrom t at) ≡ true
-      before j l = rw (h .same) at (rises t m count (ready .rising) j i l (h .within))
 
   -- it is there now
-  module _ {w mʹ : List ℕ} {i : ℕ} (h : Belongs (stringFrom t at) (entryString t m) count i) (mv : Moved m w (2 * i) (2 * count)) (e : mʹ ≡ over w (2 * i) (highBytes 2 at)) where
-    new-entries : PutIn (stringFrom t at) (entryString t m) (entryString t mʹ) count i
+  module _ {w m′ : List ℕ} {i : ℕ} (h : Belongs (stringFrom t at) (entryString t m) count i) (mv : Moved m w (2 * i) (2 * count)) (e : m′ ≡ over w (2 * i) (highBytes 2 at)) where
+    new-entries : PutIn (stringFrom t at) (entryString t m) (entryString t m′) count i
     new-entries = rw e (put-in m w i count at (h .within) (ready .room) (ready .fits) mv t)
 
-    new-table : strings t mʹ (count + 1) ≡ entered (stringFrom t at) (strings t m count)
+    new-table : strings t m′ (count + 1) ≡ entered (stringFrom t at) (strings t m count)
     unfolding strings
     new-table = rw add-one (entered-new h new-entries 0 count (omega arith) (omega arith))
 
-    new-before : (j : ℕ) → j < i → ascends (entryString t mʹ j) (stringFrom t at) ≡ true
-    new-before j l = rw (new-entries .below j l) (h .behind j l)
+    new-rising : Rising (strings t m′ (count + 1))
+    new-rising = rw new-table (entered-rises (stringFrom t at) (strings t m count) (ready .rising))
 
-    pub kept-new : Kept t m mʹ count at i (count + 1)
-    unfolding strings stringAt
+    new-stands : StandsAt (stringFrom t at) (entryString t m′) (count + 1) i
+    new-stands = record { within = omega (arith, h .within); same = new-entries .here }
+
+    pub kept-new : Kept t m m′ count at i (count + 1)
     kept-new = record {
       table = new-table;
-      rising = rw new-table (entered-rises (stringFrom t at) (strings t m count) (ready .rising));
-      found = number-is (entryString t mʹ) new-before (new-entries .here) 0 (count + 1) (omega arith) (omega (arith, h .within));
-      back = listed-first [] (entryString t mʹ) (count + 1) i (omega (arith, h .within)) ∙ new-entries .here;
-      known = omega (arith, h .within);
+      rising = new-rising;
+      found = number-of t m′ (count + 1) at new-rising new-stands;
+      back = string-of t m′ (count + 1) (new-stands .within) ∙ new-entries .here;
+      known = new-stands .within;
       grown = omega arith;
       atMostOne = omega arith;
       unchanged = λ x. absurd (omega arith);

@@ -2,15 +2,15 @@
 use Prim.Native.Nat.{ℕ, zero, suc, _+_, _*_, _-_, _<_, _≤_}
 use mathlib.Core.Path.{_≡_, refl, sym, ap, _∙_}
 use mathlib.Core.Bool.{Bool, true, false}
-use mathlib.Core.List.{List, [], _∷_}
+use mathlib.Core.List.{List}
 use native.Mathlib.Omega.{arith}
-use lib.Dec.{eqb, ltb}
-use borrow.Author.Tests.{eqb-true, eqb-false, ltb-true, ltb-false}
+use lib.Dec.{eqb}
+use borrow.Author.Tests.{eqb-true, eqb-false}
 use Rattle.rules.specs.Bytes.{two}
 use Rattle.rules.specs.Check.{ascends}
 use Rattle.rules.proofs.Within.{false-not-true}
 use Rattle.notation.specs.Quoted.{stringFrom}
-use Rattle.notation.proofs.WrittenNames.{Rising, noString, oneString, nextString}
+use Rattle.notation.proofs.WrittenNames.{Rising, nextString}
 use Rattle.interner.specs.Strings.{orderOf}
 use Rattle.interner.specs.Table.{listed, entryString, strings, Searched}
 use Rattle.interner.specs.declared.Order.the-variants.{Before, Same, After}

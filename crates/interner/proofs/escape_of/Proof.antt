@@ -1,5 +1,4 @@
 -- `escape_of`: n is a line feed, another byte itself.
-use mathlib.Core.Path.{sym}
 use borrow.Author.Tests.{eq-eqb, ne-eqb}
 use Rattle.interner.proofs.escape_of.Statement.{statement}
 use Rattle.interner.proofs.escape_of.Tie as tie
