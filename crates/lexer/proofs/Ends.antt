@@ -14,7 +14,7 @@ use Rattle.notation.specs.Lexing.{isLetter, inWord, Mode, between, Read, reads,
 use Rattle.notation.proofs.Lexing.{lex-step, Gathers, letter-no-feed}
 use Rattle.lexer.specs.Scanned.{WordRun}
 use Rattle.lexer.specs.Found.{Begins}
-use Rattle.lexer.proofs.Scanning.{at-the-end, stepped-on, run-gathered, inside-more}
+use Rattle.lexer.proofs.Scanning.{at-the-end, stepped-on, run-gathered}
 
 -- ---- Before a byte
 

@@ -1,19 +1,18 @@
 -- What is found, for each kind of token, from what the lexer gives at its first byte.
-use Prim.Native.Nat.{ℕ, zero, suc, _+_, _≤_, _<_}
-use mathlib.Core.Path.{_≡_, refl, sym, ap, _∙_, subst}
-use mathlib.Core.Bool.{Bool, true, false}
-use mathlib.Core.List.{List, [], _∷_, _++_}
+use Prim.Native.Nat.{ℕ, _+_, _≤_, _<_}
+use mathlib.Core.Path.{_≡_, refl, _∙_}
+use mathlib.Core.Bool.{Bool}
+use mathlib.Core.List.{List, [], _∷_}
 use native.Mathlib.Omega.{arith}
-use lib.ListN.{length, getD, drop}
-use lib.IntN.{ℤ}
+use lib.ListN.{length, drop}
 use lib.Seq.{slice}
 use borrow.Author.Tests.{ne-eqb}
-use Rattle.notation.specs.Tokens.{word, number, text, variable, topVariable, classVariable, mark, aWord, aNumber, aText, aVariable, aQualified, endOfText, malformed, operandBehind, Lexeme, lexeme}
+use Rattle.notation.specs.Tokens.{word, variable, topVariable, mark, aWord, aVariable, aQualified, endOfText, malformed, operandBehind, lexeme}
 use Rattle.notation.specs.Lexing.{lex, between}
 use Rattle.lexer.specs.declared.Token.{Token}
 use Rattle.lexer.specs.declared.Spot.{Spot}
 use Rattle.lexer.specs.Scanned.{Skipped}
-use Rattle.lexer.specs.Found.{quotedAt, tokenIn, plainToken, Named, Sized, Begins, Found}
+use Rattle.lexer.specs.Found.{tokenIn, plainToken, Named, Sized, Begins, Found}
 
 -- white space and comments before a token do not change it
 pub found-behind : {t : List ℕ} {a b : Spot} {o : Bool} {r : Token} → Skipped t a b → Found t (b .at) (b .line) o r → Found t (a .at) (a .line) o r

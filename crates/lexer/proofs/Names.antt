@@ -1,22 +1,22 @@
 -- Words and variables as they are found.
-use Prim.Native.Nat.{ℕ, zero, suc, _+_, _-_, _≤_, _<_}
-use mathlib.Core.Path.{_≡_, refl, sym, ap, _∙_, subst}
+use Prim.Native.Nat.{ℕ, _+_, _-_, _≤_, _<_}
+use mathlib.Core.Path.{_≡_, refl, sym, _∙_}
 use mathlib.Core.Bool.{Bool, true, false, _&&_}
-use mathlib.Core.List.{List, [], _∷_}
+use mathlib.Core.List.{List, _∷_}
 use mathlib.Core.Option.{Option, none, some}
 use native.Mathlib.Omega.{arith}
 use lib.Dec.{leb, eqb}
 use lib.ListN.{length, getD, drop}
 use lib.Seq.{slice, length-slice}
-use borrow.Author.Tests.{eqb-true, eqb-false, leb-true, le-leb, lt-leb}
+use borrow.Author.Tests.{eqb-true, leb-true, le-leb, lt-leb}
 use Rattle.rules.specs.Bytes.{pick}
 use Rattle.notation.specs.Tokens.{Token, word, variable, mark, kind, aVariable, malformed, operandBehind, lexeme}
-use Rattle.notation.specs.Lexing.{isLetter, keywords, keywordIn, wordToken, nameToken, Mode, between, inName, behindDollar, inVariable, begins, stepByte, finish, lex}
+use Rattle.notation.specs.Lexing.{isLetter, keywords, keywordIn, wordToken, nameToken, between, inName, behindDollar, inVariable, begins, stepByte, finish, lex}
 use Rattle.notation.specs.Printer.{noKeyword}
 use Rattle.notation.proofs.Lexing.{both-true, Gathers, letter-begins}
 use Rattle.lexer.specs.Scanned.{WordRun}
 use Rattle.lexer.specs.Words.{kindFound, nameFits}
-use Rattle.lexer.specs.Found.{plainToken, Named, Begins, Found}
+use Rattle.lexer.specs.Found.{plainToken, Named, Found}
 use Rattle.lexer.proofs.Scanning.{stepped-on}
 use Rattle.lexer.proofs.Words.{run-in-word, keyword-bound}
 use Rattle.lexer.proofs.Ends.{token-ends, breaks-off, begins-behind, begins-token, with-letter, name-read}

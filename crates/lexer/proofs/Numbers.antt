@@ -1,6 +1,6 @@
 -- Numbers as they are found.
 use Prim.Native.Nat.{ℕ, zero, suc, _+_, _*_, _-_, _≤_, _<_}
-use mathlib.Core.Path.{_≡_, refl, sym, ap, _∙_}
+use mathlib.Core.Path.{_≡_, refl, ap, _∙_}
 use mathlib.Core.Bool.{Bool, true, false, _&&_, _||_}
 use mathlib.Core.List.{List, [], _∷_}
 use native.Mathlib.Omega.{arith}
@@ -11,16 +11,14 @@ use borrow.Author.Tests.{ne-eqb, leb-true, leb-false, le-leb, lt-leb, ltb-true, 
 use mir.Facts.{toZ-ofZ, toZ-pos}
 use mir.Syntax.{w64}
 use mir.Val.{SFits, toZ, ofZ}
-use Rattle.rules.specs.Bytes.{pick}
-use Rattle.rules.proofs.Within.{false-not-true}
 use Rattle.notation.specs.Tokens.{number, mark, kind, aNumber, malformed, operandBehind, lexeme}
-use Rattle.notation.specs.Lexing.{isLetter, isDigit, inWord, signedToken, between, behindMinus, inNumber, Mode, reads, begins, stepByte, finish, lineBehind, lex}
+use Rattle.notation.specs.Lexing.{isLetter, isDigit, inWord, signedToken, between, inNumber, Mode, reads, begins, stepByte, finish, lineBehind, lex}
 use Rattle.notation.proofs.Lexing.{both-true, lex-step, no-feed}
 use Rattle.lexer.specs.declared.Token as found
 use Rattle.lexer.specs.declared.Digits.{Digits}
 use Rattle.lexer.specs.Numbers.{moreDigits, DigitsRun, wordAt, largestOf, signedOf, DigitRead}
 use Rattle.lexer.specs.Found.{plainToken, tokenIn, Begins, Found}
-use Rattle.lexer.proofs.Scanning.{stepped-on, stepped-to}
+use Rattle.lexer.proofs.Scanning.{stepped-on}
 use Rattle.lexer.proofs.Ends.{resumed-at, token-ends, begins-behind, begins-token, broken-here}
 use Rattle.lexer.proofs.FoundTokens.{found-token, found-fault}
 

@@ -1,22 +1,21 @@
 -- Variables with colons as they are found.
 use Prim.Native.Nat.{ℕ, suc, _+_, _-_, _≤_, _<_}
-use mathlib.Core.Path.{_≡_, refl, sym, ap, _∙_, subst}
+use mathlib.Core.Path.{_≡_, refl, sym, ap, _∙_}
 use mathlib.Core.Bool.{Bool, true, false, _&&_}
-use mathlib.Core.List.{List, [], _∷_, _++_}
+use mathlib.Core.List.{List, _∷_, _++_}
 use native.Mathlib.Omega.{arith}
 use lib.Dec.{ltb, eqb}
 use lib.IntN.{pos}
 use lib.ListN.{length, getD, drop}
 use lib.Seq.{slice, drop-cons}
 use borrow.Author.Tests.{eqb-true, ne-eqb, ltb-true, ltb-false}
-use Rattle.rules.proofs.Within.{false-not-true}
 use Rattle.notation.specs.Tokens.{Token, topVariable, classVariable, mark, kind, aQualified, malformed, colon, operandBehind, Lexeme, lexeme}
-use Rattle.notation.specs.Lexing.{isLetter, isQuote, inWord, nameToken, Mode, between, behindDollar, behindDollarColon, behindTop, inTop, behindTopColon, behindClass, inClassVariable, Read, reads, with, begins, stepByte, finish, lineBehind, lex}
+use Rattle.notation.specs.Lexing.{isLetter, isQuote, nameToken, between, behindDollar, behindDollarColon, behindTop, inTop, behindTopColon, behindClass, inClassVariable, Read, reads, with, begins, stepByte, finish, lineBehind, lex}
 use Rattle.notation.proofs.Lexing.{both-true, Gathers}
 use Rattle.lexer.specs.declared.Token as found
 use Rattle.lexer.specs.Scanned.{WordRun, twoColons, TopRead}
 use Rattle.lexer.specs.Words.{nameFits}
-use Rattle.lexer.specs.Found.{plainToken, tokenIn, Named, Begins, Found}
+use Rattle.lexer.specs.Found.{plainToken, tokenIn, Begins, Found}
 use Rattle.lexer.proofs.Scanning.{at-the-end, stepped-to}
 use Rattle.lexer.proofs.Ends.{token-ends, token-closed, begins-behind, begins-token, breaks-off, with-letter, name-read}
 use Rattle.lexer.proofs.FoundTokens.{found-token, found-fault, found-top}

@@ -1,6 +1,6 @@
 -- Steps of the lexer over the bytes of a text, by their places.
 use Prim.Native.Nat.{ℕ, zero, suc, _+_, _≤_, _<_}
-use mathlib.Core.Path.{_≡_, refl, sym, ap, _∙_, subst}
+use mathlib.Core.Path.{_≡_, refl, sym, _∙_, subst}
 use mathlib.Core.Bool.{Bool, true, false, _||_}
 use mathlib.Core.List.{List, [], _∷_, _++_, append-assoc, append-nil}
 use native.Mathlib.Omega.{arith}
@@ -11,8 +11,7 @@ use lib.Seq.{drop-cons, slice, slice-empty, slice-cons}
 use borrow.Author.Tests.{eqb-true, eqb-false}
 use Rattle.rules.specs.Bytes.{pick}
 use Rattle.rules.proofs.Within.{false-not-true}
-use Rattle.notation.specs.Tokens.{Lexeme}
-use Rattle.notation.specs.Lexing.{isSpace, inWord, Mode, between, comment, Read, reads, begins, stepByte, finish, lineBehind, lex}
+use Rattle.notation.specs.Lexing.{isSpace, inWord, Mode, between, comment, reads, begins, stepByte, finish, lineBehind, lex}
 use Rattle.notation.proofs.Lexing.{lex-step, Gathers}
 use Rattle.lexer.specs.Scanned.{isGap}
 

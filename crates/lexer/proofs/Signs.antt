@@ -1,13 +1,13 @@
 -- Signs as they are found, and what begins at a byte.
 use Prim.Native.Nat.{ℕ, _+_, _-_, _≤_, _<_}
-use mathlib.Core.Path.{_≡_, refl, sym, ap, _∙_}
+use mathlib.Core.Path.{_≡_, refl, sym, _∙_}
 use mathlib.Core.Bool.{Bool, true, false, not, _&&_, _||_}
-use mathlib.Core.List.{List, [], _∷_}
+use mathlib.Core.List.{List}
 use mathlib.Core.Option.{Option, none, some}
 use native.Mathlib.Omega.{arith}
 use lib.Dec.{ltb, eqb}
 use lib.ListN.{length, getD, drop, List·getD-eq-default}
-use borrow.Author.Tests.{eqb-true, ltb-true, ltb-false}
+use borrow.Author.Tests.{ltb-true, ltb-false}
 use Rattle.rules.proofs.Within.{false-not-true}
 use Rattle.notation.specs.Tokens.{mark, endOfText, malformed, minusSign, twoEquals, arrow, equals, operandBehind, lexeme}
 use Rattle.notation.specs.Lexing.{isSpace, isLetter, isDigit, isQuote, find, signs, orElse, ends, fails, between, behindMinus, behindEquals, inNumber, begins, stepByte, finish, lex}
@@ -16,7 +16,7 @@ use Rattle.lexer.specs.Scanned.{isGap}
 use Rattle.lexer.specs.Numbers.{DigitRead}
 use Rattle.lexer.specs.Words.{kindFound}
 use Rattle.lexer.specs.Found.{plainToken, signToken, Found}
-use Rattle.lexer.proofs.Scanning.{differs, at-the-end, stepped-on, stepped-to}
+use Rattle.lexer.proofs.Scanning.{differs, at-the-end, stepped-on}
 use Rattle.lexer.proofs.Words.{kind-bound}
 use Rattle.lexer.proofs.Ends.{token-ends, token-closed, broken-here}
 use Rattle.lexer.proofs.FoundTokens.{found-end, found-fault, found-mark}

@@ -1,26 +1,27 @@
 -- Strings as they are found.
-use Prim.Native.Nat.{ℕ, zero, suc, _+_, _-_, _≤_, _<_}
+use Prim.Native.Nat.{ℕ, suc, _+_, _-_, _≤_, _<_}
 use mathlib.Core.Path.{_≡_, refl, sym, ap, _∙_, subst}
-use mathlib.Core.Bool.{Bool, true, false, _&&_, _||_}
+use mathlib.Core.Bool.{Bool, true, false, _||_}
 use mathlib.Core.List.{List, [], _∷_, _++_, append-assoc, append-nil}
-use mathlib.Core.Option.{Option, none, some}
+use mathlib.Core.Option.{none}
 use native.Mathlib.Omega.{arith}
 use native.Mathlib.Numerals.{add-one}
-use lib.Dec.{leb, ltb, eqb}
+use lib.Dec.{ltb, eqb}
 use lib.IntN.{pos}
 use lib.ListN.{length, getD, drop, length-append}
 use lib.Seq.{drop-cons}
-use borrow.Author.Tests.{eqb-true, ne-eqb, eq-eqb, le-leb, lt-leb, ltb-true, lt-ltb}
+use borrow.Author.Tests.{eqb-true, eq-eqb, le-leb, lt-leb, ltb-true, lt-ltb}
 use Rattle.rules.specs.Bytes.{pick}
 use Rattle.rules.proofs.Within.{false-not-true}
-use Rattle.notation.specs.Tokens.{text, mark, kind, aText, malformed, operandBehind, Lexeme, lexeme}
-use Rattle.notation.specs.Lexing.{isQuote, escapes, find, textToken, between, inString, inEscape, Mode, reads, begins, stepByte, finish, lineBehind, lex}
+use Rattle.notation.specs.Tokens.{text, mark, kind, aText, malformed, operandBehind, lexeme}
+use Rattle.notation.specs.Lexing.{isQuote, escapes, find, textToken, between, inString, inEscape, reads, begins, stepByte, finish, lineBehind, lex}
 use Rattle.notation.proofs.Lexing.{both-true}
 use Rattle.lexer.specs.declared.Token as found
 use Rattle.lexer.specs.declared.Quoted.{Quoted}
-use Rattle.lexer.specs.Found.{escaped, unquoted, unescaped, quotedAt, plainToken, tokenIn, Begins, Found}
+use Rattle.lexer.specs.Found.{plainToken, tokenIn, Begins, Found}
+use Rattle.notation.specs.Quoted.{escapeOf, unquoted, quotedAt}
 use Rattle.lexer.specs.Strings.{isEscape, escapeAt, pieceSize, StringRun}
-use Rattle.lexer.proofs.Scanning.{at-the-end, stepped, stepped-on, stepped-to}
+use Rattle.lexer.proofs.Scanning.{stepped, stepped-on, stepped-to}
 use Rattle.lexer.proofs.Ends.{token-closed, begins-behind, begins-token, breaks-off}
 use Rattle.lexer.proofs.FoundTokens.{found-token, found-fault}
 
@@ -107,18 +108,18 @@ module _ (t : List ℕ) (quote i k : ℕ) (high : i < length t) (other : eqb (ge
       stepped-on t i (inString p l quote s) (inEscape p l quote s) k high (rw (other, e)) (rw here)
 
   -- and the letter of an escape
-  escape-read : eqb (getD t i 0) 0x5c ≡ true → escapeAt t (i + 1) ≡ true → (p l : ℕ) (s : List ℕ) → lex (drop i t) (inString p l quote s) i k ≡ lex (drop (i + 2) t) (inString p l quote (s ++ (escaped (getD t (i + 1) 0) ∷ []))) (i + 2) k
+  escape-read : eqb (getD t i 0) 0x5c ≡ true → escapeAt t (i + 1) ≡ true → (p l : ℕ) (s : List ℕ) → lex (drop i t) (inString p l quote s) i k ≡ lex (drop (i + 2) t) (inString p l quote (s ++ (escapeOf (getD t (i + 1) 0) ∷ []))) (i + 2) k
   unfolding stepByte
   escape-read e f p l s =
       let a = both-true (ltb (i + 1) (length t)) (isEscape (getD t (i + 1) 0)) f in
       let next = ltb-true (i + 1) (length t) (a .0) in
       let d = getD t (i + 1) 0 in
       backslash-read e p l s
-      ∙ stepped-to t (i + 1) (i + 2) (inEscape p l quote s) (inString p l quote (s ++ (escaped d ∷ []))) k (omega arith) next
-      (escape-cases (λ (d : ℕ). stepByte (inEscape p l quote s) (i + 1) k d ≡ reads [] (inString p l quote (s ++ (escaped d ∷ [])))) d (a .1) refl refl refl refl)
+      ∙ stepped-to t (i + 1) (i + 2) (inEscape p l quote s) (inString p l quote (s ++ (escapeOf d ∷ []))) k (omega arith) next
+      (escape-cases (λ (d : ℕ). stepByte (inEscape p l quote s) (i + 1) k d ≡ reads [] (inString p l quote (s ++ (escapeOf d ∷ [])))) d (a .1) refl refl refl refl)
       (escape-cases (λ (d : ℕ). eqb d 0x0a ≡ false) d (a .1) refl refl refl refl)
 
-  escape-content : eqb (getD t i 0) 0x5c ≡ true → escapeAt t (i + 1) ≡ true → unquoted (drop i t) quote ≡ escaped (getD t (i + 1) 0) ∷ unquoted (drop (i + 2) t) quote
+  escape-content : eqb (getD t i 0) 0x5c ≡ true → escapeAt t (i + 1) ≡ true → unquoted (drop i t) quote ≡ escapeOf (getD t (i + 1) 0) ∷ unquoted (drop (i + 2) t) quote
   unfolding unquoted
   escape-content e f =
       let next = ltb-true (i + 1) (length t) (both-true (ltb (i + 1) (length t)) (isEscape (getD t (i + 1) 0)) f .0) in
@@ -134,7 +135,7 @@ module _ (t : List ℕ) (quote i k : ℕ) (high : i < length t) (other : eqb (ge
       go false b e f j = longer (i + 1) (lineBehind (getD t i 0) k) (getD t i 0) part (plain-content e) (plain-read e)
       go true true e f j =
           let here : lineBehind (getD t i 0) k ≡ k = rw (eqb-true (getD t i 0) 0x5c e) in
-          rw here (longer (i + 2) k (escaped (getD t (i + 1) 0)) part (escape-content e f) (escape-read e f))
+          rw here (longer (i + 2) k (escapeOf (getD t (i + 1) 0)) part (escape-content e f) (escape-read e f))
       go true false e f j = absurd (omega arith)
 
   -- an escape is malformed

@@ -1,38 +1,19 @@
 -- What the lexer's code finds: the next token of a text.
-use Prim.Native.Nat.{ℕ, suc, _+_, _≤_, _<_}
+use Prim.Native.Nat.{ℕ, _+_, _≤_, _<_}
 use mathlib.Core.Path.{_≡_}
-use mathlib.Core.Bool.{Bool, true, false}
+use mathlib.Core.Bool.{Bool}
 use mathlib.Core.List.{List, [], _∷_}
 use mathlib.Core.Option.{Option, none, some}
 use lib.Dec.{eqb}
 use lib.IntN.{pos}
-use lib.ListN.{length, getD, drop}
+use lib.ListN.{length, drop}
 use lib.Seq.{slice}
 use Rattle.rules.specs.Bytes.{pick}
 use Rattle.notation.specs.Tokens.{word, number, text, variable, topVariable, classVariable, mark, aWord, aNumber, aText, aVariable, aQualified, endOfText, malformed, operandBehind, Lexeme, lexeme}
 use Rattle.notation.specs.Tokens as tokens
 use Rattle.notation.specs.Lexing.{lex, between}
+use Rattle.notation.specs.Quoted.{quotedAt}
 use Rattle.lexer.specs.declared.Token.{Token}
-
--- ---- Strings
-
--- the byte that an escape's letter stands for
-abbrev pub escaped : ℕ → ℕ
-escaped c = pick (eqb c 0x6e) 0x0a c
-
--- what the bytes behind an opening quote mean, up to the closing one
-unfoldable mutual
-  pub unquoted : List ℕ → (quote : ℕ) → List ℕ
-  unquoted [] q = []
-  unquoted (c ∷ cs) q = pick (eqb c q) [] (pick (eqb c 0x5c) (unescaped cs q) (c ∷ unquoted cs q))
-
-  pub unescaped : List ℕ → (quote : ℕ) → List ℕ
-  unescaped [] q = []
-  unescaped (c ∷ cs) q = escaped c ∷ unquoted cs q
-
--- the string whose opening quote is at p
-abbrev pub quotedAt : List ℕ → ℕ → List ℕ
-quotedAt t p = unquoted (drop (p + 1) t) (getD t p 0)
 
 -- ---- Tokens
 

@@ -1,5 +1,5 @@
 -- What the lexer finds of strings.
-use Prim.Native.Nat.{ℕ, _+_, _≤_, _<_}
+use Prim.Native.Nat.{ℕ, _+_, _≤_}
 use mathlib.Core.Path.{_≡_}
 use mathlib.Core.Bool.{Bool, true, false, _&&_, _||_}
 use mathlib.Core.List.{List, [], _∷_}
@@ -9,7 +9,8 @@ use Rattle.rules.specs.Bytes.{pick}
 use Rattle.notation.specs.Tokens.{mark, kind, malformed, operandBehind, lexeme}
 use Rattle.notation.specs.Lexing.{textToken, between, inString, lex}
 use Rattle.lexer.specs.declared.Quoted.{Quoted}
-use Rattle.lexer.specs.Found.{unquoted, Begins}
+use Rattle.lexer.specs.Found.{Begins}
+use Rattle.notation.specs.Quoted.{unquoted}
 
 -- the letter of an escape: \ ' " n
 abbrev pub isEscape : ℕ → Bool
