@@ -13,7 +13,7 @@ use Rattle.notation.specs.Tokens.{Token, mark, malformed, Lexeme, lexeme}
 use Rattle.notation.specs.Lexing.{isLetter, inWord, Mode, between, Read, reads, with, fails, begins, stepByte, theEnd, notWhole, finish, lineBehind, lex}
 use Rattle.notation.proofs.Lexing.{lex-step, Gathers, letter-no-feed}
 use Rattle.lexer.specs.Scanned.{WordRun}
-use Rattle.lexer.specs.Found.{Begins}
+use Rattle.lexer.specs.Found.{lexFrom, tokensFrom, Begins}
 use Rattle.lexer.proofs.Scanning.{at-the-end, stepped-on, run-gathered}
 
 -- ---- Before a byte
@@ -28,16 +28,16 @@ resumed-at c cs m p l x o h = rw (lex, h) (go (begins o p l c))
 
 -- the token x has ended, at a byte or at the end of the text
 pub token-ends : (t : List ℕ) (e : ℕ) (m : Mode) (l : ℕ) (x : Lexeme) (o : Bool) → (e < length t → stepByte m e l (getD t e 0) ≡ with x (begins o e l (getD t e 0))) → finish m e l ≡ x ∷ theEnd e l
-    → lex (drop e t) m e l ≡ x ∷ lex (drop e t) (between o) e l
+    → lexFrom t e l m ≡ x ∷ tokensFrom t e l o
 unfolding finish
 token-ends t e m l x o f g = go (ltb e (length t)) refl
   where
-    go : (b : Bool) → ltb e (length t) ≡ b → lex (drop e t) m e l ≡ x ∷ lex (drop e t) (between o) e l
+    go : (b : Bool) → ltb e (length t) ≡ b → lexFrom t e l m ≡ x ∷ tokensFrom t e l o
     go true i = let j = ltb-true e (length t) i in rw (drop-cons t e 0 j) (resumed-at (getD t e 0) (drop (suc e) t) m e l x o (f j))
     go false i = let j = ltb-false e (length t) i in at-the-end t e m l j ∙ g ∙ ap (λ (xs : List Lexeme). x ∷ xs) (sym (at-the-end t e (between o) l j))
 
 -- a token ends with a byte other than a line feed
-pub token-closed : (t : List ℕ) (i : ℕ) (m : Mode) (l : ℕ) (x : Lexeme) (o : Bool) → i < length t → stepByte m i l (getD t i 0) ≡ reads (x ∷ []) (between o) → lineBehind (getD t i 0) l ≡ l → lex (drop i t) m i l ≡ x ∷ lex (drop (i + 1) t) (between o) (i + 1) l
+pub token-closed : (t : List ℕ) (i : ℕ) (m : Mode) (l : ℕ) (x : Lexeme) (o : Bool) → i < length t → stepByte m i l (getD t i 0) ≡ reads (x ∷ []) (between o) → lineBehind (getD t i 0) l ≡ l → lexFrom t i l m ≡ x ∷ tokensFrom t (i + 1) l o
 token-closed t i m l x o h e f = rw (add-one, drop-cons t i 0 h) (lex-step (getD t i 0) (drop (suc i) t) m i l (x ∷ []) (between o) e ∙ rw f)
 
 -- ---- Malformed pieces
@@ -51,17 +51,17 @@ pub begins-token : {p l : ℕ} {a b : Token} {xs rest : List Lexeme} → xs ≡ 
 begins-token {rest = rest} e h = record { rest = rest; begins = e ∙ rw h }
 
 -- the byte breaks off the token that began at p on line k
-pub broken-here : (t : List ℕ) (i : ℕ) (m : Mode) (l p k : ℕ) → i < length t → stepByte m i l (getD t i 0) ≡ fails p k → Begins (lexeme p k (mark malformed)) (lex (drop i t) m i l)
+pub broken-here : (t : List ℕ) (i : ℕ) (m : Mode) (l p k : ℕ) → i < length t → stepByte m i l (getD t i 0) ≡ fails p k → Begins (lexeme p k (mark malformed)) (lexFrom t i l m)
 broken-here t i m l p k h e = record {
-  rest = lex (drop (suc i) t) Mode.broken (suc i) (lineBehind (getD t i 0) l);
+  rest = lexFrom t (suc i) (lineBehind (getD t i 0) l) Mode.broken;
   begins = rw (drop-cons t i 0 h) (lex-step (getD t i 0) (drop (suc i) t) m i l (lexeme p k (mark malformed) ∷ []) Mode.broken e);
 }
 
 -- or the text ends in it
-pub breaks-off : (t : List ℕ) (i : ℕ) (m : Mode) (l p k : ℕ) → (i < length t → stepByte m i l (getD t i 0) ≡ fails p k) → finish m i l ≡ notWhole p k → Begins (lexeme p k (mark malformed)) (lex (drop i t) m i l)
+pub breaks-off : (t : List ℕ) (i : ℕ) (m : Mode) (l p k : ℕ) → (i < length t → stepByte m i l (getD t i 0) ≡ fails p k) → finish m i l ≡ notWhole p k → Begins (lexeme p k (mark malformed)) (lexFrom t i l m)
 breaks-off t i m l p k f g = go (ltb i (length t)) refl
   where
-    go : (b : Bool) → ltb i (length t) ≡ b → Begins (lexeme p k (mark malformed)) (lex (drop i t) m i l)
+    go : (b : Bool) → ltb i (length t) ≡ b → Begins (lexeme p k (mark malformed)) (lexFrom t i l m)
     go true j = let h = ltb-true i (length t) j in broken-here t i m l p k h (f h)
     go false j = record { rest = []; begins = at-the-end t i m l (ltb-false i (length t) j) ∙ g }
 
@@ -85,7 +85,7 @@ with-letter t a b e h letter run = record {
 
 -- a letter at a, from the mode n in which it begins a name, and the bytes of the name up to e
 pub name-read : (M : List ℕ → Mode) → Gathers M → (n : Mode) (t : List ℕ) (a b e l : ℕ) → ((c : ℕ) → isLetter c ≡ true → stepByte n a l c ≡ reads [] (M (c ∷ []))) → a + 1 ≡ b → isLetter (getD t a 0) ≡ true → WordRun t b e
-    → lex (drop a t) n a l ≡ lex (drop e t) (M (slice a e t)) e l
+    → lexFrom t a l n ≡ lexFrom t e l (M (slice a e t))
 name-read M g n t a b e l f h letter run =
     let c = getD t a 0 in
     let from : slice a e t ≡ c ∷ slice (a + 1) e t = slice-cons a e t 0 (omega (arith, run .low)) (run .high) ∙ rw add-one in

@@ -1,21 +1,21 @@
 -- What is found, for each kind of token, from what the lexer gives at its first byte.
 use Prim.Native.Nat.{ℕ, _+_, _≤_, _<_}
-use mathlib.Core.Path.{_≡_, refl, _∙_}
-use mathlib.Core.Bool.{Bool}
+use mathlib.Core.Path.{_≡_, refl, sym, ap, _∙_}
+use mathlib.Core.Bool.{Bool, true, false}
 use mathlib.Core.List.{List, [], _∷_}
 use native.Mathlib.Omega.{arith}
-use lib.ListN.{length, drop}
+use lib.ListN.{length}
 use lib.Seq.{slice}
 use borrow.Author.Tests.{ne-eqb}
-use Rattle.notation.specs.Tokens.{word, variable, topVariable, mark, aWord, aVariable, aQualified, endOfText, malformed, operandBehind, lexeme}
-use Rattle.notation.specs.Lexing.{lex, between}
-use Rattle.lexer.specs.declared.Token.{Token}
+use Rattle.rules.proofs.Within.{false-not-true}
+use Rattle.notation.specs.Tokens.{Token, word, variable, topVariable, mark, kind, aWord, aText, aVariable, aQualified, endOfText, malformed, operandBehind, isAmong, lexeme}
+use Rattle.lexer.specs.declared.Token as found
 use Rattle.lexer.specs.declared.Spot.{Spot}
 use Rattle.lexer.specs.Scanned.{Skipped}
-use Rattle.lexer.specs.Found.{tokenIn, plainToken, Named, Sized, Begins, Found}
+use Rattle.lexer.specs.Found.{tokensFrom, tokenIn, plainToken, Named, Sized, Begins, Found}
 
 -- white space and comments before a token do not change it
-pub found-behind : {t : List ℕ} {a b : Spot} {o : Bool} {r : Token} → Skipped t a b → Found t (b .at) (b .line) o r → Found t (a .at) (a .line) o r
+pub found-behind : {t : List ℕ} {a b : Spot} {o : Bool} {r : found.Token} → Skipped t a b → Found t (b .at) (b .line) o r → Found t (a .at) (a .line) o r
 found-behind {t} {a} {b} {o} {r} s f = record {
   low = omega (arith, s .low, f .low);
   high = f .high;
@@ -31,9 +31,33 @@ found-behind {t} {a} {b} {o} {r} s f = record {
   first = λ e g. s .same-tokens o ∙ f .first e g;
 }
 
+-- ---- Tokens that hold no name
+
+abbrev holders : List ℕ
+holders = aWord ∷ aText ∷ aVariable ∷ aQualified ∷ []
+
+pub nameless : (t : List ℕ) (r : found.Token) → isAmong (r .kind) holders ≡ false → r .«class_end» ≡ 0 → Sized t r
+nameless t r h class = record {
+  word-size = λ e. no-holder aWord refl e;
+  variable-size = λ e. no-holder aVariable refl e;
+  top-size = λ e f. no-holder aQualified refl e;
+  class-size = λ e f. no-holder aQualified refl e;
+  no-class = λ e. class;
+  text-size = λ e. no-holder aText refl e;
+}
+  where
+    no-holder : {A : Type 0} (k : ℕ) → isAmong k holders ≡ true → r .kind ≡ k → A
+    no-holder k i e = false-not-true (sym h ∙ ap (λ (x : ℕ). isAmong x holders) e ∙ i)
+
+-- ---- The end, faults and tokens, at p on line l
+
+-- the text from p on gives the token x, and those from e on, which is on line k
+abbrev pub Gives : (t : List ℕ) (p l : ℕ) (o : Bool) → Token → (e k : ℕ) → Type 0
+Gives t p l o x e k = tokensFrom t p l o ≡ lexeme p l x ∷ tokensFrom t e k (operandBehind (kind x))
+
 module _ (t : List ℕ) (p l : ℕ) (o : Bool) (bound : l ≤ p) where
   -- the end of the text
-  pub found-end : p ≤ length t → lex (drop p t) (between o) p l ≡ lexeme p l (mark endOfText) ∷ [] → Found t p l o (plainToken endOfText p l p)
+  pub found-end : p ≤ length t → tokensFrom t p l o ≡ lexeme p l (mark endOfText) ∷ [] → Found t p l o (plainToken endOfText p l p)
   found-end h e = record {
     low = omega arith;
     high = h;
@@ -42,13 +66,7 @@ module _ (t : List ℕ) (p l : ℕ) (o : Bool) (bound : l ≤ p) where
     line-forward = omega arith;
     line-bound = bound;
     line-behind-bound = bound;
-    sized = record {
-      word-size = λ e. absurd (omega arith);
-      variable-size = λ e. absurd (omega arith);
-      top-size = λ e f. absurd (omega arith);
-      class-size = λ e f. absurd (omega arith);
-      text-size = λ e. absurd (omega arith);
-    };
+    sized = nameless t (plainToken endOfText p l p) refl refl;
     at-end = λ f. e;
     at-fault = λ f. absurd (omega arith);
     some-byte = λ f g. absurd (f refl);
@@ -56,7 +74,7 @@ module _ (t : List ℕ) (p l : ℕ) (o : Bool) (bound : l ≤ p) where
   }
 
   -- a malformed piece
-  pub found-fault : p ≤ length t → Begins (lexeme p l (mark malformed)) (lex (drop p t) (between o) p l) → Found t p l o (plainToken malformed p l p)
+  pub found-fault : p ≤ length t → Begins (lexeme p l (mark malformed)) (tokensFrom t p l o) → Found t p l o (plainToken malformed p l p)
   found-fault h e = record {
     low = omega arith;
     high = h;
@@ -65,13 +83,7 @@ module _ (t : List ℕ) (p l : ℕ) (o : Bool) (bound : l ≤ p) where
     line-forward = omega arith;
     line-bound = bound;
     line-behind-bound = bound;
-    sized = record {
-      word-size = λ e. absurd (omega arith);
-      variable-size = λ e. absurd (omega arith);
-      top-size = λ e f. absurd (omega arith);
-      class-size = λ e f. absurd (omega arith);
-      text-size = λ e. absurd (omega arith);
-    };
+    sized = nameless t (plainToken malformed p l p) refl refl;
     at-end = λ f. absurd (omega arith);
     at-fault = λ f. e;
     some-byte = λ f g. absurd (g refl);
@@ -79,11 +91,11 @@ module _ (t : List ℕ) (p l : ℕ) (o : Bool) (bound : l ≤ p) where
   }
 
   -- any other token r that begins here
-  pub found-token : (r : Token) → r .start ≡ p → r .line ≡ l → p < r .end → r .end ≤ length t → l ≤ r .«line_behind» → r .«line_behind» ≤ r .end
+  pub found-token : (r : found.Token) → r .start ≡ p → r .line ≡ l → p < r .end → r .end ≤ length t → l ≤ r .«line_behind» → r .«line_behind» ≤ r .end
       → (r .kind ≡ endOfText → ⊥) → (r .kind ≡ malformed → ⊥) → Sized t r
-      → lex (drop p t) (between o) p l ≡ lexeme p l (tokenIn t r) ∷ lex (drop (r .end) t) (between (operandBehind (r .kind))) (r .end) (r .«line_behind»)
+      → tokensFrom t p l o ≡ lexeme p l (tokenIn t r) ∷ tokensFrom t (r .end) (r .«line_behind») (operandBehind (r .kind))
       → Found t p l o r
-  found-token r start line some high rises behind no-end no-fault sized e = record {
+  found-token r start line more high rises behind no-end no-fault sized e = record {
     low = omega arith;
     high = high;
     forward = omega arith;
@@ -100,28 +112,21 @@ module _ (t : List ℕ) (p l : ℕ) (o : Bool) (bound : l ≤ p) where
 
 -- ---- Signs and keywords
 
--- a mark holds no name
 mark-sized : (t : List ℕ) (k p l e : ℕ) → 7 ≤ k → Sized t (plainToken k p l e)
-mark-sized t k p l e h = record {
-  word-size = λ e. absurd (omega arith);
-  variable-size = λ e. absurd (omega arith);
-  top-size = λ e f. absurd (omega arith);
-  class-size = λ e f. absurd (omega arith);
-  text-size = λ e. absurd (omega arith);
-}
+mark-sized t k p l e h = nameless t (plainToken k p l e) (rw (ne-eqb k 0 (omega arith), ne-eqb k 2 (omega arith), ne-eqb k 3 (omega arith), ne-eqb k 4 (omega arith))) refl
 
 mark-meant : (t : List ℕ) (k p l e : ℕ) → 7 ≤ k → tokenIn t (plainToken k p l e) ≡ mark k
 unfolding tokenIn
 mark-meant t k p l e h = rw (ne-eqb k 0 (omega arith), ne-eqb k 1 (omega arith), ne-eqb k 2 (omega arith), ne-eqb k 3 (omega arith), ne-eqb k 4 (omega arith))
 
 module _ (t : List ℕ) (p l : ℕ) (o : Bool) (bound : l ≤ p) where
-  pub found-mark : (k e : ℕ) → 7 ≤ k → p < e → e ≤ length t → lex (drop p t) (between o) p l ≡ lexeme p l (mark k) ∷ lex (drop e t) (between (operandBehind k)) e l → Found t p l o (plainToken k p l e)
-  found-mark k e h some high f =
-      found-token t p l o bound (plainToken k p l e) refl refl some high (omega arith) (omega arith) (λ g. omega arith) (λ g. omega arith) (mark-sized t k p l e h) (f ∙ rw (mark-meant t k p l e h))
+  pub found-mark : (k e : ℕ) → 7 ≤ k → p < e → e ≤ length t → Gives t p l o (mark k) e l → Found t p l o (plainToken k p l e)
+  found-mark k e h more high f =
+      found-token t p l o bound (plainToken k p l e) refl refl more high (omega arith) (omega arith) (λ g. omega arith) (λ g. omega arith) (mark-sized t k p l e h) (f ∙ rw (mark-meant t k p l e h))
 
   -- ---- Names
 
-  pub found-word : (e : ℕ) → Named p e → e ≤ length t → lex (drop p t) (between o) p l ≡ lexeme p l (word (slice p e t)) ∷ lex (drop e t) (between (operandBehind aWord)) e l → Found t p l o (plainToken aWord p l e)
+  pub found-word : (e : ℕ) → Named p e → e ≤ length t → Gives t p l o (word (slice p e t)) e l → Found t p l o (plainToken aWord p l e)
   unfolding tokenIn
   found-word e n high f =
       found-token t p l o bound (plainToken aWord p l e) refl refl (n .some-byte) high (omega arith) (omega (arith, n .some-byte)) (λ g. omega arith) (λ g. omega arith)
@@ -130,12 +135,12 @@ module _ (t : List ℕ) (p l : ℕ) (o : Bool) (bound : l ≤ p) where
         variable-size = λ g. absurd (omega arith);
         top-size = λ g i. absurd (omega arith);
         class-size = λ g i. absurd (omega arith);
+        no-class = λ g. refl;
         text-size = λ g. absurd (omega arith);
       }
       f
 
-  pub found-variable : (e : ℕ) → Named (p + 1) e → e ≤ length t → lex (drop p t) (between o) p l ≡ lexeme p l (variable (slice (p + 1) e t)) ∷ lex (drop e t) (between (operandBehind aVariable)) e l
-      → Found t p l o (plainToken aVariable p l e)
+  pub found-variable : (e : ℕ) → Named (p + 1) e → e ≤ length t → Gives t p l o (variable (slice (p + 1) e t)) e l → Found t p l o (plainToken aVariable p l e)
   unfolding tokenIn
   found-variable e n high f =
       found-token t p l o bound (plainToken aVariable p l e) refl refl (omega (arith, n .some-byte)) high (omega arith) (omega (arith, n .some-byte)) (λ g. omega arith) (λ g. omega arith)
@@ -144,12 +149,12 @@ module _ (t : List ℕ) (p l : ℕ) (o : Bool) (bound : l ≤ p) where
         variable-size = λ g. n;
         top-size = λ g i. absurd (omega arith);
         class-size = λ g i. absurd (omega arith);
+        no-class = λ g. refl;
         text-size = λ g. absurd (omega arith);
       }
       f
 
-  pub found-top : (e : ℕ) → Named (p + 3) e → e ≤ length t → lex (drop p t) (between o) p l ≡ lexeme p l (topVariable (slice (p + 3) e t)) ∷ lex (drop e t) (between (operandBehind aQualified)) e l
-      → Found t p l o (plainToken aQualified p l e)
+  pub found-top : (e : ℕ) → Named (p + 3) e → e ≤ length t → Gives t p l o (topVariable (slice (p + 3) e t)) e l → Found t p l o (plainToken aQualified p l e)
   unfolding tokenIn
   found-top e n high f =
       found-token t p l o bound (plainToken aQualified p l e) refl refl (omega (arith, n .some-byte)) high (omega arith) (omega (arith, n .some-byte)) (λ g. omega arith) (λ g. omega arith)
@@ -158,6 +163,7 @@ module _ (t : List ℕ) (p l : ℕ) (o : Bool) (bound : l ≤ p) where
         variable-size = λ g. absurd (omega arith);
         top-size = λ g i. n;
         class-size = λ g i. absurd (i refl);
+        no-class = λ g. refl;
         text-size = λ g. absurd (omega arith);
       }
       f

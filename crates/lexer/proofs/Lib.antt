@@ -1,9 +1,9 @@
 pub mod Scanning
-pub mod Words
+pub mod WordNumbers
 pub mod FoundTokens
 pub mod Ends
-pub mod Names
-pub mod Qualified
-pub mod Numbers
-pub mod Strings
-pub mod Signs
+pub mod FoundNames
+pub mod FoundQualified
+pub mod FoundNumbers
+pub mod FoundStrings
+pub mod FoundSigns

@@ -14,6 +14,7 @@ use Rattle.rules.proofs.Within.{false-not-true}
 use Rattle.notation.specs.Lexing.{isSpace, inWord, Mode, between, comment, reads, begins, stepByte, finish, lineBehind, lex}
 use Rattle.notation.proofs.Lexing.{lex-step, Gathers}
 use Rattle.lexer.specs.Scanned.{isGap}
+use Rattle.lexer.specs.Found.{lexFrom, tokensFrom}
 
 -- ---- Tests
 
@@ -52,45 +53,45 @@ line-rises c l = go (eqb c 0x0a)
 -- ---- One byte
 
 -- behind the last byte the lexer finishes
-pub at-the-end : (t : List ℕ) (i : ℕ) (m : Mode) (l : ℕ) → length t ≤ i → lex (drop i t) m i l ≡ finish m i l
+pub at-the-end : (t : List ℕ) (i : ℕ) (m : Mode) (l : ℕ) → length t ≤ i → lexFrom t i l m ≡ finish m i l
 unfolding lex
 at-the-end t i m l h = rw (drop-of-length-le t h)
 
 -- a byte that ends nothing
-pub stepped : (t : List ℕ) (i : ℕ) (m n : Mode) (l : ℕ) → i < length t → stepByte m i l (getD t i 0) ≡ reads [] n → lex (drop i t) m i l ≡ lex (drop (i + 1) t) n (i + 1) (lineBehind (getD t i 0) l)
+pub stepped : (t : List ℕ) (i : ℕ) (m n : Mode) (l : ℕ) → i < length t → stepByte m i l (getD t i 0) ≡ reads [] n → lexFrom t i l m ≡ lexFrom t (i + 1) (lineBehind (getD t i 0) l) n
 stepped t i m n l h e = rw (add-one, drop-cons t i 0 h) (lex-step (getD t i 0) (drop (suc i) t) m i l [] n e)
 
 -- the same for a byte other than a line feed
-pub stepped-on : (t : List ℕ) (i : ℕ) (m n : Mode) (l : ℕ) → i < length t → stepByte m i l (getD t i 0) ≡ reads [] n → eqb (getD t i 0) 0x0a ≡ false → lex (drop i t) m i l ≡ lex (drop (i + 1) t) n (i + 1) l
+pub stepped-on : (t : List ℕ) (i : ℕ) (m n : Mode) (l : ℕ) → i < length t → stepByte m i l (getD t i 0) ≡ reads [] n → eqb (getD t i 0) 0x0a ≡ false → lexFrom t i l m ≡ lexFrom t (i + 1) l n
 stepped-on t i m n l h e f = stepped t i m n l h e ∙ rw f
 
-pub stepped-to : (t : List ℕ) (i j : ℕ) (m n : Mode) (l : ℕ) → i + 1 ≡ j → i < length t → stepByte m i l (getD t i 0) ≡ reads [] n → eqb (getD t i 0) 0x0a ≡ false → lex (drop i t) m i l ≡ lex (drop j t) n j l
+pub stepped-to : (t : List ℕ) (i j : ℕ) (m n : Mode) (l : ℕ) → i + 1 ≡ j → i < length t → stepByte m i l (getD t i 0) ≡ reads [] n → eqb (getD t i 0) 0x0a ≡ false → lexFrom t i l m ≡ lexFrom t j l n
 stepped-to t i j m n l next h e f = stepped-on t i m n l h e f ∙ rw next
 
 -- ---- White space and comments
 
 -- white space is passed
-pub space-passed : (t : List ℕ) (at : ℕ) (o : Bool) (line : ℕ) → at < length t → isSpace (getD t at 0) ≡ true → lex (drop at t) (between o) at line ≡ lex (drop (at + 1) t) (between o) (at + 1) (lineBehind (getD t at 0) line)
+pub space-passed : (t : List ℕ) (at : ℕ) (o : Bool) (line : ℕ) → at < length t → isSpace (getD t at 0) ≡ true → tokensFrom t at line o ≡ tokensFrom t (at + 1) (lineBehind (getD t at 0) line) o
 unfolding stepByte begins
 space-passed t at o line h s = stepped t at (between o) (between o) line h (rw (begins, s))
 
 -- # begins a comment
-pub comment-begun : (t : List ℕ) (at : ℕ) (o : Bool) (line : ℕ) → at < length t → getD t at 0 ≡ 0x23 → lex (drop at t) (between o) at line ≡ lex (drop (at + 1) t) (comment o) (at + 1) line
+pub comment-begun : (t : List ℕ) (at : ℕ) (o : Bool) (line : ℕ) → at < length t → getD t at 0 ≡ 0x23 → tokensFrom t at line o ≡ lexFrom t (at + 1) line (comment o)
 unfolding stepByte begins
 comment-begun t at o line h e = stepped-on t at (between o) (comment o) line h (rw e) (rw e)
 
 -- a byte of a comment
-pub comment-passed : (t : List ℕ) (at : ℕ) (o : Bool) (line : ℕ) → at < length t → eqb (getD t at 0) 0x0a ≡ false → lex (drop at t) (comment o) at line ≡ lex (drop (at + 1) t) (comment o) (at + 1) line
+pub comment-passed : (t : List ℕ) (at : ℕ) (o : Bool) (line : ℕ) → at < length t → eqb (getD t at 0) 0x0a ≡ false → lexFrom t at line (comment o) ≡ lexFrom t (at + 1) line (comment o)
 unfolding stepByte
 comment-passed t at o line h e = stepped-on t at (comment o) (comment o) line h (rw e) e
 
 -- a line feed ends a comment, as it would be passed without one
-pub comment-ended : (t : List ℕ) (at : ℕ) (o : Bool) (line : ℕ) → at < length t → getD t at 0 ≡ 0x0a → lex (drop at t) (comment o) at line ≡ lex (drop at t) (between o) at line
+pub comment-ended : (t : List ℕ) (at : ℕ) (o : Bool) (line : ℕ) → at < length t → getD t at 0 ≡ 0x0a → lexFrom t at line (comment o) ≡ tokensFrom t at line o
 unfolding stepByte begins
 comment-ended t at o line h e = stepped t at (comment o) (between o) line h (rw e) ∙ sym (stepped t at (between o) (between o) line h (rw e))
 
 -- so does the end of the text
-pub comment-finished : (t : List ℕ) (at : ℕ) (o : Bool) (line : ℕ) → length t ≤ at → lex (drop at t) (comment o) at line ≡ lex (drop at t) (between o) at line
+pub comment-finished : (t : List ℕ) (at : ℕ) (o : Bool) (line : ℕ) → length t ≤ at → lexFrom t at line (comment o) ≡ tokensFrom t at line o
 unfolding finish
 comment-finished t at o line h = at-the-end t at (comment o) line h ∙ sym (at-the-end t at (between o) line h)
 
@@ -109,7 +110,7 @@ word-no-feed c h = differs inWord c 0x0a h refl
 
 -- the bytes of a run of a word are gathered, by each mode that gathers them
 pub run-gathered : (M : List ℕ → Mode) → Gathers M → (t : List ℕ) (r k at : ℕ) → at + k ≡ r → r ≤ length t → ((i : ℕ) → at ≤ i → i < r → inWord (getD t i 0) ≡ true)
-    → (v : List ℕ) (l : ℕ) → lex (drop at t) (M v) at l ≡ lex (drop r t) (M (v ++ slice at r t)) r l
+    → (v : List ℕ) (l : ℕ) → lexFrom t at l (M v) ≡ lexFrom t r l (M (v ++ slice at r t))
 run-gathered M g t r zero at e h inside v l = let same : at ≡ r = omega arith in rw (same, slice-empty r t, append-nil)
 run-gathered M g t r (suc k) at e h inside v l =
     let c = getD t at 0 in

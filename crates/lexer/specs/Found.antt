@@ -11,9 +11,19 @@ use lib.Seq.{slice}
 use Rattle.rules.specs.Bytes.{pick}
 use Rattle.notation.specs.Tokens.{word, number, text, variable, topVariable, classVariable, mark, aWord, aNumber, aText, aVariable, aQualified, endOfText, malformed, operandBehind, Lexeme, lexeme}
 use Rattle.notation.specs.Tokens as tokens
-use Rattle.notation.specs.Lexing.{lex, between}
 use Rattle.notation.specs.Quoted.{quotedAt}
+use Rattle.notation.specs.Lexing.{Mode, lex, between}
 use Rattle.lexer.specs.declared.Token.{Token}
+
+-- ---- Tokens from a place on
+
+-- the tokens of a text from `at` on, which is on this line, where the lexer is in mode m
+abbrev pub lexFrom : (text : List ℕ) → (at line : ℕ) → (m : Mode) → List Lexeme
+lexFrom t at line m = lex (drop at t) m at line
+
+-- between two tokens; o: an operand may begin here
+abbrev pub tokensFrom : (text : List ℕ) → (at line : ℕ) → (o : Bool) → List Lexeme
+tokensFrom t at line o = lexFrom t at line (between o)
 
 -- ---- Tokens
 
@@ -44,12 +54,13 @@ pub record Named (a b : ℕ) : Type 0 where
   pub some-byte : a < b
   pub at-most-255 : b ≤ a + 255
 
--- the names and strings in a token are not too long
+-- the names and strings in a token are not too long, and only $::a::x has a class
 pub record Sized (t : List ℕ) (r : Token) : Type 0 where
   pub word-size : r .kind ≡ aWord → Named (r .start) (r .end)
   pub variable-size : r .kind ≡ aVariable → Named (r .start + 1) (r .end)
   pub top-size : r .kind ≡ aQualified → r .«class_end» ≡ 0 → Named (r .start + 3) (r .end)
   pub class-size : r .kind ≡ aQualified → (r .«class_end» ≡ 0 → ⊥) → Named (r .start + 3) (r .«class_end») × Named (r .«class_end» + 2) (r .end)
+  pub no-class : (r .kind ≡ aQualified → ⊥) → r .«class_end» ≡ 0
   pub text-size : r .kind ≡ aText → length (quotedAt t (r .start)) ≤ 255
 
 -- the tokens xs begin with x
@@ -67,8 +78,8 @@ pub record Found (t : List ℕ) (at line : ℕ) (o : Bool) (r : Token) : Type 0 
   pub line-bound : r .line ≤ r .start
   pub line-behind-bound : r .«line_behind» ≤ r .end
   pub sized : Sized t r
-  pub at-end : r .kind ≡ endOfText → lex (drop at t) (between o) at line ≡ lexeme (r .start) (r .line) (mark endOfText) ∷ []
-  pub at-fault : r .kind ≡ malformed → Begins (lexeme (r .start) (r .line) (mark malformed)) (lex (drop at t) (between o) at line)
+  pub at-end : r .kind ≡ endOfText → tokensFrom t at line o ≡ lexeme (r .start) (r .line) (mark endOfText) ∷ []
+  pub at-fault : r .kind ≡ malformed → Begins (lexeme (r .start) (r .line) (mark malformed)) (tokensFrom t at line o)
   pub some-byte : (r .kind ≡ endOfText → ⊥) → (r .kind ≡ malformed → ⊥) → r .start < r .end
   pub first : (r .kind ≡ endOfText → ⊥) → (r .kind ≡ malformed → ⊥)
-      → lex (drop at t) (between o) at line ≡ lexeme (r .start) (r .line) (tokenIn t r) ∷ lex (drop (r .end) t) (between (operandBehind (r .kind))) (r .end) (r .«line_behind»)
+      → tokensFrom t at line o ≡ lexeme (r .start) (r .line) (tokenIn t r) ∷ tokensFrom t (r .end) (r .«line_behind») (operandBehind (r .kind))

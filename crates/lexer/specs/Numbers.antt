@@ -5,10 +5,11 @@ use mathlib.Core.Bool.{Bool, true, false, _&&_}
 use mathlib.Core.List.{List}
 use lib.Dec.{leb, ltb}
 use lib.IntN.{ℤ, pos, negsuc}
-use lib.ListN.{length, getD, drop}
+use lib.ListN.{length, getD}
 use Rattle.rules.specs.Bytes.{pick}
-use Rattle.notation.specs.Lexing.{isDigit, inWord, between, inNumber, lex}
+use Rattle.notation.specs.Lexing.{isDigit, inWord, inNumber}
 use Rattle.lexer.specs.declared.Digits.{Digits}
+use Rattle.lexer.specs.Found.{lexFrom, tokensFrom}
 
 -- the digit c goes on with the number n: not behind a zero, and the next number is at most a little above 64 bits
 abbrev pub moreDigits : (c n : ℕ) → Bool
@@ -18,7 +19,7 @@ moreDigits c n = isDigit c && (leb 1 n && leb n 922337203685477580)
 pub record DigitsRun (t : List ℕ) (at n : ℕ) (r : Digits) : Type 0 where
   pub low : at ≤ r .end
   pub high : r .end ≤ length t
-  pub same-tokens : (p l : ℕ) (s : Bool) → lex (drop at t) (inNumber p l s n) at l ≡ lex (drop (r .end) t) (inNumber p l s (r .value)) (r .end) l
+  pub same-tokens : (p l : ℕ) (s : Bool) → lexFrom t at l (inNumber p l s n) ≡ lexFrom t (r .end) l (inNumber p l s (r .value))
   pub stops : r .end < length t → moreDigits (getD t (r .end) 0) (r .value) ≡ false
 
 -- a byte of a word at `at`
@@ -36,4 +37,4 @@ signedOf true (suc n) = negsuc n
 
 -- from `start` on a number is read, and `from` is the place of its first digit
 pub record DigitRead (t : List ℕ) (start line : ℕ) (o : Bool) (from : ℕ) (negative : Bool) : Type 0 where
-  pub same-tokens : lex (drop start t) (between o) start line ≡ lex (drop (from + 1) t) (inNumber start line negative (getD t from 0 - 0x30)) (from + 1) line
+  pub same-tokens : tokensFrom t start line o ≡ lexFrom t (from + 1) line (inNumber start line negative (getD t from 0 - 0x30))

@@ -4,10 +4,11 @@ use mathlib.Core.Path.{_≡_}
 use mathlib.Core.Bool.{Bool, true, false, _&&_, _||_}
 use mathlib.Core.List.{List}
 use lib.Dec.{ltb, eqb}
-use lib.ListN.{length, getD, drop}
+use lib.ListN.{length, getD}
 use lib.Seq.{slice}
-use Rattle.notation.specs.Lexing.{lex, between, comment, inTop, inWord, isSpace, lineBehind}
+use Rattle.notation.specs.Lexing.{comment, inTop, inWord, isSpace, lineBehind}
 use Rattle.lexer.specs.declared.Spot.{Spot}
+use Rattle.lexer.specs.Found.{lexFrom, tokensFrom}
 
 -- the bytes from `at` to r are in a word, and the one at r, if there is one, is not
 pub record WordRun (t : List ℕ) (at r : ℕ) : Type 0 where
@@ -20,7 +21,7 @@ pub record WordRun (t : List ℕ) (at r : ℕ) : Type 0 where
 pub record CommentRun (t : List ℕ) (at r : ℕ) : Type 0 where
   pub low : at ≤ r
   pub high : r ≤ length t
-  pub same-tokens : (o : Bool) (line : ℕ) → lex (drop at t) (comment o) at line ≡ lex (drop r t) (between o) r line
+  pub same-tokens : (o : Bool) (line : ℕ) → lexFrom t at line (comment o) ≡ tokensFrom t r line o
 
 -- white space, or the # of a comment
 abbrev pub isGap : ℕ → Bool
@@ -30,7 +31,7 @@ isGap c = isSpace c || eqb c 0x23
 pub record GapRun (t : List ℕ) (at r : ℕ) : Type 0 where
   pub low : at < r
   pub high : r ≤ length t
-  pub same-tokens : (o : Bool) (line : ℕ) → lex (drop at t) (between o) at line ≡ lex (drop r t) (between o) r (lineBehind (getD t at 0) line)
+  pub same-tokens : (o : Bool) (line : ℕ) → tokensFrom t at line o ≡ tokensFrom t r (lineBehind (getD t at 0) line) o
 
 -- the tokens from there on are the same, and neither white space nor a comment is left
 pub record Skipped (t : List ℕ) (from to : Spot) : Type 0 where
@@ -38,7 +39,7 @@ pub record Skipped (t : List ℕ) (from to : Spot) : Type 0 where
   pub high : to .at ≤ length t
   pub line-low : from .line ≤ to .line
   pub line-bound : to .line ≤ to .at
-  pub same-tokens : (o : Bool) → lex (drop (from .at) t) (between o) (from .at) (from .line) ≡ lex (drop (to .at) t) (between o) (to .at) (to .line)
+  pub same-tokens : (o : Bool) → tokensFrom t (from .at) (from .line) o ≡ tokensFrom t (to .at) (to .line) o
   pub stops : to .at < length t → isGap (getD t (to .at) 0) ≡ false
 
 -- ---- Variables
@@ -52,4 +53,4 @@ pub record TopRead (t : List ℕ) (p l e : ℕ) : Type 0 where
   pub line-bound : l ≤ p
   pub some-byte : p + 3 < e
   pub run : WordRun t (p + 3) e
-  pub same-tokens : (o : Bool) → lex (drop p t) (between o) p l ≡ lex (drop e t) (inTop p l (slice (p + 3) e t)) e l
+  pub same-tokens : (o : Bool) → tokensFrom t p l o ≡ lexFrom t e l (inTop p l (slice (p + 3) e t))

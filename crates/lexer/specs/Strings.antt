@@ -7,10 +7,10 @@ use lib.Dec.{ltb, eqb}
 use lib.ListN.{length, getD, drop}
 use Rattle.rules.specs.Bytes.{pick}
 use Rattle.notation.specs.Tokens.{mark, kind, malformed, operandBehind, lexeme}
-use Rattle.notation.specs.Lexing.{textToken, between, inString, lex}
+use Rattle.notation.specs.Lexing.{textToken, inString}
 use Rattle.lexer.specs.declared.Quoted.{Quoted}
-use Rattle.lexer.specs.Found.{Begins}
 use Rattle.notation.specs.Quoted.{unquoted}
+use Rattle.lexer.specs.Found.{lexFrom, tokensFrom, Begins}
 
 -- the letter of an escape: \ ' " n
 abbrev pub isEscape : ℕ → Bool
@@ -31,5 +31,5 @@ pub record StringRun (t : List ℕ) (at line quote : ℕ) (r : Quoted) : Type 0 
   pub line-bound : r .line ≤ r .end
   pub sized : r .closed ≡ true → length (unquoted (drop at t) quote) ≡ r .size
   pub whole : r .closed ≡ true → (p l : ℕ)
-      → lex (drop at t) (inString p l quote []) at line ≡ lexeme p l (textToken (unquoted (drop at t) quote)) ∷ lex (drop (r .end) t) (between (operandBehind (kind (textToken (unquoted (drop at t) quote))))) (r .end) (r .line)
-  pub broken : r .closed ≡ false → (p l : ℕ) → Begins (lexeme p l (mark malformed)) (lex (drop at t) (inString p l quote []) at line)
+      → lexFrom t at line (inString p l quote []) ≡ lexeme p l (textToken (unquoted (drop at t) quote)) ∷ tokensFrom t (r .end) (r .line) (operandBehind (kind (textToken (unquoted (drop at t) quote))))
+  pub broken : r .closed ≡ false → (p l : ℕ) → Begins (lexeme p l (mark malformed)) (lexFrom t at line (inString p l quote []))

@@ -1,30 +1,16 @@
 -- `token_at`: by the first byte, in the order of the definition.
-use Prim.Native.Nat.{ℕ, suc, _+_, _-_, _*_, _≤_, _<_}
-use mathlib.Core.Path.{_≡_, refl, sym, ap, _∙_, subst}
-use mathlib.Core.Bool.{Bool, true, false}
+use mathlib.Core.Path.{_≡_, sym, _∙_}
+use mathlib.Core.Bool.{true}
 use native.Mathlib.Omega.{arith}
-use borrow.Author.Tests.{ne-eqb, eq-eqb, not-true, not-false}
-use lib.ListN.{length, drop, getD}
+use borrow.Author.Tests.{ne-eqb}
+use lib.ListN.{getD}
 use borrow.Author.Needs.{needs}
 use lib.Dec.{eqb}
 use borrow.Author.Tests.{eqb-true}
 use Rattle.notation.proofs.Lexing.{both-true}
-use Rattle.lexer.proofs.Signs.{end-found, number-begun, sign-found}
+use Rattle.lexer.proofs.FoundSigns.{end-found, number-begun, sign-found}
 use Rattle.lexer.proofs.token_at.Statement.{statement}
 use Rattle.lexer.proofs.token_at.Tie as tie
-use Rattle.lexer.proofs.token_at.Reads as reads
-use Rattle.lexer.proofs.token_at.Lts as lts
-use Rattle.lexer.proofs.equals_token.Reads as equals-token-reads
-use Rattle.lexer.proofs.is_digit.Reads as is-digit-reads
-use Rattle.lexer.proofs.is_letter.Reads as is-letter-reads
-use Rattle.lexer.proofs.is_quote.Reads as is-quote-reads
-use Rattle.lexer.proofs.minus_token.Reads as minus-token-reads
-use Rattle.lexer.proofs.number_token.Reads as number-token-reads
-use Rattle.lexer.proofs.plain.Reads as plain-reads
-use Rattle.lexer.proofs.sign_token.Reads as sign-token-reads
-use Rattle.lexer.proofs.string_token.Reads as string-token-reads
-use Rattle.lexer.proofs.variable_token.Reads as variable-token-reads
-use Rattle.lexer.proofs.word_token.Reads as word-token-reads
 
 plain-requires : tie.Need-plain-requires
 plain-requires c κs = search needs
