@@ -1,2 +1,4 @@
 pub mod Packed
 pub mod Pushing
+pub mod Counts
+pub mod Bound
