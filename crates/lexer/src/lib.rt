@@ -9,17 +9,17 @@ use crate::bytes::is_digit;
 use crate::bytes::is_letter;
 use crate::bytes::is_quote;
 use crate::gaps::skip;
-use crate::kinds::END;
-use crate::kinds::plain;
 use crate::numbers::number_token;
+use crate::plain::plain;
 use crate::signs::equals_token;
 use crate::signs::minus_token;
 use crate::signs::sign_token;
 use crate::strings::string_token;
 use crate::variables::variable_token;
 use crate::words::word_token;
+use notation::kinds::END_OF_TEXT;
 
-mod kinds; // kinds.rt: kinds of tokens, and plain tokens
+mod plain; // plain.rt: tokens that hold no class and no number
 mod bytes; // bytes.rt: tests of bytes, and lines
 mod gaps; // gaps.rt: white space and comments
 mod words; // words.rt: words, keywords and names
@@ -65,7 +65,7 @@ fn token_at(text: &[u8], at: usize, line: usize, operand: bool) -> Token
     ensures { λ r. ⌜ Found (now (text .entry)) at line operand r ⌝ }
 {
     if text.len() <= at {
-        return plain(END, at, line, at);
+        return plain(END_OF_TEXT, at, line, at);
     }
     let c = text[at];
     if is_letter(c) {

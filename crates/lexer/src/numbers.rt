@@ -10,9 +10,9 @@ use crate::Digits;
 use crate::Token;
 use crate::bytes::in_word;
 use crate::bytes::wide;
-use crate::kinds::MALFORMED;
-use crate::kinds::NUMBER;
-use crate::kinds::plain;
+use crate::plain::plain;
+use notation::kinds::A_NUMBER;
+use notation::kinds::MALFORMED;
 
 // Whether a digit goes on with the number n: not behind a zero, and only while the number stays near 64 bits.
 fn is_more(c: u8, n: u64) -> bool
@@ -89,7 +89,7 @@ pub fn number_token(text: &[u8], start: usize, line: usize, from: usize, negativ
         return plain(MALFORMED, start, line, start);
     }
     Token {
-        kind: NUMBER,
+        kind: A_NUMBER,
         start: start,
         line: line,
         end: end,

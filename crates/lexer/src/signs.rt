@@ -8,13 +8,13 @@ ghost use Rattle.lexer.specs.Words.{kindFound};
 ghost use Rattle.lexer.specs.Found.{signToken, Found};
 use crate::Token;
 use crate::bytes::is_digit;
-use crate::kinds::ARROW;
-use crate::kinds::EQUALS;
-use crate::kinds::MALFORMED;
-use crate::kinds::MINUS;
-use crate::kinds::TWO_EQUALS;
-use crate::kinds::plain;
 use crate::numbers::number_token;
+use crate::plain::plain;
+use notation::kinds::ARROW;
+use notation::kinds::EQUALS;
+use notation::kinds::MALFORMED;
+use notation::kinds::MINUS_SIGN;
+use notation::kinds::TWO_EQUALS;
 use wire::byte_at;
 
 // The kind of the sign of one byte, or 0.
@@ -65,7 +65,7 @@ pub fn minus_token(text: &[u8], start: usize, line: usize) -> Token
     if is_digit(byte_at(text, next)) {
         return number_token(text, start, line, next, true);
     }
-    plain(MINUS, start, line, next)
+    plain(MINUS_SIGN, start, line, next)
 }
 
 // The sign c of one byte at `start`.

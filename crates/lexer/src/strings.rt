@@ -9,9 +9,9 @@ ghost use Rattle.lexer.specs.Strings.{isEscape, escapeAt, pieceSize, Str
 use crate::Quoted;
 use crate::Token;
 use crate::bytes::line_behind;
-use crate::kinds::MALFORMED;
-use crate::kinds::TEXT;
-use crate::kinds::plain;
+use crate::plain::plain;
+use notation::kinds::A_TEXT;
+use notation::kinds::MALFORMED;
 
 // The letter of an escape: \ ' " n.
 fn is_escape(c: u8) -> bool
@@ -96,7 +96,7 @@ pub fn string_token(text: &[u8], start: usize, line: usize) -> Token
         return plain(MALFORMED, start, line, start);
     }
     Token {
-        kind: TEXT,
+        kind: A_TEXT,
         start: start,
         line: line,
         end: s.end,

@@ -8,12 +8,12 @@ ghost use Rattle.lexer.specs.Scanned.{TopRead, twoColons};
 ghost use Rattle.lexer.specs.Found.{Found};
 use crate::Token;
 use crate::bytes::is_letter;
-use crate::kinds::MALFORMED;
-use crate::kinds::QUALIFIED;
-use crate::kinds::VARIABLE;
-use crate::kinds::plain;
+use crate::plain::plain;
 use crate::words::is_name;
 use crate::words::word_end;
+use notation::kinds::A_QUALIFIED;
+use notation::kinds::A_VARIABLE;
+use notation::kinds::MALFORMED;
 
 // $x, whose letter is behind the $ at `start`.
 fn simple_variable(text: &[u8], start: usize, line: usize) -> Token
@@ -24,7 +24,7 @@ fn simple_variable(text: &[u8], start: usize, line: usize) -> Token
     if !is_name(text, start + 1, end) {
         return plain(MALFORMED, start, line, start);
     }
-    plain(VARIABLE, start, line, end)
+    plain(A_VARIABLE, start, line, end)
 }
 
 // Two colons at `at`.
@@ -58,7 +58,7 @@ fn class_variable(text: &[u8], start: usize, line: usize, colons: usize) -> Toke
         return plain(MALFORMED, start, line, start);
     }
     Token {
-        kind: QUALIFIED,
+        kind: A_QUALIFIED,
         start: start,
         line: line,
         end: end,
@@ -89,7 +89,7 @@ fn qualified_variable(text: &[u8], start: usize, line: usize) -> Token
     if !is_name(text, start + 3, end) {
         return plain(MALFORMED, start, line, start);
     }
-    plain(QUALIFIED, start, line, end)
+    plain(A_QUALIFIED, start, line, end)
 }
 
 // The variable whose $ is at `start`.

@@ -11,8 +11,8 @@ ghost use Rattle.lexer.specs.Found.{Found};
 use crate::Token;
 use crate::bytes::in_word;
 use crate::bytes::wide;
-use crate::kinds::MALFORMED;
-use crate::kinds::plain;
+use crate::plain::plain;
+use notation::kinds::MALFORMED;
 
 // The end of the letters, digits and underscores from `at` on.
 pub fn word_end(text: &[u8], at: usize) -> usize

@@ -1,6 +1,5 @@
 // The grammar's table in code: what the symbol on top of the stack makes of a token, and the stack. The definition is crates/notation/specs/Grammar.antt;
 // symbols and actions are bytes here (specs/Codes.antt).
-pub mod kinds; // kinds.rt: the kinds of tokens
 pub mod symbols; // symbols.rt: the codes of symbols
 pub mod actions; // actions.rt: the codes of actions
 pub mod rows; // rows.rt: what a row is

@@ -4,12 +4,12 @@ ghost use mathlib.Core.Option.{some};
 ghost use Rattle.notation.specs.Grammar.{row, only as onlyOf};
 ghost use Rattle.notation.specs.Lexing.{find};
 ghost use Rattle.parse_table.specs.Codes.{actionsIn, symbolsIn, constantsIn, patternsIn, rowIn};
-use crate::kinds::A_NUMBER;
-use crate::kinds::A_TEXT;
-use crate::kinds::A_WORD;
-use crate::kinds::DEFAULT_WORD;
-use crate::kinds::FALSE_WORD;
-use crate::kinds::TRUE_WORD;
+use notation::kinds::A_NUMBER;
+use notation::kinds::A_TEXT;
+use notation::kinds::A_WORD;
+use notation::kinds::DEFAULT_WORD;
+use notation::kinds::FALSE_WORD;
+use notation::kinds::TRUE_WORD;
 
 // Whether the token is taken. If so, its actions, a byte each with the first one lowest, and the symbols that come instead, a byte each with the last
 // one lowest: they are put on the stack in this order.
