@@ -3,10 +3,11 @@
 ghost use mathlib.Core.Path.{_≡_};
 ghost use Prim.Native.Nat.{_+_, _<_, _≤_};
 ghost use lib.ListN.{length};
-ghost use Rattle.notation.specs.Lexing.{isQuote, inWord};
 ghost use Rattle.notation.specs.Quoted.{escapeOf, stringFrom};
 ghost use Rattle.interner.specs.Strings.{restOf, Stepped, orderOf};
 ghost use Rattle.interner.specs.Table.{Searchable, Searched, Moved, Ready, Kept};
+use lexer::bytes::in_word;
+use lexer::bytes::is_quote;
 
 // Which of two strings comes first.
 pub enum Order {
@@ -28,18 +29,6 @@ struct Step {
 }
 
 // ---- One string
-
-fn is_quote(c: u8) -> bool
-    ensures { λ r. ⌜ r ≡ isQuote c ⌝ }
-{
-    (c == 0x27) | (c == 0x22)
-}
-
-fn in_word(c: u8) -> bool
-    ensures { λ r. ⌜ r ≡ inWord c ⌝ }
-{
-    ((0x61 <= c) & (c <= 0x7a)) | (((0x30 <= c) & (c <= 0x39)) | (c == 0x5f))
-}
 
 fn escape_of(c: u8) -> u8
     ensures { λ r. ⌜ r ≡ escapeOf c ⌝ }

@@ -20,7 +20,7 @@ use crate::words::word_token;
 use notation::kinds::END_OF_TEXT;
 
 mod plain; // plain.rt: tokens that hold no class and no number
-mod bytes; // bytes.rt: tests of bytes, and lines
+pub mod bytes; // bytes.rt: tests of bytes, and lines
 mod gaps; // gaps.rt: white space and comments
 mod words; // words.rt: words, keywords and names
 mod variables; // variables.rt: variables
