@@ -1,0 +1,6 @@
+pub mod Writing
+pub mod WhiteSpace
+pub mod Spelling
+pub mod Strings
+pub mod Numbers
+pub mod Chains
