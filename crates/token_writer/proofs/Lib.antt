@@ -4,3 +4,4 @@ pub mod Spelling
 pub mod Strings
 pub mod Numbers
 pub mod Chains
+pub mod Lengths

@@ -1,18 +1,17 @@
 -- Strings in single quotes: byte by byte. Assumes nothing.
-use mathlib.Core.Path.{_≡_, refl, sym, ap, _∙_}
+use mathlib.Core.Path.{_≡_, sym, ap, _∙_}
 use mathlib.Core.Bool.{Bool, true, false}
 use mathlib.Core.List.{List, [], _∷_, _++_, append-nil, append-assoc}
 use Prim.Native.Nat.{ℕ, zero, suc, _+_, _*_, _≤_, _<_}
-use native.Mathlib.Numerals.{add-one}
 use native.Mathlib.Omega.{arith}
 use borrow.Author.Tests.{ne-eqb}
 use lib.Dec.{eqb}
-use lib.ListN.{length, take, getD, replicate, length-append}
+use lib.ListN.{length, take, getD, length-append}
 use lib.Seq.{take-all, length-take-le}
 use Rattle.rules.specs.Bytes.{pick}
 use Rattle.notation.specs.Layout.{escaped, escapedAll}
 use Rattle.token_writer.specs.Writing.{Wrote}
-use Rattle.token_writer.proofs.Writing.{wrote-is, wrote-join}
+use Rattle.token_writer.proofs.Writing.{wrote-is}
 
 module _ {a b : List ℕ} {f g x : ℕ} where
   -- a byte that is known

@@ -1,19 +1,18 @@
 -- The white space before a token: one law for each way through the tests. Assumes nothing.
-use mathlib.Core.Path.{_≡_, refl, sym, ap, _∙_}
+use mathlib.Core.Path.{_≡_, refl, sym, _∙_}
 use mathlib.Core.Bool.{Bool, true, false, _||_}
 use mathlib.Core.List.{List, [], _∷_, _++_}
 use mathlib.Core.Logic.{_⊎_, inl, inr}
-use mathlib.Core.Option.{none, some}
-use Prim.Native.Nat.{ℕ, suc, _+_, _*_, _-_, _≤_, _<_}
+use Prim.Native.Nat.{ℕ, _+_, _*_, _-_, _≤_, _<_}
 use native.Mathlib.Omega.{arith}
-use borrow.Author.Tests.{lt-ltb, le-ltb, eq-eqb, ne-eqb, eqb-true, eqb-false}
+use borrow.Author.Tests.{lt-ltb, le-ltb, ne-eqb, eqb-true, eqb-false}
 use lib.Dec.{ltb, eqb}
 use lib.ListN.{length, replicate, length-append, length-replicate}
 use Rattle.rules.specs.Bytes.{pick}
 use Rattle.notation.specs.Layout.{noSpaceBehind, noSpaceBefore, gap, bracketsBehind, laidOut}
 use Rattle.token_writer.specs.declared.Pen.{Pen}
 use Rattle.token_writer.specs.Writing.{Wrote}
-use Rattle.token_writer.specs.Pens.{lastKind, gapFor, Ready}
+use Rattle.token_writer.specs.Pens.{lastKind, gapFor, textFrom, Ready}
 
 -- ---- Where no space stands
 
@@ -134,11 +133,11 @@ after-gap pen k w r h gone = omega (arith, r .fill, gone .filled, gap-short pen 
 
 -- ---- The end of the text
 
-module _ (k n v : ℕ) where
-  pub end-none : k ≡ 255 → [] ≡ laidOut [] (lastKind k) n v
-  unfolding lastKind laidOut
+module _ (pen : Pen) where
+  pub end-none : pen .before ≡ 255 → [] ≡ textFrom pen []
+  unfolding textFrom lastKind laidOut
   end-none e = rw e
 
-  pub end-feed : (k ≡ 255 → ⊥) → 0x0a ∷ [] ≡ laidOut [] (lastKind k) n v
-  unfolding lastKind laidOut
-  end-feed other = rw (ne-eqb k 255 other)
+  pub end-feed : (pen .before ≡ 255 → ⊥) → 0x0a ∷ [] ≡ textFrom pen []
+  unfolding textFrom lastKind laidOut
+  end-feed other = rw (ne-eqb (pen .before) 255 other)

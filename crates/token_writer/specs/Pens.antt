@@ -1,13 +1,12 @@
--- A token more, by what stands before it.
+-- A token more, by what stands before it; and a text of tokens that is written up to one of them.
 use mathlib.Core.Path.{_≡_}
-use mathlib.Core.Bool.{true, false}
 use mathlib.Core.List.{List, _++_}
 use mathlib.Core.Option.{Option, none, some}
 use Prim.Native.Nat.{ℕ, _≤_}
 use lib.Dec.{eqb}
 use Rattle.rules.specs.Bytes.{pick}
-use Rattle.notation.specs.Tokens.{Token, kind}
-use Rattle.notation.specs.Layout.{gap, spelling, bracketsBehind}
+use Rattle.notation.specs.Tokens.{Token, kind, Lexeme}
+use Rattle.notation.specs.Layout.{gap, spelling, bracketsBehind, laidOut}
 use Rattle.token_writer.specs.declared.Pen.{Pen}
 use Rattle.token_writer.specs.Writing.{Wrote}
 
@@ -22,6 +21,10 @@ gapFor pen k w = gap (lastKind (pen .before)) (pen .brackets) (pen .line) k w
 -- a token on line w, with the white space before it
 unfoldable pub tokenBytes : Pen → (w : ℕ) → Token → List ℕ
 tokenBytes pen w t = gapFor pen (kind t) w ++ spelling t
+
+-- the tokens xs and the end of the text, behind what the pen has written
+unfoldable pub textFrom : Pen → List Lexeme → List ℕ
+textFrom pen xs = laidOut xs (lastKind (pen .before)) (pen .brackets) (pen .line)
 
 -- a pen that can write a token: its counts are far from overflowing
 pub record Ready (pen : Pen) : Type 0 where
@@ -38,3 +41,9 @@ pub record Behind (pen pen′ : Pen) (k w : ℕ) : Type 0 where
 pub record Put (out out′ : List ℕ) (pen pen′ : Pen) (w : ℕ) (t : Token) : Type 0 where
   pub bytes : Wrote out out′ (pen .fill) (pen′ .fill) (tokenBytes pen w t)
   pub behind : Behind pen pen′ (kind t) w
+
+-- of the text `whole`, the tokens xs and its end are still to be written; the output was out₀ at first
+pub record Halfway (out₀ out : List ℕ) (pen : Pen) (whole : List ℕ) (xs : List Lexeme) : Type 0 where
+  pub done : List ℕ
+  pub wrote : Wrote out₀ out 0 (pen .fill) done
+  pub rest : done ++ textFrom pen xs ≡ whole

@@ -1,6 +1,5 @@
 // The white space before a token, and the brackets that are open behind it.
 ghost use mathlib.Core.Path.{_≡_};
-ghost use mathlib.Core.Bool.{_||_};
 ghost use Prim.Native.Nat.{_≤_};
 ghost use Rattle.notation.specs.Layout.{noSpaceBehind, noSpaceBefore, bracketsBehind};
 ghost use Rattle.token_writer.specs.Writing.{Wrote};

@@ -4,9 +4,8 @@ ghost use mathlib.Core.List.{[]};
 ghost use Prim.Native.Nat.{_≤_};
 ghost use lib.ListN.{length};
 ghost use Rattle.notation.specs.Tokens.{word, number, text, variable, topVariable, classVariable, mark};
-ghost use Rattle.notation.specs.Layout.{laidOut};
 ghost use Rattle.token_writer.specs.Writing.{Wrote};
-ghost use Rattle.token_writer.specs.Pens.{lastKind, Ready, Behind, Put};
+ghost use Rattle.token_writer.specs.Pens.{textFrom, Ready, Behind, Put};
 use crate::gaps::brackets_behind;
 use crate::gaps::put_gap;
 use crate::marks::put_spelling;
@@ -145,7 +144,7 @@ pub fn put_number(out: &mut [u8], pen: Pen, line: u8, value: i64) -> Pen
 // The line feed behind the last token, if there is one. The answer is the length of the whole text.
 pub fn put_end(out: &mut [u8], pen: Pen) -> usize
     requires { ⌜ Ready pen ⌝ }
-    ensures { λ r. ⌜ Wrote (now (out .entry)) (now (out .exit)) (pen .fill) r (laidOut [] (lastKind (pen .before)) (pen .brackets) (pen .line)) ⌝ }
+    ensures { λ r. ⌜ Wrote (now (out .entry)) (now (out .exit)) (pen .fill) r (textFrom pen []) ⌝ }
 {
     if pen.before == NONE {
         return pen.fill;

@@ -1,5 +1,4 @@
 -- `put_end`: nothing, or a line feed.
-use native.Mathlib.Omega.{arith}
 use borrow.Author.Needs.{needs}
 use Rattle.token_writer.proofs.Writing.{wrote-is, wrote-none}
 use Rattle.token_writer.proofs.WhiteSpace.{end-none, end-feed}
@@ -7,10 +6,10 @@ use Rattle.token_writer.proofs.put_end.Statement.{statement}
 use Rattle.token_writer.proofs.put_end.Tie as tie
 
 returns : tie.Need-returns
-returns c = wrote-is (end-none _ _ _ (c .if1 .taken)) (wrote-none _ _)
+returns c = wrote-is (end-none _ (c .if1 .taken)) (wrote-none _ _)
 
 returns-2 : tie.Need-returns-2
-returns-2 c = wrote-is (end-feed _ _ _ (c .before .before .before .before .if1 .left)) (c .before .before .put-run .ensures)
+returns-2 c = wrote-is (end-feed _ (c .before .before .before .before .if1 .left)) (c .before .before .put-run .ensures)
 
 pub put-end-spec : {M : Type 1} → statement M
 put-end-spec =

@@ -9,7 +9,9 @@ use Rattle.token_writer.proofs.put_mark.Statement.{statement}
 use Rattle.token_writer.proofs.put_mark.Tie as tie
 
 put-spelling-requires : tie.Need-put-spelling-requires
-put-spelling-requires c κs = let s = c .before .before .before .before .before .before in (omega (arith, after-gap (s .args .pen) (s .args .kind) (s .args .line) (s .pre .0) (s .fits .line .fits) (c .before .before .before .put-gap .ensures)), c .before .before .before .before .before .before .pre .1, c .before .before .before .before .before .before .pre .2)
+put-spelling-requires c κs =
+    let s = c .before .before .before .before .before .before in
+    (omega (arith, after-gap (s .args .pen) (s .args .kind) (s .args .line) (s .pre .0) (s .fits .line .fits) (c .before .before .before .put-gap .ensures)), s .pre .1, s .pre .2)
 
 returns : tie.Need-returns
 unfolding spelling

@@ -14,7 +14,9 @@ use Rattle.token_writer.proofs.put_number.Statement.{statement}
 use Rattle.token_writer.proofs.put_number.Tie as tie
 
 put-integer-requires : tie.Need-put-integer-requires
-put-integer-requires c κs = let s = c .before .before .before .before .before .before in omega (arith, after-gap (s .args .pen) 1 (s .args .line) (s .pre) (s .fits .line .fits) (c .before .before .before .put-gap .ensures))
+put-integer-requires c κs =
+    let s = c .before .before .before .before .before .before in
+    omega (arith, after-gap (s .args .pen) 1 (s .args .line) (s .pre) (s .fits .line .fits) (c .before .before .before .put-gap .ensures))
 
 returns : tie.Need-returns
 unfolding spelling

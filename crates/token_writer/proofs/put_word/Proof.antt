@@ -9,7 +9,9 @@ use Rattle.token_writer.proofs.put_word.Statement.{statement}
 use Rattle.token_writer.proofs.put_word.Tie as tie
 
 put-bytes-requires : tie.Need-put-bytes-requires
-put-bytes-requires c κs = let s = c .before .before .before .before .before .before .before in omega (arith, after-gap (s .args .pen) 0 (s .args .line) (s .pre .0) (s .fits .line .fits) (c .before .before .before .put-gap .ensures), c .before .before .before .before .before .before .before .pre .1)
+put-bytes-requires c κs =
+    let s = c .before .before .before .before .before .before .before in
+    omega (arith, after-gap (s .args .pen) 0 (s .args .line) (s .pre .0) (s .fits .line .fits) (c .before .before .before .put-gap .ensures), s .pre .1)
 
 returns : tie.Need-returns
 unfolding spelling

@@ -1,5 +1,4 @@
 -- `brackets_behind`: by the kind.
-use mathlib.Core.Path.{_∙_}
 use native.Mathlib.Omega.{arith}
 use borrow.Author.Needs.{needs}
 use Rattle.token_writer.proofs.WhiteSpace.{opens, closes, stays}

@@ -8,7 +8,9 @@ use Rattle.token_writer.proofs.gaps.put_gap.Statement.{statement}
 use Rattle.token_writer.proofs.gaps.put_gap.Tie as tie
 
 put-run-requires-2 : tie.Need-put-run-requires-2
-put-run-requires-2 c κs = let s = c .before .before .before .before .before .before .before .before .before .before in omega (arith, run-end (s .args .line - s .args .pen .line) 0x0a (c .before .before .before .before .put-run .ensures), s .pre .fill, s .pre .brackets, s .fits .line .fits)
+put-run-requires-2 c κs =
+    let s = c .before .before .before .before .before .before .before .before .before .before in
+    omega (arith, run-end (s .args .line - s .args .pen .line) 0x0a (c .before .before .before .before .put-run .ensures), s .pre .fill, s .pre .brackets, s .fits .line .fits)
 
 returns : tie.Need-returns
 returns c = wrote-is (gap-later _ _ _ (c .before .before .before .before .before .before .before .before .before .before .if1 .taken)) (wrote-join (c .before .before .before .before .before .before .before .put-run .ensures) (c .before .before .put-run2 .ensures))
