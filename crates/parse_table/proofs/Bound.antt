@@ -15,7 +15,7 @@ use Rattle.notation.specs.Building.{byte, Build, Action, around, acts, start}
 use Rattle.notation.specs.Grammar.{Entry, arm, attribute, parameter, Symbol, sign, aName, expression, operators, readOrWord, closeBracket, one, maybe, further, statements, block, otherwise, branches, items, classRest, parameters, defaultValue, aConstant, inherits, parent, devices, device, moreDevices, ends, Row, row, operatorByte, operatorRow, operatorIn, binds, rowOf, leftOut, manifest, Stepped, stuck, to, toward, step}
 use Rattle.notation.proofs.NeedsKept.{none-not-some, same-result}
 use Rattle.notation.proofs.TableRows.{allPass, found-passes, rowsOf}
-use Rattle.parse_table.proofs.Counts.{count, count-append, rank, effect, fieldsOpen, bracketsOpen, Changed, acts-changed}
+use Rattle.parse_table.proofs.Counts.{count, count-append, rank, effect, fieldsOpen, bracketsOpen, Low, low-fields, low-brackets, acts-changed}
 
 -- the weight of the symbols before the first one that closes a field or a bracket, or the items
 abbrev pub front : List Symbol → ℕ
@@ -158,16 +158,16 @@ out-suits ends = refl
 
 -- ---- A run keeps it
 
--- the stack closes the fields and the brackets that are open, of which at most 32 are, and no part of it is heavy
+-- the stack closes the fields and the brackets that are open, of which at most 32 are each, and no part of it is heavy
 pub record Kept (k : List Symbol) (f : Build) : Type 0 where
   pub light : Light k
   pub fields : count rank 0 k ≡ fieldsOpen f
   pub brackets : count rank 1 k ≡ bracketsOpen f
   pub floor : count rank 2 k ≤ 1
-  pub few : bracketsOpen f ≤ 32
+  pub low : Low f
 
 pub start-kept : Kept manifest start
-start-kept = record { light = (omega arith, (omega arith, tt)); fields = refl; brackets = refl; floor = omega arith; few = omega arith }
+start-kept = record { light = (omega arith, (omega arith, tt)); fields = refl; brackets = refl; floor = omega arith; low = (omega arith, omega arith) }
 
 module _ (s : Symbol) (k : List Symbol) (x : Lexeme) (f g : Build) where
   suited-kept : (ds : List Action) (ss : List Symbol) → suits s (row ds ss) ≡ true → acts ds x f ≡ some g → Kept (s ∷ k) f → Kept (ss ++ k) g
@@ -186,7 +186,7 @@ module _ (s : Symbol) (k : List Symbol) (x : Lexeme) (f g : Build) where
         fields = omega (arith, count-append rank 0 ss k, fields-closed, changed .fields, h .fields);
         brackets = omega (arith, count-append rank 1 ss k, brackets-closed, changed .brackets, h .brackets);
         floor = omega (arith, count-append rank 2 ss k, once, h .floor);
-        few = changed .few (h .few);
+        low = changed .low (h .low);
       }
 
   -- a token is taken
@@ -249,6 +249,6 @@ light-height (s ∷ k) h = go (leb (rank s) 2) refl (light-height k (h .1))
 pub stack-height : (k : List Symbol) (f : Build) → Kept k f → length k ≤ 13 + 7 * (fieldsOpen f + bracketsOpen f)
 stack-height k f h = omega (arith, light-height k (h .light), front-light k (h .light), h .fields, h .brackets, h .floor)
 
--- at most 32 fields around the one being read: 461 symbols
-pub stack-bound : (k : List Symbol) (f : Build) → Kept k f → fieldsOpen f ≤ 32 → length k ≤ 461
-stack-bound k f h d = omega (arith, stack-height k f h, h .few)
+-- so it is at most 461
+pub stack-bound : (k : List Symbol) (f : Build) → Kept k f → length k ≤ 461
+stack-bound k f h = omega (arith, stack-height k f h, low-fields f (h .low), low-brackets f (h .low))

@@ -1,20 +1,20 @@
 -- A row's symbols and actions in one number, the symbols that a code stands for, and the kinds that a symbol does not take.
-use Prim.Native.Nat.{ℕ, zero, suc, _+_, _-_, _*_, _/_, _%_, _≤_, _<_}
+use Prim.Native.Nat.{ℕ, suc, _+_, _-_, _*_, _/_, _%_, _≤_, _<_}
 use mathlib.Core.Path.{_≡_, refl, sym, ap, _∙_}
 use mathlib.Core.Bool.{Bool, true, false, _&&_, _||_}
 use mathlib.Core.List.{List, [], _∷_}
 use mathlib.Core.Option.{Option, none, some}
 use native.Mathlib.Omega.{arith}
-use lib.Dec.{leb, ltb, eqb}
+use lib.Dec.{leb, eqb}
 use borrow.Author.Tests.{eqb-true, ne-eqb, leb-true, le-leb, lt-leb, lt-ltb, le-ltb}
 use Rattle.rules.specs.Bytes.{pick}
 use Rattle.rules.proofs.Listed.{both-left, both-right}
 use Rattle.rules.proofs.Within.{false-not-true}
-use Rattle.format.proofs.Table.{unlike, along, elsewhere}
+use Rattle.format.proofs.Table.{unlike}
 use Rattle.notation.specs.Tokens.{isAmong}
 use Rattle.notation.specs.Lexing.{find}
-use Rattle.notation.specs.Grammar.{Symbol, sign, expression, operators, ends, Row, row, rowOf}
-use Rattle.parse_table.specs.Codes.{plainSymbols, orElse, symbolOf, symbolsOnto, symbolsIn, actionsIn}
+use Rattle.notation.specs.Grammar.{Symbol, sign, expression, operators, ends, Row, row}
+use Rattle.parse_table.specs.Codes.{symbolOf, symbolsOnto, symbolsIn, actionsIn}
 
 -- ---- The lowest symbol of a number
 

@@ -1,6 +1,6 @@
 -- The stack while a row's symbols are put on it.
 use Prim.Native.Nat.{ℕ, zero, suc, _+_, _-_, _*_, _/_, _%_, _^_, _≤_, _<_}
-use mathlib.Core.Path.{_≡_, refl, sym, ap, _∙_}
+use mathlib.Core.Path.{_≡_, refl, _∙_}
 use mathlib.Core.Bool.{Bool, true, false}
 use mathlib.Core.List.{List, [], _∷_, _++_}
 use native.Mathlib.Omega.{arith}
@@ -14,7 +14,7 @@ use Rattle.parse_table.specs.Codes.{symbolOf, symbolsOnto, symbolsIn}
 use Rattle.parse_table.specs.Stack.{stackOf, Pushed}
 
 -- a number of n bytes is less
-abbrev limit : ℕ → ℕ
+abbrev pub limit : ℕ → ℕ
 limit zero = 1
 limit (suc n) = 256 * limit n
 

@@ -1,12 +1,9 @@
 // The rows of operands, and of the operators behind them. Each ends in operators, whose code has the level; it is added to the other symbols.
 ghost use mathlib.Core.Path.{_≡_};
-ghost use mathlib.Core.List.{[], _∷_};
-ghost use mathlib.Core.Option.{none, some};
 ghost use mathlib.Core.Bool.{_&&_};
-ghost use Prim.Native.Nat.{suc, _+_, _-_, _/_, _%_, _≤_, _<_};
+ghost use Prim.Native.Nat.{_+_, _-_, _/_, _%_, _≤_, _<_};
 ghost use lib.Dec.{leb};
-ghost use Rattle.rules.specs.Bytes.{pick};
-ghost use Rattle.notation.specs.Grammar.{Symbol, expression, operators, rowOf};
+ghost use Rattle.notation.specs.Grammar.{expression, operators, rowOf};
 ghost use Rattle.parse_table.specs.Codes.{symbolOf, operationIn, selectorIn, rowIn};
 use crate::actions::AROUND_ABOVE;
 use crate::actions::AROUND_AND;

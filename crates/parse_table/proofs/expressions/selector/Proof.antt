@@ -1,5 +1,5 @@
 -- `selector`: by the test of the level.
-use mathlib.Core.Path.{refl, sym, ap, _∙_}
+use mathlib.Core.Path.{sym, _∙_}
 use native.Mathlib.Omega.{arith}
 use Prim.Native.Nat.{_+_, _-_, _/_, _%_}
 use borrow.Author.Tests.{not-true, not-false}

@@ -1,6 +1,6 @@
 -- `only`: by the test of the kind.
-use mathlib.Core.Path.{sym, _∙_}
-use borrow.Author.Tests.{eqb-true, eq-eqb, ne-eqb}
+use mathlib.Core.Path.{_∙_}
+use borrow.Author.Tests.{eq-eqb, ne-eqb}
 use Rattle.parse_table.proofs.rows.only.Statement.{statement}
 use Rattle.parse_table.proofs.rows.only.Tie as tie
 

@@ -1,6 +1,5 @@
 -- `pattern_row`: default, or a constant.
-use mathlib.Core.Path.{refl, sym, ap, _∙_}
-use mathlib.Core.List.{[], _∷_}
+use mathlib.Core.Path.{sym, ap, _∙_}
 use borrow.Author.Tests.{ne-eqb}
 use Rattle.notation.specs.Lexing.{find}
 use Rattle.parse_table.specs.Codes.{patternsIn}

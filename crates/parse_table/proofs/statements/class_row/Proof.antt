@@ -1,9 +1,6 @@
 -- `class_row`: behind a brace, or behind a name.
 use mathlib.Core.Path.{refl, sym, ap, _∙_}
 use mathlib.Core.List.{[], _∷_}
-use borrow.Author.Tests.{ne-eqb}
-use native.Mathlib.Omega.{arith}
-use Rattle.notation.specs.Lexing.{find}
 use Rattle.notation.specs.Grammar.{classRest, rowOf}
 use Rattle.parse_table.specs.Codes.{actionOf, actionsFrom, actionsIn, symbolOf, symbolsOnto, symbolsIn}
 use Rattle.parse_table.proofs.Packed.{absent}

@@ -1,9 +1,6 @@
 -- `device_row`: a text or a word.
 use mathlib.Core.Path.{refl, sym, ap, _∙_}
 use mathlib.Core.List.{[], _∷_}
-use borrow.Author.Tests.{ne-eqb}
-use native.Mathlib.Omega.{arith}
-use Rattle.notation.specs.Lexing.{find}
 use Rattle.notation.specs.Grammar.{device, rowOf}
 use Rattle.parse_table.specs.Codes.{actionOf, actionsFrom, actionsIn, symbolOf, symbolsOnto, symbolsIn}
 use Rattle.parse_table.proofs.Packed.{absent}

@@ -1,12 +1,8 @@
 -- `devices_row`: default, a bracket, or a device.
-use mathlib.Core.Path.{refl, sym, ap, _∙_}
-use mathlib.Core.List.{[], _∷_}
+use mathlib.Core.Path.{sym, ap, _∙_}
 use borrow.Author.Tests.{ne-eqb}
-use native.Mathlib.Omega.{arith}
-use Rattle.notation.specs.Lexing.{find}
 use Rattle.notation.specs.Grammar.{devices, rowOf}
 use Rattle.parse_table.specs.Codes.{actionOf, actionsFrom, actionsIn, symbolOf, symbolsOnto, symbolsIn}
-use Rattle.parse_table.proofs.Packed.{absent}
 use Rattle.parse_table.proofs.statements.devices_row.Statement.{statement}
 use Rattle.parse_table.proofs.statements.devices_row.Tie as tie
 

@@ -1,5 +1,5 @@
 -- `row`: by the group of the symbol.
-use mathlib.Core.Path.{refl, sym, ap, _∙_}
+use mathlib.Core.Path.{sym, ap, _∙_}
 use native.Mathlib.Omega.{arith}
 use Rattle.notation.specs.Grammar.{Symbol, rowOf}
 use Rattle.parse_table.specs.Codes.{actionOf, actionsFrom, actionsIn, symbolOf, symbolsOnto, symbolsIn}
