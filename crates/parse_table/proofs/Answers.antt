@@ -21,16 +21,20 @@ use Rattle.parse_table.proofs.Bound.{Kept, stack-bound}
 -- ---- Rows, and what is left out
 
 module _ (r : CodedRow) {o : Option Row} (e : rowIn r ≡ o) where
+  -- the token is taken
   pub row-taken : r .taken ≡ true → o ≡ some (row (actionsIn (r .actions)) (symbolsIn (r .symbols)))
   row-taken t = sym e ∙ rw t
 
+  -- the token is not taken
   pub row-not-taken : r .taken ≡ false → o ≡ none
   row-not-taken t = sym e ∙ rw t
 
 module _ (r : LeftOut) {o : Option (List Action)} (e : leftOutIn r ≡ o) where
+  -- the symbol may be left out
   pub out-allowed : r .allowed ≡ true → o ≡ some (actionsIn (r .actions))
   out-allowed t = sym e ∙ rw t
 
+  -- the symbol is needed
   pub out-needed : r .allowed ≡ false → o ≡ none
   out-needed t = sym e ∙ rw t
 
@@ -51,6 +55,7 @@ pub first-action : (x : ℕ) → x < 2 ^ 32 → (x ≡ 0 → ⊥) → actionsIn 
 unfolding actionsIn actionsFrom
 first-action x h n = rw (ne-eqb x 0 n) (ap (λ (ds : List Action). actionOf (x % 256) ∷ ds) (one-byte-more 3 (x / 256) (omega arith)))
 
+-- no action is left
 pub no-action : actionsIn 0 ≡ []
 unfolding actionsIn actionsFrom
 no-action = refl
@@ -68,6 +73,7 @@ unfolding stackOf
 on-top m zero h = absurd (omega arith)
 on-top m (suc n) h = let below : suc n - 1 ≡ n = omega arith in rw below
 
+-- as many symbols as bytes
 pub stack-length : (m : List ℕ) (n : ℕ) → length (stackOf m n) ≡ n
 unfolding stackOf
 stack-length m zero = refl

@@ -32,12 +32,14 @@ abbrev pub Light : List Symbol → Type 0
 Light [] = Unit {0}
 Light (s ∷ k) = (front (s ∷ k) ≤ 6) × Light k
 
+-- so the first part is not
 front-light : (k : List Symbol) → Light k → front k ≤ 6
 front-light [] h = omega arith
 front-light (s ∷ k) h = h .0
 
 -- ---- Rows keep it
 
+-- what comes before a stack is added to its first part, unless it has a part that is closed
 front-append : (t k : List Symbol) → front (t ++ k) ≡ front t + pick (parted t) 0 (front k)
 front-append [] k = omega arith
 front-append (s ∷ t) k = go (leb (rank s) 2) (front-append t k)
@@ -51,6 +53,7 @@ abbrev lighter : ℕ → List Symbol → Bool
 lighter r [] = true
 lighter r (s ∷ ss) = leb (front (s ∷ ss)) (pick (parted (s ∷ ss)) 6 (r - 2)) && lighter r ss
 
+-- a symbol and what is below it
 room-below : (s : Symbol) (k : List Symbol) → Light (s ∷ k) → rank s - 2 + front k ≤ 6
 room-below s k h = go (leb (rank s) 2) refl (h .0)
   where
@@ -58,6 +61,7 @@ room-below s k h = go (leb (rank s) 2) refl (h .0)
     go true e l = omega (arith, leb-true (rank s) 2 e, front-light k (h .1))
     go false e l = l
 
+-- a row that is light enough keeps a stack light
 light-after : (s : Symbol) (ss k : List Symbol) → lighter (rank s) ss ≡ true → Light (s ∷ k) → Light (ss ++ k)
 light-after s [] k c h = h .1
 light-after s (y ∷ ys) k c h =
@@ -77,6 +81,7 @@ suits s (row ds ss) =
     && (eqb (count rank 0 ss + count effect 2 ds) (count rank 0 (s ∷ []) + count effect 1 ds)
     && (eqb (count rank 1 ss + count effect 4 ds) (count rank 1 (s ∷ []) + count effect 3 ds) && leb (count rank 2 ss) (count rank 2 (s ∷ []))))
 
+-- the two rows of an operator, at any level
 operator-suits : (l m q n : ℕ) → suits (operators l m) (operatorRow l q n) ≡ true
 operator-suits l m q n = go (eqb q question)
   where
@@ -84,6 +89,7 @@ operator-suits l m q n = go (eqb q question)
     go true = refl
     go false = refl
 
+-- so with the test of its level
 operators-suit : (l m q : ℕ) (o : Option ℕ) (r : Row) → operatorIn l m q o ≡ some r → suits (operators l m) r ≡ true
 operators-suit l m q none r h = none-not-some h
 operators-suit l m q (some n) r h = go (leb l n && leb n m) h
@@ -92,11 +98,13 @@ operators-suit l m q (some n) r h = go (leb l n && leb n m) h
     go true i = subst (λ (r : Row). suits (operators l m) r ≡ true) (same-result (operatorRow l q n) r i) (operator-suits l m q n)
     go false i = none-not-some i
 
+-- the rows of each entry
 entry-suits : (e : Entry) → (allPass (suits (one e)) (rowsOf (one e)) ≡ true) × (allPass (suits (maybe e)) (rowsOf (maybe e)) ≡ true)
 entry-suits arm = (refl, refl)
 entry-suits attribute = (refl, refl)
 entry-suits parameter = (refl, refl)
 
+-- every row
 row-suits : (s : Symbol) (q : ℕ) (r : Row) → rowOf s q ≡ some r → suits s r ≡ true
 unfolding rowOf
 row-suits (sign k) q r h = found-passes (suits (sign k)) (rowsOf (sign k)) q r refl h
@@ -129,6 +137,7 @@ abbrev outSuits : Symbol → Option (List Action) → Bool
 outSuits s none = true
 outSuits s (some ds) = suits s (row ds [])
 
+-- every symbol
 out-suits : (s : Symbol) → outSuits s (leftOut s) ≡ true
 unfolding leftOut
 out-suits (sign k) = refl
@@ -166,10 +175,12 @@ pub record Kept (k : List Symbol) (f : Build) : Type 0 where
   pub floor : count rank 2 k ≤ 1
   pub low : Low f
 
+-- before the first token
 pub start-kept : Kept manifest start
 start-kept = record { light = (omega arith, (omega arith, tt)); fields = refl; brackets = refl; floor = omega arith; low = (omega arith, omega arith) }
 
 module _ (s : Symbol) (k : List Symbol) (x : Lexeme) (f g : Build) where
+  -- a row that suits
   suited-kept : (ds : List Action) (ss : List Symbol) → suits s (row ds ss) ≡ true → acts ds x f ≡ some g → Kept (s ∷ k) f → Kept (ss ++ k) g
   suited-kept ds ss c i h =
       let a = lighter (rank s) ss in
@@ -231,12 +242,14 @@ step-kept (s ∷ k) x f k′ g e h = by-row (λ i. step-kept k x i k′ g) (rowO
 
 -- ---- The height
 
+-- a symbol that closes something is counted once
 mark-counted : (r : ℕ) → r ≤ 2 → pick (eqb r 0) 1 0 + pick (eqb r 1) 1 0 + pick (eqb r 2) 1 0 ≡ 1
 mark-counted zero h = refl
 mark-counted (suc zero) h = refl
 mark-counted (suc (suc zero)) h = refl
 mark-counted (suc (suc (suc r))) h = absurd (omega arith)
 
+-- each part is at most 6 symbols and the one that closes it
 light-height : (k : List Symbol) → Light k → length k ≤ front k + 7 * (count rank 0 k + count rank 1 k + count rank 2 k)
 light-height [] h = omega arith
 light-height (s ∷ k) h = go (leb (rank s) 2) refl (light-height k (h .1))

@@ -19,13 +19,15 @@ abbrev pub count : {A : Type 0} → (A → ℕ) → ℕ → List A → ℕ
 count f m [] = 0
 count f m (x ∷ xs) = pick (eqb (f x) m) 1 0 + count f m xs
 
+-- of two lists, one after the other
 pub count-append : {A : Type 0} (f : A → ℕ) (m : ℕ) (xs ys : List A) → count f m (xs ++ ys) ≡ count f m xs + count f m ys
 count-append f m [] ys = omega arith
 count-append f m (x ∷ xs) ys = let others = count-append f m xs ys in omega arith
 
 -- ---- Symbols
 
--- 0 ends a field, 1 a bracket, 2 are the items; any other symbol is 2 more than its weight, which is that of the symbols that can come in its place before a field or a bracket ends
+-- 0 ends a field, 1 a bracket, 2 are the items. Any other number is 2 more than the symbol's weight: at least that of what its rows leave behind the
+-- last field or bracket that they close
 abbrev pub rank : Symbol → ℕ
 rank (sign s) = 3
 rank aName = 3
@@ -157,5 +159,6 @@ module _ (x : Lexeme) where
 pub low-fields : (f : Build) → Low f → fieldsOpen f ≤ 32
 low-fields (build b (frame p t h ks) fs) w = omega (arith, w .1)
 
+-- and brackets
 pub low-brackets : (f : Build) → Low f → bracketsOpen f ≤ 32
 low-brackets (build b (frame p t h ks) fs) w = w .0

@@ -34,14 +34,17 @@ row-last b a y x {s} k e l h = ap (λ (ss : List Symbol). some (row (actionsIn b
 
 -- ---- What codes stand for
 
+-- a kind stands for its sign
 pub code-sign : (n : ℕ) → n < 0x25 → symbolOf n ≡ sign n
 unfolding symbolOf
 code-sign n h = rw (lt-ltb n 0x25 h)
 
+-- operators with their levels
 pub code-operators : (n : ℕ) → 0x48 ≤ n → symbolOf n ≡ operators (n / 8 - 8) (n % 8)
 unfolding symbolOf
 code-operators n h = rw (le-ltb n 0x25 (omega arith), le-leb 0x48 n h)
 
+-- an expression with its level
 pub code-expression : (n : ℕ) → 0x31 ≤ n → n < 0x39 → symbolOf n ≡ expression (n - 0x30)
 unfolding symbolOf
 code-expression n l h = rw (le-ltb n 0x25 (omega arith), lt-leb 0x48 n (omega arith), le-leb 0x31 n l, le-leb n 0x38 (omega arith))
@@ -83,6 +86,7 @@ allowed-level l n m e h = leb-true n m (both-right (leb l n) (leb n m) (sym e �
 pub accepted : {A : Type 0} (b : Bool) {r : A} → b ≡ true → _≡_ {A = Option A} (some r) (pick b (some r) none)
 accepted b e = rw e
 
+-- a test of nothing
 abbrev pub isNone : {A : Type 0} → Option A → Bool
 isNone none = true
 isNone (some a) = false
@@ -96,6 +100,7 @@ abbrev pub keysIn : {A : Type 0} → List (ℕ × A) → List ℕ → Bool
 keysIn [] ks = true
 keysIn (x ∷ xs) ks = isAmong (x .0) ks && keysIn xs ks
 
+-- a kind that is no key is no member of a list of keys
 other-key : (k x : ℕ) (ks : List ℕ) → unlike k ks → isAmong x ks ≡ true → k ≡ x → ⊥
 other-key k x [] u h e = false-not-true h
 other-key k x (y ∷ ys) u h e = go (other-key k x ys (u .0)) (eqb x y) refl h

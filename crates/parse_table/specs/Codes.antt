@@ -71,6 +71,7 @@ symbolsIn x = symbolsOnto 8 x []
 
 -- ---- Actions
 
+-- those without a number in their code
 abbrev pub plainActions : List (ℕ × Action)
 plainActions =
     (1, close)
@@ -85,6 +86,7 @@ plainActions =
     ∷ (10, around 0x19 [])
     ∷ []
 
+-- then the tags of fields that begin, the tags of empty fields, and operator bytes
 unfoldable pub actionOf : ℕ → Action
 actionOf n =
     pick (leb 0x80 n)
@@ -101,9 +103,11 @@ actionsIn x = actionsFrom 4 x
 
 -- ---- What the code answers
 
+-- a row of the table, if the token is taken
 abbrev pub rowIn : CodedRow → Option Row
 rowIn r = pick (r .taken) (some (row (actionsIn (r .actions)) (symbolsIn (r .symbols)))) none
 
+-- what is done where the symbol is left out, if it may be
 abbrev pub leftOutIn : LeftOut → Option (List Action)
 leftOutIn r = pick (r .allowed) (some (actionsIn (r .actions))) none
 
@@ -124,5 +128,6 @@ patternsIn d a x = (defaultWord, row (actionsIn d) (symbolsIn x)) ∷ constantsI
 abbrev pub operationIn : (l m n action : ℕ) → Option Row
 operationIn l m n a = pick (leb l n && leb n m) (some (row (actionsIn a) (expression (suc n) ∷ ends ∷ operators l n ∷ []))) none
 
+-- the same for a selector
 abbrev pub selectorIn : (l m : ℕ) → Option Row
 selectorIn l m = pick (leb l 3 && leb 3 m) (some (row (around 0x19 [] ∷ []) (sign leftBrace ∷ one arm ∷ sign rightBrace ∷ ends ∷ operators l 3 ∷ []))) none

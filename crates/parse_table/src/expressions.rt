@@ -61,6 +61,7 @@ pub fn operand_row(symbol: u8, kind: u8) -> Row
     requires { ⌜ (0x31 ≤ symbol) × (symbol ≤ 0x38) ⌝ }
     ensures { λ r. ⌜ rowIn r ≡ rowOf (expression (symbol - 0x30)) kind ⌝ }
 {
+    // The symbol is 0x30 + l, and the operators of levels l to 7 are 0x40 + 8 l + 7.
     let then = symbol as u64 * 8 - 0x139;
     match kind {
         A_NUMBER => taken(CONSTANT, then),
