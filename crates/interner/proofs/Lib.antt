@@ -5,3 +5,4 @@ pub mod Moving
 pub mod Searching
 pub mod Entering
 pub mod Keeping
+pub mod Measuring

@@ -9,6 +9,8 @@ ghost use Rattle.interner.specs.Table.{Searchable, Searched, Moved, Read
 use lexer::bytes::in_word;
 use lexer::bytes::is_quote;
 
+pub mod fields; // fields.rt: the table as a field of a manifest
+
 // Which of two strings comes first.
 pub enum Order {
     Before,
