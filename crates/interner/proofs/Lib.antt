@@ -6,3 +6,4 @@ pub mod Searching
 pub mod Entering
 pub mod Keeping
 pub mod Measuring
+pub mod Putting

@@ -15,11 +15,12 @@ use Rattle.interner.specs.TableField.{tableBytes}
 
 -- ---- A string
 
--- by the code of its first byte: the end, or a byte and the rest
+-- by the code of its first byte: the end
 code-none : (code : ℕ) (rest : List ℕ) → code ≡ 0 → fromCode code rest ≡ []
 unfolding fromCode
 code-none code rest e = rw (e, fromCode)
 
+-- or a byte and the rest
 code-some : (code : ℕ) (rest : List ℕ) → (code ≡ 0 → ⊥) → fromCode code rest ≡ (code - 1) ∷ rest
 unfolding fromCode
 code-some zero rest n = absurd (n refl)
@@ -34,6 +35,7 @@ module _ {t : List ℕ} {q p code behind : ℕ} (x : Stepped t q p code behind) 
   pub string-goes-on : (code ≡ 0 → ⊥) → restOf t q p ≡ (code - 1) ∷ restOf t q behind
   string-goes-on n = x .string ∙ code-some code (restOf t q behind) n
 
+  -- the length of what is left
   pub none-left : code ≡ 0 → length (restOf t q p) ≡ 0
   none-left e = ap length (string-ends e)
 
@@ -50,23 +52,38 @@ module _ {t : List ℕ} {q p code behind : ℕ} (x : Stepped t q p code behind) 
 abbrev pub fieldsFrom : (t table : List ℕ) → (count i : ℕ) → List ℕ
 fieldsFrom t table count i = writeAll (stringFields (listed (entryString t table) i (count - i)))
 
--- the field of one string
-pub one-field : (s : List ℕ) (others : List (List ℕ)) → writeAll (stringFields (s ∷ others)) ≡ wrap 0x02 s ++ writeAll (stringFields others)
+-- the string at a place that was read is that of the entry
+pub entry-at : (t table : List ℕ) (place i : ℕ) → place ≡ two table (2 * i) → stringFrom t place ≡ entryString t table i
+unfolding entryString
+entry-at t table place i e = rw e
+
+-- the field of one string, then the others
+one-field : (s : List ℕ) (others : List (List ℕ)) → writeAll (stringFields (s ∷ others)) ≡ wrap 0x02 s ++ writeAll (stringFields others)
 unfolding stringFields writeAll write
 one-field s others = rw (append-nil s)
 
+-- a header has three bytes
 pub wrap-length : (tag : ℕ) (body : List ℕ) → length (wrap tag body) ≡ 3 + length body
 unfolding wrap
 wrap-length tag body = omega arith
 
 module _ (t table : List ℕ) (count : ℕ) where
+  -- the fields from the first on are all
+  pub all-fields : fieldsFrom t table count 0 ≡ writeAll (stringFields (strings t table count))
+  unfolding strings
+  all-fields = let all : count - 0 ≡ count = omega arith in rw all
+
   -- all fields, in a field
-  pub whole-field : tableBytes t table count ≡ wrap 0x01 (fieldsFrom t table count 0)
-  unfolding write strings
-  whole-field = let all : count - 0 ≡ count = omega arith in rw all
+  pub whole-field : tableBytes t table count ≡ wrap 0x01 (writeAll (stringFields (strings t table count)))
+  unfolding write
+  whole-field = refl
+
+  -- the length of all, with the header
+  pub whole-size : length (tableBytes t table count) ≡ 3 + length (writeAll (stringFields (strings t table count)))
+  whole-size = ap length whole-field ∙ wrap-length 0x01 (writeAll (stringFields (strings t table count)))
 
   pub whole-length : length (tableBytes t table count) ≡ 3 + length (fieldsFrom t table count 0)
-  whole-length = ap length whole-field ∙ wrap-length 0x01 (fieldsFrom t table count 0)
+  whole-length = whole-size ∙ ap (λ (fs : List ℕ). 3 + length fs) (sym all-fields)
 
   -- the field of entry i, then the others
   pub next-field : (i : ℕ) → i < count → fieldsFrom t table count i ≡ wrap 0x02 (entryString t table i) ++ fieldsFrom t table count (i + 1)
@@ -75,6 +92,7 @@ module _ (t table : List ℕ) (count : ℕ) where
       let more : count - i ≡ suc (count - (i + 1)) = omega arith in
       rw (more, one-field, add-one)
 
+  -- their lengths
   pub next-length : (i : ℕ) → i < count → length (fieldsFrom t table count i) ≡ 3 + length (entryString t table i) + length (fieldsFrom t table count (i + 1))
   next-length i l = ap length (next-field i l) ∙ length-append (wrap 0x02 (entryString t table i)) (fieldsFrom t table count (i + 1)) ∙ ap (λ (k : ℕ). k + length (fieldsFrom t table count (i + 1))) (wrap-length 0x02 (entryString t table i))
 
@@ -82,8 +100,3 @@ module _ (t table : List ℕ) (count : ℕ) where
   pub no-field : (i : ℕ) → count ≤ i → fieldsFrom t table count i ≡ []
   unfolding listed stringFields writeAll
   no-field i l = let none : count - i ≡ 0 = omega arith in rw none
-
-  -- the entry at a place that was read
-  pub entry-at : (place i : ℕ) → place ≡ two table (2 * i) → stringFrom t place ≡ entryString t table i
-  unfolding entryString
-  entry-at place i e = rw e

@@ -22,11 +22,11 @@ module _ (t : List ℕ) (q p : ℕ) where
   -- the string ends at p
   ended : restOf t q p ≡ [] → Stepped t q p 0 p
   unfolding fromCode
-  ended e = record { string = e; onward = λ h. omega arith; within = λ h. omega arith }
+  ended e = record { string = e; onward = λ h. omega arith; within = λ h. omega arith; small = omega arith }
 
   -- the string goes on with the byte n
-  went-on : (n : ℕ) {code behind : ℕ} → restOf t q p ≡ n ∷ restOf t q behind → code ≡ n + 1 → p < behind → behind ≤ length t → Stepped t q p code behind
-  went-on n {code} {behind} e is l w = record { string = e ∙ sym (from-code code n (restOf t q behind) is); onward = λ h. l; within = λ h. w }
+  went-on : (n : ℕ) {code behind : ℕ} → restOf t q p ≡ n ∷ restOf t q behind → code ≡ n + 1 → code ≤ 256 → p < behind → behind ≤ length t → Stepped t q p code behind
+  went-on n {code} {behind} e is s l w = record { string = e ∙ sym (from-code code n (restOf t q behind) is); onward = λ h. l; within = λ h. w; small = s }
 
 -- ---- A word
 
@@ -39,9 +39,9 @@ module _ (t : List ℕ) (p : ℕ) where
   unfolding restOf wordFrom
   word-over l e = ended t 0 p (rw (drop-cons t p 0 l, ← e))
 
-  pub word-goes-on : {code behind : ℕ} → p < length t → true ≡ inWord (getD t p 0) → code ≡ getD t p 0 + 1 → behind ≡ p + 1 → Stepped t 0 p code behind
+  pub word-goes-on : {code behind : ℕ} → p < length t → true ≡ inWord (getD t p 0) → code ≡ getD t p 0 + 1 → code ≤ 256 → behind ≡ p + 1 → Stepped t 0 p code behind
   unfolding restOf wordFrom
-  word-goes-on l e is b = rw b (went-on t 0 p (getD t p 0) (rw (add-one, drop-cons t p 0 l, ← e)) is (omega arith) (omega arith))
+  word-goes-on l e is s b = rw b (went-on t 0 p (getD t p 0) (rw (add-one, drop-cons t p 0 l, ← e)) is s (omega arith) (omega arith))
 
 -- ---- A string in quotes
 
@@ -59,9 +59,9 @@ module _ (t : List ℕ) (q p : ℕ) (quoted : 0 < q) where
   unfolding unquoted
   closed l e = ended t q p (in-quotes p ∙ rw (drop-cons t p 0 l, eq-eqb _ _ e))
 
-  pub text-goes-on : {code behind : ℕ} → p < length t → (getD t p 0 ≡ q → ⊥) → (getD t p 0 ≡ 0x5c → ⊥) → code ≡ getD t p 0 + 1 → behind ≡ p + 1 → Stepped t q p code behind
+  pub text-goes-on : {code behind : ℕ} → p < length t → (getD t p 0 ≡ q → ⊥) → (getD t p 0 ≡ 0x5c → ⊥) → code ≡ getD t p 0 + 1 → code ≤ 256 → behind ≡ p + 1 → Stepped t q p code behind
   unfolding unquoted
-  text-goes-on l e f is b = rw b (went-on t q p (getD t p 0) (in-quotes p ∙ rw (in-quotes (p + 1), add-one, drop-cons t p 0 l, ne-eqb _ _ e, ne-eqb _ _ f)) is (omega arith) (omega arith))
+  text-goes-on l e f is s b = rw b (went-on t q p (getD t p 0) (in-quotes p ∙ rw (in-quotes (p + 1), add-one, drop-cons t p 0 l, ne-eqb _ _ e, ne-eqb _ _ f)) is s (omega arith) (omega arith))
 
   -- behind a backslash
   escaping : p < length t → (getD t p 0 ≡ q → ⊥) → getD t p 0 ≡ 0x5c → restOf t q p ≡ unescaped (drop (p + 1) t) q
@@ -72,10 +72,10 @@ module _ (t : List ℕ) (q p : ℕ) (quoted : 0 < q) where
   unfolding unescaped
   cut-off l e f past = ended t q p (escaping l e f ∙ rw (drop-of-length-le t past))
 
-  pub escaped : {n code behind : ℕ} → p < length t → (getD t p 0 ≡ q → ⊥) → getD t p 0 ≡ 0x5c → p + 1 < length t → n ≡ escapeOf (getD t (p + 1) 0) → code ≡ n + 1 → behind ≡ p + 1 + 1 → Stepped t q p code behind
+  pub escaped : {n code behind : ℕ} → p < length t → (getD t p 0 ≡ q → ⊥) → getD t p 0 ≡ 0x5c → p + 1 < length t → n ≡ escapeOf (getD t (p + 1) 0) → code ≡ n + 1 → code ≤ 256 → behind ≡ p + 1 + 1 → Stepped t q p code behind
   unfolding unescaped
-  escaped {n} l e f more n-is is b =
-      rw b (went-on t q p n (escaping l e f ∙ rw (in-quotes (p + 1 + 1), add-one (p + 1), drop-cons t (p + 1) 0 more, n-is)) is (omega arith) (omega arith))
+  escaped {n} l e f more n-is is s b =
+      rw b (went-on t q p n (escaping l e f ∙ rw (in-quotes (p + 1 + 1), add-one (p + 1), drop-cons t (p + 1) 0 more, n-is)) is s (omega arith) (omega arith))
 
 -- ---- Where a string begins
 

@@ -19,11 +19,12 @@ unfoldable pub fromCode : ℕ → List ℕ → List ℕ
 fromCode zero rest = []
 fromCode (suc b) rest = b ∷ rest
 
--- a step from p: the code of the byte there, and the place behind it
+-- a step from p: the code of the byte there, at most that of the byte 255, and the place behind it
 pub record Stepped (t : List ℕ) (quote p code behind : ℕ) : Type 0 where
   pub string : restOf t quote p ≡ fromCode code (restOf t quote behind)
   pub onward : 0 < code → p < behind
   pub within : 0 < code → behind ≤ length t
+  pub small : code ≤ 256
 
 -- which of two strings comes first
 unfoldable pub orderOf : List ℕ → List ℕ → Order

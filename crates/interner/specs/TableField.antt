@@ -1,8 +1,8 @@
 -- The table of strings as a field of a manifest.
 use Prim.Native.Nat.{ℕ, _+_, _*_, _≤_}
 use mathlib.Core.Path.{_≡_}
-use mathlib.Core.List.{List, []}
-use lib.ListN.{length}
+use mathlib.Core.List.{List, [], _++_}
+use lib.ListN.{length, drop}
 use Rattle.wire.specs.Runs.{over}
 use Rattle.rules.specs.Fields.{field, write}
 use Rattle.notation.specs.Convert.{stringFields}
@@ -11,6 +11,10 @@ use Rattle.interner.specs.Table.{strings}
 -- the field 01 with a field 02 for each string
 abbrev pub tableBytes : (t table : List ℕ) → (count : ℕ) → List ℕ
 tableBytes t table count = write (field 0 0x01 [] (stringFields (strings t table count)))
+
+-- m with some bytes at its start
+abbrev pub atStart : (bytes m : List ℕ) → List ℕ
+atStart bytes m = bytes ++ drop (length bytes) m
 
 -- what measuring the field asks for: the entries are there, and the sum of their lengths stays small
 pub record Measurable (t table : List ℕ) (count : ℕ) : Type 0 where

@@ -39,7 +39,7 @@ fn escape_of(c: u8) -> u8
 }
 
 fn letter(c: u8, behind: usize) -> Step
-    ensures { λ r. ⌜ (r .code ≡ c + 1) × (r .at ≡ behind) ⌝ }
+    ensures { λ r. ⌜ (r .code ≡ c + 1) × (r .at ≡ behind) × (r .code ≤ 256) ⌝ }
 {
     Step {
         code: c as u16 + 1,

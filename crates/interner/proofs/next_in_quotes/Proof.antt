@@ -20,7 +20,7 @@ letter-requires : tie.Need-letter-requires
 letter-requires c κs = search needs
 
 returns-3 : tie.Need-returns-3
-returns-3 c = text-goes-on _ _ _ (c .before .before .before .before .before .before .pre) (c .before .before .before .before .if1 .left) (c .before .before .if2 .left) (c .before .if3 .taken) (c .letter .ensures .0) (c .letter .ensures .1)
+returns-3 c = text-goes-on _ _ _ (c .before .before .before .before .before .before .pre) (c .before .before .before .before .if1 .left) (c .before .before .if2 .left) (c .before .if3 .taken) (c .letter .ensures .0) (c .letter .ensures .2) (c .letter .ensures .1)
 
 add-q : tie.Need-add-q
 add-q c = search needs
@@ -41,7 +41,7 @@ letter-requires-2 : tie.Need-letter-requires-2
 letter-requires-2 c κs = search needs
 
 returns-5 : tie.Need-returns-5
-returns-5 c = escaped _ _ _ (c .before .before .before .before .before .before .before .before .before .pre) (c .before .before .before .before .before .before .before .if1 .left) (c .before .before .before .before .before .if2 .left) (c .before .before .before .before .if3 .left) (c .before .before .before .if4 .left) (c .before .escape-of .ensures) (c .letter2 .ensures .0) (c .letter2 .ensures .1)
+returns-5 c = escaped _ _ _ (c .before .before .before .before .before .before .before .before .before .pre) (c .before .before .before .before .before .before .before .if1 .left) (c .before .before .before .before .before .if2 .left) (c .before .before .before .before .if3 .left) (c .before .before .before .if4 .left) (c .before .escape-of .ensures) (c .letter2 .ensures .0) (c .letter2 .ensures .2) (c .letter2 .ensures .1)
 
 pub next-in-quotes-spec : {M : Type 1} → statement M
 next-in-quotes-spec =

@@ -21,7 +21,7 @@ letter-requires : tie.Need-letter-requires
 letter-requires c κs = search needs
 
 returns-2 : tie.Need-returns-2
-returns-2 c = word-goes-on _ _ (c .before .before .before .before .if1 .left) (sym (c .before .if2 .taken) ∙ c .before .before .in-word .ensures) (c .letter .ensures .0) (c .letter .ensures .1)
+returns-2 c = word-goes-on _ _ (c .before .before .before .before .if1 .left) (sym (c .before .if2 .taken) ∙ c .before .before .in-word .ensures) (c .letter .ensures .0) (c .letter .ensures .2) (c .letter .ensures .1)
 
 returns-3 : tie.Need-returns-3
 returns-3 c = word-over _ _ (c .before .before .before .if1 .left) (sym (c .if2 .left) ∙ c .before .in-word .ensures)

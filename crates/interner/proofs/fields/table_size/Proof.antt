@@ -49,7 +49,7 @@ loop-again : tie.Need-loop-again Inv-loop μ-loop
 loop-again c =
     let a = c .before .before .before .before .before .before .args in
     let l = c .before .before .before .loop in
-    let size : c .string-size .result ≡ length (entryString (a .text .now) (a .table .now) (l .i)) = c .string-size .ensures .0 ∙ ap length (entry-at (a .text .now) (a .table .now) (a .count) _ (l .i) (c .before .two-in .ensures)) in
+    let size : c .string-size .result ≡ length (entryString (a .text .now) (a .table .now) (l .i)) = c .string-size .ensures .0 ∙ ap length (entry-at (a .text .now) (a .table .now) _ (l .i) (c .before .two-in .ensures)) in
     (omega (arith, l .inv .0, size, next-length (a .text .now) (a .table .now) (a .count) (l .i) (c .before .before .loop-test .taken)), omega (arith, l .inv .1, c .string-size .ensures .1, c .before .before .before .before .before .before .pre .short), omega arith)
 
 returns : tie.Need-returns Inv-loop μ-loop
