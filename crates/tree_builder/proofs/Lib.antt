@@ -1,0 +1,10 @@
+pub mod Stores
+pub mod Bytes
+pub mod Slots
+pub mod Late
+pub mod Adding
+pub mod Opening
+pub mod Closing
+pub mod Ready
+pub mod Leaves
+pub mod Rounds

@@ -1,0 +1,272 @@
+// The tree of a text, built as a manifest's bytes in a lent output. A byte past the output's end is not written, and nothing else changes.
+ghost use mathlib.Core.Path.{_≡_};
+ghost use mathlib.Core.List.{List, [], _∷_, _++_};
+ghost use mathlib.Core.Bool.{_&&_, true};
+ghost use Prim.Native.Nat.{ℕ, _+_, _*_, _%_, _≤_, _<_, max};
+ghost use lib.ListN.{length};
+ghost use lib.Dec.{ltb, eqb};
+ghost use Rattle.wire.specs.Numbers.{highBytes, word64};
+ghost use Rattle.wire.specs.Runs.{over};
+ghost use Rattle.notation.specs.Building.{begin as beginAction, close as closeAction, constant as constantAction, read as readAction, enter as enterAction, leave as leaveAction, void as voidAction};
+ghost use Rattle.tree_builder.specs.State.{slotNumber, openedAt, withPart, closedInto, lateWith};
+ghost use Rattle.tree_builder.specs.Shows.{Does, AnyToken, AnInteger, AString, ABoolean, IsWord, AVariable, AClassVariable, Ready};
+
+// The field being read, what is open around it, and how far the output is filled.
+pub struct Building {
+    pub brackets: usize,
+    pub depth: usize,
+    pub fill: usize,
+    pub start: usize,
+    pub body: usize,
+    pub tallest: usize,
+    pub last: usize,
+    pub height: usize,
+    pub late: usize,
+    pub word: bool,
+    pub name: u16,
+    pub before: usize,
+}
+
+// What an action answers: the new state, or that it passes a limit.
+pub enum Step {
+    Did(Building),
+    No,
+}
+
+// ---- Round brackets
+
+pub fn enter(s: Building) -> Step
+    ensures { λ r. ⌜ ((frames out : List ℕ) → Does AnyToken enterAction s frames out r frames out) ⌝ }
+{
+    if 32 <= s.brackets {
+        return Step::No;
+    }
+    let mut next = s;
+    next.brackets = s.brackets + 1;
+    Step::Did(next)
+}
+
+pub fn leave(s: Building) -> Step
+    ensures { λ r. ⌜ ((frames out : List ℕ) → Does AnyToken leaveAction s frames out r frames out) ⌝ }
+{
+    if s.brackets == 0 {
+        return Step::No;
+    }
+    let mut next = s;
+    next.brackets = s.brackets - 1;
+    Step::Did(next)
+}
+
+// ---- Fields begin and end
+
+fn taller(a: usize, b: usize) -> usize
+    ensures { λ r. ⌜ r ≡ max a b ⌝ }
+{
+    if a < b { b } else { a }
+}
+
+// A field begins at `start`, and its parts at `body`: none so far, or one up to `fill`.
+fn opened(s: Building, start: usize, body: usize, fill: usize, tall: usize, late: usize) -> Building
+    requires { ⌜ s .depth ≤ 32 ⌝ }
+    ensures { λ r. ⌜ r ≡ openedAt s start body fill tall late ⌝ }
+{
+    Building {
+        brackets: s.brackets,
+        depth: s.depth + 1,
+        fill,
+        start,
+        body,
+        tallest: tall,
+        last: body,
+        height: tall,
+        late,
+        word: false,
+        name: 0,
+        before: 0,
+    }
+}
+
+// The field being read goes to its slot.
+fn save(frames: &mut [u8], s: Building)
+    requires { ⌜ Ready s ⌝ }
+    ensures { λ _. ⌜ now (frames .exit) ≡ over (now (frames .entry)) (8 * s .depth) (highBytes 8 (slotNumber (s .start) (s .body) (s .tallest))) ⌝ }
+{
+    let slot = s.start * 268435456 + (s.body * 64 + s.tallest);
+    wire::put_eight(frames, 8 * s.depth, slot as u64);
+}
+
+pub fn begin(out: &mut [u8], frames: &mut [u8], s: Building, tag: u8) -> Step
+    requires { ⌜ (256 ≤ length (now frames)) × Ready s ⌝ }
+    ensures { λ r. ⌜ Does AnyToken (beginAction tag) s (now (frames .entry)) (now (out .entry)) r (now (frames .exit)) (now (out .exit)) ⌝ }
+{
+    if 32 <= s.depth {
+        return Step::No;
+    }
+    save(frames, s);
+    let at = s.fill;
+    wire::put_header(out, at, tag, 0);
+    Step::Did(opened(s, at, at + 3, at + 3, 0, s.late))
+}
+
+// The field ends: the one around it comes from its slot.
+fn closed(s: Building, slot: u64) -> Building
+    requires { ⌜ (0 < s .depth) × Ready s ⌝ }
+    ensures { λ r. ⌜ r ≡ closedInto s slot ⌝ }
+{
+    let height = s.tallest + 1;
+    Building {
+        brackets: s.brackets,
+        depth: s.depth - 1,
+        fill: s.fill,
+        start: (slot / 268435456) as usize,
+        body: (slot / 64 % 4194304) as usize,
+        tallest: taller((slot % 64) as usize, height),
+        last: s.start,
+        height,
+        late: s.late,
+        word: false,
+        name: 0,
+        before: 0,
+    }
+}
+
+// The field's length is known now. One that does not fit two bytes is of a tree that does not fit the output.
+pub fn close(out: &mut [u8], frames: &[u8], s: Building) -> Step
+    requires { ⌜ (256 ≤ length (now frames)) × Ready s ⌝ }
+    ensures { λ r. ⌜ Does AnyToken closeAction s (now (frames .entry)) (now (out .entry)) r (now (frames .entry)) (now (out .exit)) ⌝ }
+{
+    if s.depth == 0 {
+        return Step::No;
+    }
+    let size = s.fill - s.start - 3;
+    wire::put_two(out, s.start + 1, (size % 65536) as u16);
+    let slot = wire::number_in(frames, 8 * (s.depth - 1));
+    Step::Did(closed(s, slot))
+}
+
+// ---- Fields of one token
+
+// A part of one level.
+fn with_part(s: Building, size: usize, late: usize) -> Building
+    requires { ⌜ (size ≤ 12) × Ready s ⌝ }
+    ensures { λ r. ⌜ r ≡ withPart s size late ⌝ }
+{
+    Building {
+        brackets: s.brackets,
+        depth: s.depth,
+        fill: s.fill + size,
+        start: s.start,
+        body: s.body,
+        tallest: taller(s.tallest, 1),
+        last: s.fill,
+        height: 1,
+        late,
+        word: false,
+        name: 0,
+        before: 0,
+    }
+}
+
+// The first constant on a line past 255, with one more.
+fn late_with(late: usize, line: usize, place: usize) -> usize
+    requires { ⌜ place ≤ 1048576 ⌝ }
+    ensures { λ r. ⌜ r ≡ lateWith late line place ⌝ }
+{
+    if late != 0 {
+        return late;
+    }
+    if line <= 255 {
+        return 0;
+    }
+    place + 1
+}
+
+// The header of a constant, and its label: of a line past 255, what a byte holds.
+fn put_label(out: &mut [u8], at: usize, tag: u8, size: u16, line: usize)
+    requires { ⌜ at ≤ 1048576 ⌝ }
+    ensures { λ _. ⌜ now (out .exit) ≡ over (now (out .entry)) at (tag ∷ highBytes 2 size ++ (line % 256 ∷ [])) ⌝ }
+{
+    wire::put_header(out, at, tag, size);
+    wire::put_byte(out, at + 3, (line % 256) as u8);
+}
+
+pub fn add_void(out: &mut [u8], s: Building, tag: u8) -> Step
+    requires { ⌜ Ready s ⌝ }
+    ensures { λ r. ⌜ ((frames : List ℕ) → Does AnyToken (voidAction tag) s frames (now (out .entry)) r frames (now (out .exit))) ⌝ }
+{
+    if 32 <= s.depth {
+        return Step::No;
+    }
+    wire::put_header(out, s.fill, tag, 0);
+    Step::Did(with_part(s, 3, s.late))
+}
+
+// A variable (13) or a top variable (14).
+pub fn add_variable(out: &mut [u8], s: Building, tag: u8, name: u16) -> Step
+    requires { ⌜ Ready s ⌝ }
+    ensures { λ r. ⌜ ((frames : List ℕ) → Does (AVariable tag name) readAction s frames (now (out .entry)) r frames (now (out .exit))) ⌝ }
+{
+    if 32 <= s.depth {
+        return Step::No;
+    }
+    wire::put_header(out, s.fill, tag, 2);
+    wire::put_two(out, s.fill + 3, name);
+    Step::Did(with_part(s, 5, s.late))
+}
+
+pub fn add_class_variable(out: &mut [u8], s: Building, class: u16, name: u16) -> Step
+    requires { ⌜ Ready s ⌝ }
+    ensures { λ r. ⌜ ((frames : List ℕ) → Does (AClassVariable class name) readAction s frames (now (out .entry)) r frames (now (out .exit))) ⌝ }
+{
+    if 32 <= s.depth {
+        return Step::No;
+    }
+    wire::put_header(out, s.fill, 0x15, 4);
+    wire::put_two(out, s.fill + 3, class);
+    wire::put_two(out, s.fill + 5, name);
+    Step::Did(with_part(s, 7, s.late))
+}
+
+pub fn add_integer(out: &mut [u8], s: Building, line: usize, place: usize, value: i64) -> Step
+    requires { ⌜ (place ≤ 1048576) × Ready s ⌝ }
+    ensures { λ r. ⌜ ((frames : List ℕ) → Does (AnInteger line place value) constantAction s frames (now (out .entry)) r frames (now (out .exit))) ⌝ }
+{
+    if 32 <= s.depth {
+        return Step::No;
+    }
+    put_label(out, s.fill, 0x10, 9, line);
+    wire::put_signed(out, s.fill + 4, value);
+    let late = late_with(s.late, line, place);
+    Step::Did(with_part(s, 12, late))
+}
+
+pub fn add_boolean(out: &mut [u8], s: Building, line: usize, place: usize, value: u8) -> Step
+    requires { ⌜ (place ≤ 1048576) × Ready s ⌝ }
+    ensures { λ r. ⌜ ((frames : List ℕ) → Does (ABoolean line place value) constantAction s frames (now (out .entry)) r frames (now (out .exit))) ⌝ }
+{
+    if 32 <= s.depth {
+        return Step::No;
+    }
+    put_label(out, s.fill, 0x12, 2, line);
+    wire::put_byte(out, s.fill + 4, value);
+    let late = late_with(s.late, line, place);
+    Step::Did(with_part(s, 5, late))
+}
+
+// A string constant. It is remembered as the last part: it may turn out to be the name of a field.
+pub fn add_string(out: &mut [u8], s: Building, line: usize, place: usize, name: u16) -> Step
+    requires { ⌜ (place ≤ 1048576) × Ready s ⌝ }
+    ensures { λ r. ⌜ ((frames : List ℕ) → Does (AString line place name) constantAction s frames (now (out .entry)) r frames (now (out .exit))) × IsWord r ⌝ }
+{
+    if 32 <= s.depth {
+        return Step::No;
+    }
+    put_label(out, s.fill, 0x11, 3, line);
+    wire::put_two(out, s.fill + 4, name);
+    let late = late_with(s.late, line, place);
+    let mut next = with_part(s, 6, late);
+    next.word = true;
+    next.name = name;
+    next.before = s.late;
+    Step::Did(next)
+}
