@@ -48,6 +48,8 @@ module _ (table : List (List ℕ)) (s : Building) (m out : List ℕ) where
           tall = omega (arith, x .tall);
           deep = omega (arith, x .deep);
           last = (x .fill, sym flat);
+          within = omega arith;
+          high = omega arith;
           late = lately (lateOpen ks fs) (x .late) ∙ ap lateNumber (sym (late-more ks k fs));
           word = λ e. false-not-true e;
           label = x .label;

@@ -94,6 +94,8 @@ module _ (table : List (List ℕ)) (s : Building) (m out : List ℕ) where
           tall = omega (arith, parts .2, x .tall, slot .exact);
           deep = omega (arith, parts .2, slot .deep, x .deep, below, x .depth);
           last = (starts, omega (arith, x .tall));
+          within = ready .start;
+          high = omega (arith, x .deep, x .depth);
           late = x .late ∙ ap lateNumber (sym (late-closed p t h ks q u g js fs (x .label)));
           word = λ e. false-not-true e;
           label = slot .label;

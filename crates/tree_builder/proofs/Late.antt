@@ -27,6 +27,11 @@ pub late-begun : (p t : ℕ) (h : List Piece) (ks : Nodes) (fs : List Frame) →
 unfolding lateOpen lateAround lateAmong
 late-begun p t h ks fs = or-none (orLater (lateAround fs) (lateAmong ks))
 
+-- a field begins around the last part
+pub late-around : (p t : ℕ) (h : List Piece) (ks : Nodes) (k : Node) (fs : List Frame) → lateOpen (empty ▸ k) (frame p t h ks ∷ fs) ≡ lateOpen (ks ▸ k) fs
+unfolding lateOpen lateAround lateAmong
+late-around p t h ks k fs = sym (or-or (lateAround fs) (lateAmong ks) (lateIn k))
+
 -- one part more
 pub late-more : (ks : Nodes) (k : Node) (fs : List Frame) → lateOpen (ks ▸ k) fs ≡ orLater (lateOpen ks fs) (lateIn k)
 unfolding lateOpen lateAmong

@@ -28,7 +28,7 @@ use Rattle.tree_builder.proofs.Adding.{no-room, part-shown, part-added}
 -- ---- Their bytes
 
 module _ (table : List (List ℕ)) where
-  head-name : (w : List ℕ) (h : List Piece) {n : ℕ} → n ≡ numberIn table w → low (headBytes table (name w ∷ h)) ≡ highBytes 2 n ++ low (headBytes table h)
+  pub head-name : (w : List ℕ) (h : List Piece) {n : ℕ} → n ≡ numberIn table w → low (headBytes table (name w ∷ h)) ≡ highBytes 2 n ++ low (headBytes table h)
   unfolding headBytes pieceBytes numberIn
   head-name w h e =
       low-append (highBytes 2 (numberIn table w)) (headBytes table h) ∙ ap (λ (l : List ℕ). l ++ low (headBytes table h)) (low-high 2 (numberIn table w))
@@ -43,7 +43,7 @@ module _ (table : List (List ℕ)) where
   head-bytes [] = refl
   head-bytes (b ∷ bs) = ap (λ (l : List ℕ). b ∷ l) (head-bytes bs)
 
-  head-none : low (headBytes table []) ≡ []
+  pub head-none : low (headBytes table []) ≡ []
   unfolding headBytes low
   head-none = refl
 
@@ -56,7 +56,7 @@ module _ (table : List (List ℕ)) where
   unfolding highBytes
   void-bytes p t small = leaf-bytes p t [] [] small head-none
 
-  name-bytes : (p t n : ℕ) (w : List ℕ) → t < 256 → n ≡ numberIn table w → low (write (numbered table (leaf p t (name w ∷ [])))) ≡ (t ∷ highBytes 2 2) ++ highBytes 2 n
+  pub name-bytes : (p t n : ℕ) (w : List ℕ) → t < 256 → n ≡ numberIn table w → low (write (numbered table (leaf p t (name w ∷ [])))) ≡ (t ∷ highBytes 2 2) ++ highBytes 2 n
   unfolding highBytes
   name-bytes p t n w small e = leaf-bytes p t (name w ∷ []) (highBytes 2 n) small (head-name w [] e ∙ rw head-none)
 
@@ -162,6 +162,8 @@ module _ (s : Building) (m out : List ℕ) where
               tall = y .tall;
               deep = y .deep;
               last = y .last;
+              within = y .within;
+              high = y .high;
               late = y .late;
               label = y .label;
               slots = y .slots;

@@ -8,3 +8,6 @@ pub mod Closing
 pub mod Ready
 pub mod Leaves
 pub mod Rounds
+pub mod Lifting
+pub mod Moving
+pub mod Heading

@@ -18,6 +18,7 @@ use Rattle.tree_builder.proofs.Stores.{low-append, low-length, holds-mo
 use Rattle.tree_builder.proofs.Bytes.{low-header, around-open, head-end, inner-open, open-none}
 use Rattle.tree_builder.proofs.Slots.{slot-back, around-kept, around-higher}
 use Rattle.tree_builder.proofs.Late.{late-begun}
+use Rattle.tree_builder.proofs.Ready.{body-short}
 use Rattle.tree_builder.proofs.Adding.{false-not-true}
 
 module _ (table : List (List ℕ)) (s : Building) (m out : List ℕ) where
@@ -38,7 +39,7 @@ module _ (table : List (List ℕ)) (s : Building) (m out : List ℕ) where
       → m′ ≡ over m (8 * s .depth) (highBytes 8 (slotNumber (s .start) (s .body) (s .tallest))) → Shown table s m out b t h ks fs → tallest ks ≤ max (tallest kept) (suc (tallest js))
       → NewField p q e n l out′ t h kept fs r u g js → Shown table (openedAt s p q e n l) m′ out′ b u g js (frame r t h kept ∷ fs)
   unfolding openedAt Around
-  field-shown {m′ = m′} {t = t} {h} {ks} {kept} {fs} {r} {js = js} room ready save x lower new =
+  field-shown {m′ = m′} {t = t} {h} {ks} {kept} {fs} {r} {u} {g} {js} room ready save x lower new =
       record {
         rounds = x .rounds;
         depth = omega (arith, x .depth);
@@ -48,6 +49,8 @@ module _ (table : List (List ℕ)) (s : Building) (m out : List ℕ) where
         tall = new .talls;
         deep = omega (arith, new .deep);
         last = new .last;
+        within = omega (arith, new .heads, new .fills, body-short table u g js (frame r t h kept ∷ fs));
+        high = omega (arith, new .deep);
         late = new .lates;
         word = λ e. false-not-true e;
         label = new .label;

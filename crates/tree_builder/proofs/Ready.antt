@@ -12,7 +12,7 @@ use Rattle.tree_builder.specs.Shows.{Shown, Shows, Ready}
 use Rattle.tree_builder.proofs.Bytes.{around-open, inner-open}
 
 module _ (table : List (List ℕ)) where
-  body-short : (t : ℕ) (h : List Piece) (ks : Nodes) (fs : List Frame) → length (headEnd table t h fs) ≤ length (openBytes table t h ks fs)
+  pub body-short : (t : ℕ) (h : List Piece) (ks : Nodes) (fs : List Frame) → length (headEnd table t h fs) ≤ length (openBytes table t h ks fs)
   unfolding openBytes
   body-short t h ks fs = omega (arith, length-append (headEnd table t h fs) (partsBytes table ks))
 
@@ -35,4 +35,6 @@ module _ (table : List (List ℕ)) where
         start = omega (arith, x .start, x .fill, start-short t h fs, body-short t h ks fs);
         header = λ some. omega (arith, x .start, x .fill, header-short t h ks fs (omega (arith, x .depth)));
         body = omega (arith, x .body, x .fill, body-short t h ks fs);
+        last = x .within;
+        height = x .high;
       }

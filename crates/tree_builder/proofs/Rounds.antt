@@ -27,6 +27,8 @@ module _ (s : Building) (m out : List ℕ) where
         tall = x .tall;
         deep = x .deep;
         last = x .last;
+        within = x .within;
+        high = x .high;
         late = x .late;
         label = x .label;
         slots = x .slots;

@@ -8,8 +8,8 @@ use lib.IntN.{ℤ}
 use lib.ListN.{length}
 use Rattle.rules.specs.Format.{isConstant}
 use Rattle.rules.specs.Compile.{stringNumber}
-use Rattle.notation.specs.Building.{Piece, byte, name, Nodes, empty, _▸_, leaf, height, tallest, Frame, frame, Build, build, Action, act, constantNode, variableNode}
-use Rattle.notation.specs.Tokens.{Lexeme, lexeme, number}
+use Rattle.notation.specs.Building.{Piece, byte, name, Nodes, empty, _▸_, leaf, height, tallest, Frame, frame, Build, build, Action, act, constantNode, variableNode, spelled}
+use Rattle.notation.specs.Tokens.{Lexeme, lexeme, number, tokenOf}
 use Rattle.notation.specs.Grammar.{orZero}
 use Rattle.notation.specs.Convert.{labelIn}
 use Rattle.tree_builder.specs.declared.Building.{Building}
@@ -59,6 +59,8 @@ module _ (table : List (List ℕ)) where
       pub tall : s .tallest ≡ tallest parts
       pub deep : s .depth + s .tallest ≤ 32
       pub last : LastPart tag head parts around
+      pub within : s .last ≤ s .fill
+      pub high : s .height ≤ 32
       pub late : s .late ≡ lateNumber (lateOpen parts around)
       pub word : s .word ≡ true → LastWord parts around
       pub label : labelIn head ≤ 255
@@ -115,6 +117,10 @@ pub record AClassVariable (class n : ℕ) (table : List (List ℕ)) (x : Lexeme)
   pub number : n ≡ numberIn table spelled
   pub is : variableNode x ≡ leaf place 0x15 (name scope ∷ name spelled ∷ [])
 
+-- the name in the token
+unfoldable pub AName : (n : ℕ) → List (List ℕ) → Lexeme → Type 0
+AName n table x = n ≡ numberIn table (spelled (tokenOf x))
+
 -- the last part is a string constant just read
 unfoldable pub IsWord : Step → Type 0
 IsWord No = Unit {0}
@@ -128,3 +134,5 @@ pub record Ready (s : Building) : Type 0 where
   pub start : s .start ≤ s .fill
   pub header : 0 < s .depth → s .start + 3 ≤ s .fill
   pub body : s .body ≤ s .fill
+  pub last : s .last ≤ s .fill
+  pub height : s .height ≤ 32

@@ -25,6 +25,11 @@ unfoldable pub withPart : Building → (size late : ℕ) → Building
 withPart s n l =
     record { brackets = s .brackets; depth = s .depth; fill = s .fill + n; start = s .start; body = s .body; tallest = max (s .tallest) 1; last = s .fill; height = 1; late = l; word = false; name = 0; before = 0 }
 
+-- bytes come before the parts: so many to the head, so many in all
+unfoldable pub raised : Building → (head size : ℕ) → Building
+raised s k n =
+    record { brackets = s .brackets; depth = s .depth; fill = s .fill + n; start = s .start; body = s .body + k; tallest = s .tallest; last = s .last + n; height = s .height; late = s .late; word = false; name = 0; before = 0 }
+
 -- the field ends, and the one around it is read from its slot
 unfoldable pub closedInto : Building → (slot : ℕ) → Building
 closedInto s n =

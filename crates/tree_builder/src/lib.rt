@@ -2,14 +2,15 @@
 ghost use mathlib.Core.Path.{_≡_};
 ghost use mathlib.Core.List.{List, [], _∷_, _++_};
 ghost use mathlib.Core.Bool.{_&&_, true};
-ghost use Prim.Native.Nat.{ℕ, _+_, _*_, _%_, _≤_, _<_, max};
+ghost use Prim.Native.Nat.{ℕ, _+_, _-_, _*_, _%_, _≤_, _<_, max};
 ghost use lib.ListN.{length};
 ghost use lib.Dec.{ltb, eqb};
 ghost use Rattle.wire.specs.Numbers.{highBytes, word64};
-ghost use Rattle.wire.specs.Runs.{over};
-ghost use Rattle.notation.specs.Building.{begin as beginAction, close as closeAction, constant as constantAction, read as readAction, enter as enterAction, leave as leaveAction, void as voidAction};
-ghost use Rattle.tree_builder.specs.State.{slotNumber, openedAt, withPart, closedInto, lateWith};
-ghost use Rattle.tree_builder.specs.Shows.{Does, AnyToken, AnInteger, AString, ABoolean, IsWord, AVariable, AClassVariable, Ready};
+ghost use Rattle.wire.specs.Runs.{bytesAt, over};
+ghost use Rattle.notation.specs.Building.{begin as beginAction, close as closeAction, constant as constantAction, named as namedAction, parentFirst as parentAction, around as aroundAction, instead as insteadAction, byte, read as readAction, enter as enterAction, leave as leaveAction, void as voidAction};
+ghost use Rattle.tree_builder.specs.declared.Step.the-variants.{Did};
+ghost use Rattle.tree_builder.specs.State.{slotNumber, openedAt, withPart, raised, closedInto, lateWith};
+ghost use Rattle.tree_builder.specs.Shows.{Does, AnyToken, AnInteger, AString, ABoolean, IsWord, AName, AVariable, AClassVariable, Ready};
 
 // The field being read, what is open around it, and how far the output is filled.
 pub struct Building {
@@ -269,4 +270,134 @@ pub fn add_string(out: &mut [u8], s: Building, line: usize, place: usize, name: 
     next.name = name;
     next.before = s.late;
     Step::Did(next)
+}
+
+// ---- Bytes before others
+
+// Moves the bytes from `from` up to `to` further up by `by`, the last first. What would come past the output's end is left out.
+fn move_up(out: &mut [u8], from: usize, to: usize, by: usize)
+    requires { ⌜ (from ≤ to) × (to ≤ 1048576) × (by ≤ 8) ⌝ }
+    ensures { λ _. ⌜ now (out .exit) ≡ over (now (out .entry)) (from + by) (bytesAt (now (out .entry)) from (to - from)) ⌝ }
+{
+    let mut p = to;
+    while from < p {
+        p -= 1;
+        let b = wire::byte_at(out, p);
+        wire::put_byte(out, p + by, b);
+    }
+}
+
+// Bytes came before the parts: `head` to the head, `size` in all.
+fn raised_by(s: Building, head: usize, size: usize) -> Building
+    requires { ⌜ (head ≤ 8) × (size ≤ 8) × Ready s ⌝ }
+    ensures { λ r. ⌜ r ≡ raised s head size ⌝ }
+{
+    Building {
+        brackets: s.brackets,
+        depth: s.depth,
+        fill: s.fill + size,
+        start: s.start,
+        body: s.body + head,
+        tallest: s.tallest,
+        last: s.last + size,
+        height: s.height,
+        late: s.late,
+        word: false,
+        name: 0,
+        before: 0,
+    }
+}
+
+// A name of the field being read: it comes before the parts.
+pub fn add_name(out: &mut [u8], s: Building, name: u16) -> Building
+    requires { ⌜ Ready s ⌝ }
+    ensures { λ r. ⌜ ((frames : List ℕ) → Does (AName name) namedAction s frames (now (out .entry)) (Did r) frames (now (out .exit))) ⌝ }
+{
+    move_up(out, s.body, s.fill, 2);
+    wire::put_two(out, s.body, name);
+    raised_by(s, 2, 2)
+}
+
+// A parent (35) comes before the other parts.
+pub fn parent_first(out: &mut [u8], s: Building, name: u16) -> Step
+    requires { ⌜ Ready s ⌝ }
+    ensures { λ r. ⌜ ((frames : List ℕ) → Does (AName name) parentAction s frames (now (out .entry)) r frames (now (out .exit))) ⌝ }
+{
+    if 32 <= s.depth {
+        return Step::No;
+    }
+    move_up(out, s.body, s.fill, 5);
+    wire::put_header(out, s.body, 0x35, 2);
+    wire::put_two(out, s.body + 3, name);
+    if s.tallest == 0 {
+        return Step::Did(with_part(s, 5, s.late));
+    }
+    Step::Did(raised_by(s, 0, 5))
+}
+
+// The header of a field comes before the last part, with `by` bytes of room for it and its head.
+fn lift(out: &mut [u8], frames: &mut [u8], s: Building, tag: u8, by: usize)
+    requires { ⌜ (by ≤ 8) × Ready s ⌝ }
+    ensures { λ _. ⌜ (now (frames .exit) ≡ over (now (frames .entry)) (8 * s .depth) (highBytes 8 (slotNumber (s .start) (s .body) (s .tallest)))) × (now (out .exit) ≡ over (over (now (out .entry)) (s .last + by) (bytesAt (now (out .entry)) (s .last) (s .fill - s .last))) (s .last) (tag ∷ highBytes 2 0)) ⌝ }
+{
+    save(frames, s);
+    move_up(out, s.last, s.fill, by);
+    wire::put_header(out, s.last, tag, 0);
+}
+
+fn lifted(s: Building, by: usize) -> Building
+    requires { ⌜ (by ≤ 8) × Ready s ⌝ }
+    ensures { λ r. ⌜ r ≡ openedAt s (s .last) (s .last + by) (s .fill + by) (s .height) (s .late) ⌝ }
+{
+    let at = s.last;
+    opened(s, at, at + by, s.fill + by, s.height, s.late)
+}
+
+// A field begins around the last part, which is its first one.
+pub fn around(out: &mut [u8], frames: &mut [u8], s: Building, tag: u8) -> Step
+    requires { ⌜ (256 ≤ length (now frames)) × Ready s ⌝ }
+    ensures { λ r. ⌜ Does AnyToken (aroundAction tag []) s (now (frames .entry)) (now (out .entry)) r (now (frames .exit)) (now (out .exit)) ⌝ }
+{
+    if s.tallest == 0 {
+        return Step::No;
+    }
+    if 32 <= s.depth + s.height {
+        return Step::No;
+    }
+    lift(out, frames, s, tag, 3);
+    Step::Did(lifted(s, 3))
+}
+
+// The same, with an operator in the head.
+pub fn around_operator(
+    out: &mut [u8],
+    frames: &mut [u8],
+    s: Building,
+    tag: u8,
+    operator: u8,
+) -> Step
+    requires { ⌜ (256 ≤ length (now frames)) × Ready s ⌝ }
+    ensures { λ r. ⌜ Does AnyToken (aroundAction tag (byte operator ∷ [])) s (now (frames .entry)) (now (out .entry)) r (now (frames .exit)) (now (out .exit)) ⌝ }
+{
+    if s.tallest == 0 {
+        return Step::No;
+    }
+    if 32 <= s.depth + s.height {
+        return Step::No;
+    }
+    lift(out, frames, s, tag, 4);
+    wire::put_byte(out, s.last + 3, operator);
+    Step::Did(lifted(s, 4))
+}
+
+// The string constant just read is none: a field begins that has its name. It takes a byte less.
+pub fn instead(out: &mut [u8], frames: &mut [u8], s: Building, tag: u8) -> Building
+    requires { ⌜ (s .word ≡ true) × (256 ≤ length (now frames)) × Ready s ⌝ }
+    ensures { λ r. ⌜ Does AnyToken (insteadAction tag) s (now (frames .entry)) (now (out .entry)) (Did r) (now (frames .exit)) (now (out .exit)) ⌝ }
+{
+    save(frames, s);
+    let at = s.last;
+    wire::put_header(out, at, tag, 0);
+    wire::put_two(out, at + 3, s.name);
+    opened(s, at, at + 5, at + 5, 0, s.before)
 }
