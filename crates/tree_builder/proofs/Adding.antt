@@ -31,7 +31,7 @@ module _ (table : List (List ℕ)) (s : Building) (m out : List ℕ) where
 
   -- a node of one level, whose bytes are stored where the filled part ends
   module _ (k : Node) (late n : ℕ) (bs : List ℕ) {out′ : List ℕ}
-      (flat : height k ≡ 1) (are : low (write (numbered table k)) ≡ bs) (size : n ≡ length bs) (put : out′ ≡ over out (s .fill) bs)
+      (flat : height k ≡ 1) (are : low (write (numbered table k)) ≡ bs) (size : n ≡ length bs) (short : n ≤ 12) (put : out′ ≡ over out (s .fill) bs)
       (lately : (o : Option ℕ) → s .late ≡ lateNumber o → late ≡ lateNumber (orLater o (lateIn k))) where
     pub part-shown : {b t : ℕ} {h : List Piece} {ks : Nodes} {fs : List Frame} → s .depth < 32 → Shown table s m out b t h ks fs → Shown table (withPart s n late) m out′ b t h (ks ▸ k) fs
     unfolding withPart LastPart tallest
@@ -58,7 +58,7 @@ module _ (table : List (List ℕ)) (s : Building) (m out : List ℕ) where
               (holds-more (low whole) bs (s .fill) (x .bytes) put (x .fill ∙ sym (low-length whole)));
         }
 
-    pub part-added : (f : Build) {s′ : Building} → s .depth < 32 → s′ ≡ withPart s n late → Shows table s m out f → Made table s′ m out′ (added k f)
-    unfolding Shows added
+    pub part-added : (f : Build) {s′ : Building} → s .depth < 32 → s′ ≡ withPart s n late → Shows table s m out f → Made table (s .fill) s′ m out′ (added k f)
+    unfolding Shows added withPart
     part-added (build b (frame p t h ks) fs) room e x =
-        record { made = build b (frame p t h (ks ▸ k)) fs; is = rw (le-leb (length fs + 1) 32 (omega (arith, x .depth))); shows = rw e (part-shown room x) }
+        record { made = build b (frame p t h (ks ▸ k)) fs; is = rw (le-leb (length fs + 1) 32 (omega (arith, x .depth))); shows = rw e (part-shown room x); grown = rw e (omega arith) }

@@ -104,8 +104,8 @@ module _ (table : List (List ℕ)) (s : Building) (m out : List ℕ) where
         }
 
   pub close-made : (x : Lexeme) (f : Build) {n : ℕ} {out′ : List ℕ} {s′ : Building} → 0 < s .depth → Ready s → out′ ≡ over out (s .start + 1) (highBytes 2 ((s .fill - s .start - 3) % 65536)) → n ≡ slotIn m (s .depth - 1)
-      → s′ ≡ closedInto s n → Shows table s m out f → Made table s′ m out′ (act close x f)
-  unfolding Shows act
+      → s′ ≡ closedInto s n → Shows table s m out f → Made table (s .fill) s′ m out′ (act close x f)
+  unfolding Shows act closedInto
   close-made x (build b (frame p t h ks) []) inside ready put read e a = absurd (omega (arith, a .depth))
   close-made x (build b (frame p t h ks) (frame q u g js ∷ fs)) inside ready put read e a =
-      record { made = build b (frame q u g (js ▸ node p t h ks)) fs; is = refl; shows = rw e (close-shown p t h ks q u g js fs ready put read a) }
+      record { made = build b (frame q u g (js ▸ node p t h ks)) fs; is = refl; shows = rw e (close-shown p t h ks q u g js fs ready put read a); grown = rw e (omega arith) }

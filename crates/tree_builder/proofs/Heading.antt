@@ -198,34 +198,37 @@ module _ (table : List (List ℕ)) (s : Building) (m out : List ℕ) {moved out�
 
 module _ (s : Building) (m out : List ℕ) (n : ℕ) {moved out′ : List ℕ} {s′ : Building} where
   pub name-made : moved ≡ over out (s .body + 2) (bytesAt out (s .body) (s .fill - s .body)) → out′ ≡ over moved (s .body) (highBytes 2 n) → s′ ≡ raised s 2 2 → Does (AName n) named s m out (Did s′) m out′
-  unfolding Does Answers act Shows AName
+  unfolding Does Answers act Shows AName raised
   name-made up put e table (build b (frame q t h ks) fs) x is a =
       record {
         made = build b (frame q t (h ++ (name (spelled (tokenOf x)) ∷ [])) ks) fs;
         is = refl;
+        grown = rw e (omega arith);
         shows = rw e (name-shown table s m out (spelled (tokenOf x)) up (put ∙ ap (λ (k : ℕ). over moved (s .body) (highBytes 2 k)) is) a);
       }
 
   module _ (room : s .depth < 32) (up : moved ≡ over out (s .body + 5) (bytesAt out (s .body) (s .fill - s .body))) (put : out′ ≡ over moved (s .body) ((0x35 ∷ highBytes 2 2) ++ highBytes 2 n)) where
     pub parent-only : s .tallest ≡ 0 → s′ ≡ withPart s 5 (s .late) → Does (AName n) parentFirst s m out (Did s′) m out′
-    unfolding Does Answers act Shows AName addedFirst tallest height highBytes
+    unfolding Does Answers act Shows AName addedFirst tallest height highBytes withPart raised
     parent-only flat e table (build b (frame q t h (ks ▸ node p v g js)) fs) x is a = absurd (omega (arith, a .tall))
     parent-only flat e table (build b (frame q t h empty) fs) x is a =
         record {
           made = build b (frame q t h (inFront (leaf (placeOf x) 0x35 (name (spelled (tokenOf x)) ∷ [])) empty)) fs;
           is = rw (le-leb (length fs + 1) 32 (omega (arith, a .depth)));
+          grown = rw e (omega arith);
           shows = rw e
               (first-shown table s m out (leaf (placeOf x) 0x35 (name (spelled (tokenOf x)) ∷ [])) ((0x35 ∷ highBytes 2 2) ++ highBytes 2 n) 5 refl (parent-plain (placeOf x) (spelled (tokenOf x)))
               (name-bytes table (placeOf x) 0x35 n (spelled (tokenOf x)) (omega arith) is) refl up put room a);
         }
 
     pub parent-before : 0 < s .tallest → s′ ≡ raised s 0 5 → Does (AName n) parentFirst s m out (Did s′) m out′
-    unfolding Does Answers act Shows AName addedFirst tallest height highBytes
+    unfolding Does Answers act Shows AName addedFirst tallest height highBytes withPart raised
     parent-before tall e table (build b (frame q t h empty) fs) x is a = absurd (omega (arith, a .tall))
     parent-before tall e table (build b (frame q t h (ks ▸ j)) fs) x is a =
         record {
           made = build b (frame q t h (inFront (leaf (placeOf x) 0x35 (name (spelled (tokenOf x)) ∷ [])) (ks ▸ j))) fs;
           is = rw (le-leb (length fs + 1) 32 (omega (arith, a .depth)));
+          grown = rw e (omega arith);
           shows = rw e
               (before-shown table s m out (leaf (placeOf x) 0x35 (name (spelled (tokenOf x)) ∷ [])) ((0x35 ∷ highBytes 2 2) ++ highBytes 2 n) 5 refl (parent-plain (placeOf x) (spelled (tokenOf x)))
               (name-bytes table (placeOf x) 0x35 n (spelled (tokenOf x)) (omega arith) is) refl up put room a);

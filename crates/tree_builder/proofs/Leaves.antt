@@ -108,14 +108,14 @@ module _ (s : Building) (m out : List ℕ) where
     pub void-made : (t : ℕ) → t < 256 → out′ ≡ over out (s .fill) (t ∷ highBytes 2 0) → s′ ≡ withPart s 3 (s .late) → Does AnyToken (void t) s m out (Did s′) m out′
     unfolding Does Answers act height highBytes
     void-made t small put e table f x p a =
-        part-added table s m out (leaf (placeOf x) t []) (s .late) 3 (t ∷ highBytes 2 0) refl (void-bytes table (placeOf x) t small) refl put
+        part-added table s m out (leaf (placeOf x) t []) (s .late) 3 (t ∷ highBytes 2 0) refl (void-bytes table (placeOf x) t small) refl (omega arith) put
         (λ o n. n ∙ ap lateNumber (sym (late-plain (placeOf x) t [] o (omega arith)))) f room e a
 
     pub variable-made : (t n : ℕ) → t < 256 → out′ ≡ over out (s .fill) ((t ∷ highBytes 2 2) ++ highBytes 2 n) → s′ ≡ withPart s 5 (s .late) → Does (AVariable t n) read s m out (Did s′) m out′
     unfolding Does Answers act height highBytes
     variable-made t n small put e table f x v a =
         rw (v .is)
-        (part-added table s m out (leaf (v .place) t (name (v .spelled) ∷ [])) (s .late) 5 ((t ∷ highBytes 2 2) ++ highBytes 2 n) refl (name-bytes table (v .place) t n (v .spelled) small (v .number)) refl put
+        (part-added table s m out (leaf (v .place) t (name (v .spelled) ∷ [])) (s .late) 5 ((t ∷ highBytes 2 2) ++ highBytes 2 n) refl (name-bytes table (v .place) t n (v .spelled) small (v .number)) refl (omega arith) put
         (λ o n. n ∙ ap lateNumber (sym (late-plain (v .place) t (name (v .spelled) ∷ []) o (omega arith)))) f room e a)
 
     pub class-made : (c n : ℕ) → out′ ≡ over out (s .fill) (((0x15 ∷ highBytes 2 4) ++ highBytes 2 c) ++ highBytes 2 n) → s′ ≡ withPart s 7 (s .late) → Does (AClassVariable c n) read s m out (Did s′) m out′
@@ -123,7 +123,7 @@ module _ (s : Building) (m out : List ℕ) where
     class-made c n put e table f x v a =
         rw (v .is)
         (part-added table s m out (leaf (v .place) 0x15 (name (v .scope) ∷ name (v .spelled) ∷ [])) (s .late) 7 (((0x15 ∷ highBytes 2 4) ++ highBytes 2 c) ++ highBytes 2 n) refl
-        (names-bytes table (v .place) 0x15 c n (v .scope) (v .spelled) (omega arith) (v .outer) (v .number)) refl put
+        (names-bytes table (v .place) 0x15 c n (v .scope) (v .spelled) (omega arith) (v .outer) (v .number)) refl (omega arith) put
         (λ o n. n ∙ ap lateNumber (sym (late-plain (v .place) 0x15 (name (v .scope) ∷ name (v .spelled) ∷ []) o (omega arith)))) f room e a)
 
     module _ (l p : ℕ) {late : ℕ} (lately : late ≡ lateWith (s .late) l p) where
@@ -131,28 +131,29 @@ module _ (s : Building) (m out : List ℕ) where
       unfolding Does Answers act height highBytes AnInteger constantNode lateIn lateAmong
       integer-made z put e table f x is a =
           rw is
-          (part-added table s m out (leaf p 0x10 (byte l ∷ map byte (highBytes 8 (word64 z)))) late 12 ((0x10 ∷ highBytes 2 9 ++ (l % 256 ∷ [])) ++ highBytes 8 (word64 z)) refl (integer-bytes table p l z) refl put
+          (part-added table s m out (leaf p 0x10 (byte l ∷ map byte (highBytes 8 (word64 z)))) late 12 ((0x10 ∷ highBytes 2 9 ++ (l % 256 ∷ [])) ++ highBytes 8 (word64 z)) refl (integer-bytes table p l z) refl (omega arith) put
           (λ o n. lately ∙ late-constant o (s .late) l p n) f room e a)
 
       pub boolean-made : (v : ℕ) → out′ ≡ over out (s .fill) ((0x12 ∷ highBytes 2 2 ++ (l % 256 ∷ [])) ++ highBytes 1 v) → s′ ≡ withPart s 5 late → Does (ABoolean l p v) constant s m out (Did s′) m out′
       unfolding Does Answers act height highBytes ABoolean lateIn lateAmong
       boolean-made v put e table f x is a =
           rw is
-          (part-added table s m out (leaf p 0x12 (byte l ∷ byte v ∷ [])) late 5 ((0x12 ∷ highBytes 2 2 ++ (l % 256 ∷ [])) ++ highBytes 1 v) refl (boolean-bytes table p l v) refl put
+          (part-added table s m out (leaf p 0x12 (byte l ∷ byte v ∷ [])) late 5 ((0x12 ∷ highBytes 2 2 ++ (l % 256 ∷ [])) ++ highBytes 1 v) refl (boolean-bytes table p l v) refl (omega arith) put
           (λ o n. lately ∙ late-constant o (s .late) l p n) f room e a)
 
       pub string-made : (n : ℕ) → out′ ≡ over out (s .fill) ((0x11 ∷ highBytes 2 3 ++ (l % 256 ∷ [])) ++ highBytes 2 n) → s′ ≡ withPart s 6 late → Does (AString l p n) constant s m out (Did (asWord s′ n (s .late))) m out′
-      unfolding Does Answers act height highBytes lateIn lateAmong Shows added LastPart
+      unfolding Does Answers act height highBytes lateIn lateAmong Shows added LastPart withPart
       string-made n put e table (build b (frame q t h ks) fs) x v a =
           let k : Node = leaf p 0x11 (byte l ∷ name (v .spelled) ∷ []) in
           let y : Shown table s′ m out′ b t h (ks ▸ k) fs =
           rw e
-          (part-shown table s m out k late 6 ((0x11 ∷ highBytes 2 3 ++ (l % 256 ∷ [])) ++ highBytes 2 n) refl (string-bytes table p l n (v .spelled) (v .number)) refl put
+          (part-shown table s m out k late 6 ((0x11 ∷ highBytes 2 3 ++ (l % 256 ∷ [])) ++ highBytes 2 n) refl (string-bytes table p l n (v .spelled) (v .number)) refl (omega arith) put
           (λ o i. lately ∙ late-constant o (s .late) l p i) room a) in
           rw (v .is)
           (record {
             made = build b (frame q t h (ks ▸ k)) fs;
             is = rw (le-leb (length fs + 1) 32 (omega (arith, a .depth)));
+            grown = rw e (omega arith);
             shows = record {
               rounds = y .rounds;
               depth = y .depth;

@@ -11,3 +11,4 @@ pub mod Rounds
 pub mod Lifting
 pub mod Moving
 pub mod Heading
+pub mod Whole

@@ -39,7 +39,7 @@ module _ (table : List (List ℕ)) (s : Building) (m out : List ℕ) where
 
   module _ {m′ out′ : List ℕ} (room : 256 ≤ length m) (ready : Ready s) (save : m′ ≡ over m (8 * s .depth) (highBytes 8 (slotNumber (s .start) (s .body) (s .tallest)))) where
     -- a header of n bytes before the last part
-    module _ (u : ℕ) (g : List Piece) (xs : List ℕ) (n : ℕ) {moved : List ℕ} (are : low (u ∷ 0 ∷ 0 ∷ headBytes table g) ≡ xs) (size : n ≡ length xs) (label : labelIn g ≤ 255)
+    module _ (u : ℕ) (g : List Piece) (xs : List ℕ) (n : ℕ) {moved : List ℕ} (are : low (u ∷ 0 ∷ 0 ∷ headBytes table g) ≡ xs) (size : n ≡ length xs) (short : n ≤ 12) (label : labelIn g ≤ 255)
         (up : moved ≡ over out (s .last + n) (bytesAt out (s .last) (s .fill - s .last))) (put : out′ ≡ over moved (s .last) xs) where
       around-new : {b t : ℕ} {h : List Piece} {ks : Nodes} {k : Node} {fs : List Frame} {r : ℕ} → s .depth + s .height < 32 → Shown table s m out b t h (ks ▸ k) fs
           → NewField table s m out (s .last) (s .last + n) (s .fill + n) (s .height) (s .late) out′ t h ks fs r u g (empty ▸ k)
@@ -75,13 +75,14 @@ module _ (table : List (List ℕ)) (s : Building) (m out : List ℕ) where
           }
 
       pub around-made : (x : Lexeme) (f : Build) {s′ : Building} → 0 < s .tallest → s .depth + s .height < 32 → s′ ≡ openedAt s (s .last) (s .last + n) (s .fill + n) (s .height) (s .late) → Shows table s m out f
-          → Made table s′ m′ out′ (act (around u g) x f)
-      unfolding Shows act LastPart tallest
+          → Made table (s .fill) s′ m′ out′ (act (around u g) x f)
+      unfolding Shows act LastPart tallest openedAt
       around-made x (build b (frame p t h empty) fs) tall shallow e a = absurd (omega (arith, a .tall))
       around-made x (build b (frame p t h (ks ▸ k)) fs) tall shallow e a =
           record {
             made = build b (frame (placeOf x) u g (empty ▸ k)) (frame p t h ks ∷ fs);
             is = rw (le-leb (suc (length fs) + height k) 32 (omega (arith, a .depth, a .last .1)));
+            grown = rw e (omega arith);
             shows = rw e (field-shown table s m out room ready save a (omega arith) (around-new shallow a));
           }
 
@@ -118,14 +119,15 @@ module _ (table : List (List ℕ)) (s : Building) (m out : List ℕ) where
             bytes = rw (ap low none ∙ low-append whole header ∙ ap (λ (l : List ℕ). low whole ++ l) lows) (holds-more (low whole) stored (s .last) held put (last ∙ sym (low-length whole)));
           }
 
-      pub instead-made : (x : Lexeme) (f : Build) {s′ : Building} → s .word ≡ true → s′ ≡ openedAt s (s .last) (s .last + 5) (s .last + 5) 0 (s .before) → Shows table s m out f → Made table s′ m′ out′ (act (instead u) x f)
-      unfolding Shows act tallest
+      pub instead-made : (x : Lexeme) (f : Build) {s′ : Building} → s .word ≡ true → s′ ≡ openedAt s (s .last) (s .last + 5) (s .last + 5) 0 (s .before) → Shows table s m out f → Made table (s .fill) s′ m′ out′ (act (instead u) x f)
+      unfolding Shows act tallest openedAt
       instead-made x (build b (frame p t h ks) fs) is e a =
           let w : LastWord table s ks fs = a .word is in
           let y : Shown table s m out b t h (w .kept ▸ leaf (w .place) 0x11 (byte (w .line) ∷ name (w .spelled) ∷ [])) fs = rw (sym (w .is)) a in
           record {
             made = build b (frame (w .place) u (name (w .spelled) ∷ []) empty) (frame p t h (w .kept) ∷ fs);
             is = rw (w .is);
+            grown = rw e (omega (arith, ready .last));
             shows = rw e (field-shown table s m out room ready save y (omega arith) (instead-new (w .number) (w .before) y));
           }
 
@@ -153,13 +155,13 @@ module _ (s : Building) (m out : List ℕ) where
         → s′ ≡ openedAt s (s .last) (s .last + 3) (s .fill + 3) (s .height) (s .late) → Does AnyToken (around u []) s m out (Did s′) m′ out′
     unfolding Does Answers headBytes highBytes
     plain-made tall shallow put e table f x p a =
-        around-made table s m out room ready save u [] (u ∷ highBytes 2 0) 3 (low-header u small) refl (omega arith) refl put x f tall shallow e a
+        around-made table s m out room ready save u [] (u ∷ highBytes 2 0) 3 (low-header u small) refl (omega arith) (omega arith) refl put x f tall shallow e a
 
     pub operator-made : (o : ℕ) {mid : List ℕ} → o < 256 → 0 < s .tallest → s .depth + s .height < 32 → mid ≡ over (over out (s .last + 4) (bytesAt out (s .last) (s .fill - s .last))) (s .last) (u ∷ highBytes 2 0)
         → out′ ≡ over mid (s .last + 3) (highBytes 1 o) → s′ ≡ openedAt s (s .last) (s .last + 4) (s .fill + 4) (s .height) (s .late) → Does AnyToken (around u (byte o ∷ [])) s m out (Did s′) m′ out′
     unfolding Does Answers highBytes
     operator-made o low tall shallow header put e table f x p a =
-        around-made table s m out room ready save u (byte o ∷ []) ((u ∷ highBytes 2 0) ++ highBytes 1 o) 4 (operator-low table u o small) refl (omega arith) refl
+        around-made table s m out room ready save u (byte o ∷ []) ((u ∷ highBytes 2 0) ++ highBytes 1 o) 4 (operator-low table u o small) refl (omega arith) (omega arith) refl
         (then-store (over out (s .last + 4) (bytesAt out (s .last) (s .fill - s .last))) (s .last) (u ∷ highBytes 2 0) (s .last + 3) (highBytes 1 o) header put (omega arith)) x f tall shallow e a
 
     pub word-made : {mid : List ℕ} → s .word ≡ true → mid ≡ over out (s .last) (u ∷ highBytes 2 0) → out′ ≡ over mid (s .last + 3) (highBytes 2 (s .name)) → s′ ≡ openedAt s (s .last) (s .last + 5) (s .last + 5) 0 (s .before)

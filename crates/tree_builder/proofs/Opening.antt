@@ -74,8 +74,8 @@ module _ (table : List (List ℕ)) (s : Building) (m out : List ℕ) where
 
   -- the header of a field that begins behind all others
   pub begin-made : (r u : ℕ) (f : Build) {m′ out′ : List ℕ} {s′ : Building} → u < 256 → s .depth < 32 → 256 ≤ length m → Ready s → m′ ≡ over m (8 * s .depth) (highBytes 8 (slotNumber (s .start) (s .body) (s .tallest)))
-      → out′ ≡ over out (s .fill) (u ∷ highBytes 2 0) → s′ ≡ openedAt s (s .fill) (s .fill + 3) (s .fill + 3) 0 (s .late) → Shows table s m out f → Made table s′ m′ out′ (begun r u f)
-  unfolding Shows begun LastPart tallest headBytes
+      → out′ ≡ over out (s .fill) (u ∷ highBytes 2 0) → s′ ≡ openedAt s (s .fill) (s .fill + 3) (s .fill + 3) 0 (s .late) → Shows table s m out f → Made table (s .fill) s′ m′ out′ (begun r u f)
+  unfolding Shows begun LastPart tallest headBytes openedAt
   begin-made r u (build b (frame p t h ks) fs) {m′} {out′} small below room ready save put e x =
       let whole : List ℕ = openBytes table t h ks fs in
       let more : openBytes table u [] empty (frame p t h ks ∷ fs) ≡ whole ++ (u ∷ 0 ∷ 0 ∷ []) = open-none table u [] (frame p t h ks ∷ fs) ∙ head-end table u [] p t h ks fs in
@@ -85,6 +85,7 @@ module _ (table : List (List ℕ)) (s : Building) (m out : List ℕ) where
       record {
         made = build b (frame r u [] empty) (frame p t h ks ∷ fs);
         is = rw (le-leb (length fs + 1) 32 (omega (arith, x .depth)));
+        grown = rw e (omega arith);
         shows = rw e
             (field-shown room ready save x (omega arith)
             (record {

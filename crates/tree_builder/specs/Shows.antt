@@ -6,7 +6,6 @@ use mathlib.Core.Option.{Option, none, some}
 use mathlib.Core.Bool.{true, false}
 use lib.IntN.{ℤ}
 use lib.ListN.{length}
-use Rattle.rules.specs.Format.{isConstant}
 use Rattle.rules.specs.Compile.{stringNumber}
 use Rattle.notation.specs.Building.{Piece, byte, name, Nodes, empty, _▸_, leaf, height, tallest, Frame, frame, Build, build, Action, act, constantNode, variableNode, spelled}
 use Rattle.notation.specs.Tokens.{Lexeme, lexeme, number, tokenOf}
@@ -70,20 +69,21 @@ module _ (table : List (List ℕ)) where
     unfoldable pub Shows : (frames out : List ℕ) → Build → Type 0
     Shows m out (build b (frame p t h ks) fs) = Shown m out b t h ks fs
 
-  -- what was to come of an action came, and is shown
-  pub record Made (s : Building) (frames out : List ℕ) (wanted : Option Build) : Type 0 where
+  -- what was to come of an action came, and is shown; the output is filled by a few bytes more
+  pub record Made (filled : ℕ) (s : Building) (frames out : List ℕ) (wanted : Option Build) : Type 0 where
     pub made : Build
     pub is : wanted ≡ some made
     pub shows : Shows s frames out made
+    pub grown : s .fill ≤ filled + 12
 
   -- the answer is no exactly where nothing comes of the action
-  unfoldable pub Answers : Step → (frames out : List ℕ) → (wanted : Option Build) → Type 0
-  Answers No m out o = o ≡ none
-  Answers (Did s) m out o = Made s m out o
+  unfoldable pub Answers : (filled : ℕ) → Step → (frames out : List ℕ) → (wanted : Option Build) → Type 0
+  Answers n No m out o = o ≡ none
+  Answers n (Did s) m out o = Made n s m out o
 
 -- an action at any token of which P holds: from whatever tree the state, the slots and the output stand for, to what the answer says
 unfoldable pub Does : (P : (table : List (List ℕ)) → Lexeme → Type 0) → Action → Building → (frames out : List ℕ) → Step → (frames′ out′ : List ℕ) → Type 0
-Does P a s m out r m′ out′ = (table : List (List ℕ)) (f : Build) (x : Lexeme) → P table x → Shows table s m out f → Answers table r m′ out′ (act a x f)
+Does P a s m out r m′ out′ = (table : List (List ℕ)) (f : Build) (x : Lexeme) → P table x → Shows table s m out f → Answers table (s .fill) r m′ out′ (act a x f)
 
 abbrev pub AnyToken : List (List ℕ) → Lexeme → Type 0
 AnyToken table x = Unit {0}
@@ -107,7 +107,6 @@ pub record AVariable (tag n : ℕ) (table : List (List ℕ)) (x : Lexeme) : Type
   pub spelled : List ℕ
   pub number : n ≡ numberIn table spelled
   pub is : variableNode x ≡ leaf place tag (name spelled ∷ [])
-  pub plain : isConstant tag ≡ false
 
 pub record AClassVariable (class n : ℕ) (table : List (List ℕ)) (x : Lexeme) : Type 0 where
   pub place : ℕ

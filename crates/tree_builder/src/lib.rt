@@ -7,10 +7,10 @@ ghost use lib.ListN.{length};
 ghost use lib.Dec.{ltb, eqb};
 ghost use Rattle.wire.specs.Numbers.{highBytes, word64};
 ghost use Rattle.wire.specs.Runs.{bytesAt, over};
-ghost use Rattle.notation.specs.Building.{begin as beginAction, close as closeAction, constant as constantAction, named as namedAction, parentFirst as parentAction, around as aroundAction, instead as insteadAction, byte, read as readAction, enter as enterAction, leave as leaveAction, void as voidAction};
+ghost use Rattle.notation.specs.Building.{start, begin as beginAction, close as closeAction, constant as constantAction, named as namedAction, parentFirst as parentAction, around as aroundAction, instead as insteadAction, byte, read as readAction, enter as enterAction, leave as leaveAction, void as voidAction};
 ghost use Rattle.tree_builder.specs.declared.Step.the-variants.{Did};
 ghost use Rattle.tree_builder.specs.State.{slotNumber, openedAt, withPart, raised, closedInto, lateWith};
-ghost use Rattle.tree_builder.specs.Shows.{Does, AnyToken, AnInteger, AString, ABoolean, IsWord, AName, AVariable, AClassVariable, Ready};
+ghost use Rattle.tree_builder.specs.Shows.{Shows, Does, AnyToken, AnInteger, AString, ABoolean, IsWord, AName, AVariable, AClassVariable, Ready};
 
 // The field being read, what is open around it, and how far the output is filled.
 pub struct Building {
@@ -32,6 +32,26 @@ pub struct Building {
 pub enum Step {
     Did(Building),
     No,
+}
+
+// The state before the first token: nothing is open but what stands for the manifest.
+pub fn nothing() -> Building
+    ensures { λ r. ⌜ ((table : List (List ℕ)) → (frames out : List ℕ) → Shows table r frames out start) ⌝ }
+{
+    Building {
+        brackets: 0,
+        depth: 0,
+        fill: 0,
+        start: 0,
+        body: 0,
+        tallest: 0,
+        last: 0,
+        height: 0,
+        late: 0,
+        word: false,
+        name: 0,
+        before: 0,
+    }
 }
 
 // ---- Round brackets
