@@ -1,0 +1,4 @@
+pub mod Spelling
+pub mod OneField
+pub mod InOrder
+pub mod Tree
