@@ -1,6 +1,6 @@
 -- One law for each way through the walk over the fields in reading order.
 use Prim.Native.Nat.{ℕ, _+_, _≤_, _<_}
-use mathlib.Core.Path.{_≡_, refl, sym, ap, _∙_}
+use mathlib.Core.Path.{_≡_, sym, _∙_}
 use mathlib.Core.Bool.{Bool, true, false}
 use mathlib.Core.List.{List}
 use lib.ListN.{length}
@@ -13,7 +13,7 @@ use Rattle.printable.specs.Reading.{printsAt, labelBehind, goneOver, gon
 
 module _ (m : List ℕ) (ss : List (List ℕ)) (p l : ℕ) where
   -- the field at p, then those from the next one on
-  pub gone-first : p < length m → goneFrom m ss p l ≡ pick (printsAt m ss l p) (goneFrom m ss (nextInOrder m p) (labelBehind m ss l p)) (stops p)
+  pub gone-first : p < length m → goneFrom m ss p l ≡ pick (printsAt m ss l p) (goneFrom m ss (nextInOrder m p) (labelBehind m l p)) (stops p)
   unfolding goneFrom goneOver
   gone-first h = rw (place-first m p (length m) h)
 
@@ -21,7 +21,7 @@ module _ (m : List ℕ) (ss : List (List ℕ)) (p l : ℕ) where
   unfolding goneFrom goneOver
   gone-end h = rw (no-places m p (length m) h)
 
-  pub goes-on : {b : Bool} {k q : ℕ} {whole : Gone} → p < length m → b ≡ printsAt m ss l p → b ≡ true → k ≡ labelBehind m ss l p → q ≡ nextInOrder m p → goneFrom m ss p l ≡ whole → goneFrom m ss q k ≡ whole
+  pub goes-on : {b : Bool} {k q : ℕ} {whole : Gone} → p < length m → b ≡ printsAt m ss l p → b ≡ true → k ≡ labelBehind m l p → q ≡ nextInOrder m p → goneFrom m ss p l ≡ whole → goneFrom m ss q k ≡ whole
   goes-on h eb t ek eq inv = rw (ek, eq) (sym (gone-first h ∙ rw (← eb, t)) ∙ inv)
 
   pub stops-here : {b : Bool} {whole : Gone} → p < length m → b ≡ printsAt m ss l p → b ≡ false → goneFrom m ss p l ≡ whole → stops p ≡ whole

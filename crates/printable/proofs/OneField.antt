@@ -2,9 +2,9 @@
 use Prim.Native.Nat.{ℕ, _+_, _*_, _≤_, _<_}
 use mathlib.Core.Path.{_≡_, refl, sym, ap, ap₂, _∙_}
 use mathlib.Core.Bool.{Bool, true, false, not, _&&_, _||_}
-use mathlib.Core.List.{List, []}
+use mathlib.Core.List.{List}
 use native.Mathlib.Omega.{arith}
-use lib.Dec.{leb, eqb}
+use lib.Dec.{leb}
 use lib.ListN.{drop}
 use lib.Seq.{getD-drop}
 use borrow.Author.Tests.{le-leb, lt-leb, eq-eqb, ne-eqb}
@@ -131,11 +131,12 @@ module _ (ss : List (List ℕ)) (m : List ℕ) (l p t : ℕ) where
   unfolding labelRight
   its-label {b} e eb = ap (leb l) (eb ∙ sym (first-byte m (p + 3))) ∙ sym (ap (λ (c : Bool). not c || leb l (byte (drop (p + 3) m) 0)) e)
 
-  pub label-kept : t ≡ byte m p → isConstant t ≡ false → l ≡ labelBehind m ss l p
+module _ (m : List ℕ) (l p t : ℕ) where
+  pub label-kept : t ≡ byte m p → isConstant t ≡ false → l ≡ labelBehind m l p
   unfolding labelBehind
   label-kept et e = sym (ap (λ (c : Bool). pick c (byte m (p + 3)) l) (ap isConstant (sym et) ∙ e))
 
-  pub label-new : {b : ℕ} → t ≡ byte m p → isConstant t ≡ true → b ≡ byte m (p + 3) → b ≡ labelBehind m ss l p
+  pub label-new : {b : ℕ} → t ≡ byte m p → isConstant t ≡ true → b ≡ byte m (p + 3) → b ≡ labelBehind m l p
   unfolding labelBehind
   label-new et e eb = eb ∙ sym (ap (λ (c : Bool). pick c (byte m (p + 3)) l) (ap isConstant (sym et) ∙ e))
 

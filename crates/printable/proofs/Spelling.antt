@@ -1,9 +1,8 @@
 -- One law for each way through the functions that test a name.
 use Prim.Native.Nat.{ℕ, zero, suc, _+_, _*_, _-_, _≤_, _<_}
 use mathlib.Core.Path.{_≡_, refl, sym, ap, _∙_}
-use mathlib.Core.Bool.{Bool, true, false, _&&_, _||_}
+use mathlib.Core.Bool.{Bool, true, false, _&&_}
 use mathlib.Core.List.{List, [], _∷_}
-use mathlib.Core.Option.{Option}
 use native.Mathlib.Omega.{arith}
 use native.Mathlib.Numerals.{add-one}
 use lib.ListN.{length, getD, drop, drop-of-length-le}
@@ -40,10 +39,6 @@ little-before w i positive low =
 
 -- ---- A name
 
-and-false : (b : Bool) → (b && false) ≡ false
-and-false true = refl
-and-false false = refl
-
 -- an empty word is none
 pub empty-no-name : (w : List ℕ) → length w ≡ 0 → false ≡ isName w
 unfolding isName
@@ -56,11 +51,7 @@ unfolding isName
 letter-first [] e h = refl
 letter-first (c ∷ w) e h = rw (← e, h)
 
--- a letter is in a word
-letter-in-word : (c : ℕ) → isLetter c ≡ true → inWord c ≡ true
-letter-in-word c h = rw h
-
--- behind its letter a name is spelled as words are
+-- a letter is in a word, so the whole name is spelled as words are
 name-from : (w : List ℕ) {b k : Bool} → 0 < length w → isLetter (getD w 0 0) ≡ true → b ≡ allInWord w → k ≡ noKeyword (keywordIn keywords w) → isName w ≡ (b && k)
 unfolding isName allInWord
 name-from [] l h e f = absurd (omega arith)

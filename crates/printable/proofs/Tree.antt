@@ -12,8 +12,7 @@ use Rattle.wire.proofs.Fields.{no-fields, field-first}
 use Rattle.rules.specs.Bytes.{pick, byte, two, endOf, fieldsIn}
 use Rattle.rules.specs.Format.{three, forms, formIn, formOf, size, headSize, isConstant}
 use Rattle.rules.specs.Check.{walk, inside, stride, nextInOrder, check}
-use Rattle.rules.specs.Fields.{Field, field, Fields, none as noFields, more, readEach, readBody, readField, readAll, others}
-use Rattle.rules.specs.Read.{manifestOf}
+use Rattle.rules.specs.Fields.{field, Fields, none as noFields, readEach, readBody, readField, readAll, others}
 use Rattle.rules.specs.Compile.{isBuiltIn}
 use Rattle.rules.specs.declared.Part.the-variants.{Over, Many}
 use Rattle.rules.specs.declared.Kind.the-variants.{Item}
@@ -23,11 +22,10 @@ use Rattle.rules.specs.declared.Rest.the-variants.{Only, Text, Fields as Inner}
 use Rattle.rules.specs.declared.Verdict.the-variants.{Sound}
 use Rattle.rules.proofs.Within.{fault-not-sound, first-field, SoundBody, inside-sound, check-sound, shape-sound}
 use Rattle.notation.proofs.Lexing.{both-true}
-use Rattle.syntax.specs.declared.Found.{Found}
 use Rattle.syntax.specs.declared.Found.the-variants.{At, Nothing}
 use Rattle.syntax.specs.Strings.{stringTexts, foundOf}
 use Rattle.syntax.proofs.StringsRead.{strings-read}
-use Rattle.notation.specs.Printer.{Gone, stops, past, going, stoppedAt, spellable, labelRight, namesSpellable, typeRight, over, overAll, unprintableAt}
+use Rattle.notation.specs.Printer.{Gone, stops, past, going, stoppedAt, labelRight, namesSpellable, typeRight, over, overAll, unprintableAt}
 use Rattle.printable.specs.Reading.{printsAt, labelBehind, goneFrom}
 use Rattle.printable.proofs.OneField.{first-byte, spelled-so}
 use Rattle.printable.proofs.InOrder.{gone-first, gone-end}
@@ -122,7 +120,7 @@ module _ (m : List ℕ) (ss : List (List ℕ)) where
       let there : (i : ℕ) → i < headSize (formOf t) → byte (slice (q + 3) e m) i ≡ byte (drop (q + 3) m) i = cut-alike m (q + 3) e (headSize (formOf t)) fit in
       let tests = tests-alike ss t (slice (q + 3) e m) (drop (q + 3) m) there l in
       let label = behind-alike ss t (slice (q + 3) e m) (drop (q + 3) m) there l ∙ ap (λ (b : ℕ). pick (isConstant t) b l) (first-byte m (q + 3)) in
-      gone-first m ss q l h ∙ choose (printsAt m ss l q) (labelBehind m ss l q) ∙ ap₂ (λ (b : Bool) (j : ℕ). going (pick b (overAll ss ks j) (stops q)) k) (sym tests) (sym label)
+      gone-first m ss q l h ∙ choose (printsAt m ss l q) (labelBehind m l q) ∙ ap₂ (λ (b : Bool) (j : ℕ). going (pick b (overAll ss ks j) (stops q)) k) (sym tests) (sym label)
     where
       choose : (b : Bool) (j : ℕ) → pick b (goneFrom m ss (nextInOrder m q) j) (stops q) ≡ going (pick b (overAll ss ks j) (stops q)) k
       choose true j = inner j

@@ -1,7 +1,7 @@
 // One field of a manifest: whether the notation can spell it.
 ghost use mathlib.Core.Path.{_≡_};
 ghost use mathlib.Core.Bool.{_&&_};
-ghost use Prim.Native.Nat.{ℕ, _+_, _≤_, _<_};
+ghost use Prim.Native.Nat.{ℕ, _+_, _<_};
 ghost use lib.ListN.{length, drop};
 ghost use Rattle.rules.specs.Format.{formOf, size};
 ghost use Rattle.rules.specs.Check.{nextInOrder};
@@ -118,10 +118,10 @@ pub fn prints_at(m: &[u8], table: &[u8], strings: u16, last: u8, p: usize) -> bo
     type_right(m, table, strings, p, tag)
 }
 
-// The label of the last constant, behind the beginning of the field at `p`.
+// The label of the last constant, where that of the one before the field at `p` is `last`.
 pub fn label_behind(m: &[u8], last: u8, p: usize) -> u8
     requires { ⌜ p < length (now m) ⌝ }
-    ensures { λ r. ⌜ r ≡ labelBehind (now (m .entry)) (stringTexts (now (m .entry))) last p ⌝ }
+    ensures { λ r. ⌜ r ≡ labelBehind (now (m .entry)) last p ⌝ }
 {
     let tag = byte_in(m, p);
     if tag < 0x10 {
