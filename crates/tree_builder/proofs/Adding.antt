@@ -15,7 +15,7 @@ use Rattle.tree_builder.specs.declared.Building.{Building}
 use Rattle.tree_builder.specs.Open.{low, Holds, openBytes, lateOpen, lateNumber}
 use Rattle.tree_builder.specs.State.{withPart}
 use Rattle.tree_builder.specs.Shows.{LastPart, LastWord, Shown, Shows, Made}
-use Rattle.tree_builder.proofs.Stores.{low-append, low-length, holds-more}
+use Rattle.tree_builder.proofs.Stores.{low-append, low-length, holds-more, kept-behind}
 use Rattle.tree_builder.proofs.Bytes.{open-more}
 use Rattle.tree_builder.proofs.Slots.{around-higher}
 use Rattle.tree_builder.proofs.Late.{late-more}
@@ -58,7 +58,7 @@ module _ (table : List (List ℕ)) (s : Building) (m out : List ℕ) where
               (holds-more (low whole) bs (s .fill) (x .bytes) put (x .fill ∙ sym (low-length whole)));
         }
 
-    pub part-added : (f : Build) {s′ : Building} → s .depth < 32 → s′ ≡ withPart s n late → Shows table s m out f → Made table (s .fill) s′ m out′ (added k f)
+    pub part-added : (f : Build) {s′ : Building} → s .depth < 32 → s′ ≡ withPart s n late → Shows table s m out f → Made table (s .fill) out s′ m out′ (added k f)
     unfolding Shows added withPart
     part-added (build b (frame p t h ks) fs) room e x =
-        record { made = build b (frame p t h (ks ▸ k)) fs; is = rw (le-leb (length fs + 1) 32 (omega (arith, x .depth))); shows = rw e (part-shown room x); grown = rw e (omega arith) }
+        record { made = build b (frame p t h (ks ▸ k)) fs; is = rw (le-leb (length fs + 1) 32 (omega (arith, x .depth))); shows = rw e (part-shown room x); grown = rw e (omega arith); behind = λ i a c. kept-behind out (s .fill) bs put i (omega (arith, ap (λ (r : Building). r .fill) e)) }

@@ -7,6 +7,7 @@ use native.Mathlib.Omega.{arith}
 use lib.ListN.{length, length-append}
 use Rattle.wire.specs.Numbers.{highBytes}
 use Rattle.wire.specs.Runs.{over}
+use Rattle.wire.proofs.Laws.{high-length}
 use Rattle.rules.specs.Fields.{wrap, write}
 use Rattle.notation.specs.Building.{Piece, Node, node, Nodes, _▸_, tallest, Frame, frame, Build, build, Action, close, act}
 use Rattle.notation.specs.Tokens.{Lexeme}
@@ -15,7 +16,7 @@ use Rattle.tree_builder.specs.declared.Building.{Building}
 use Rattle.tree_builder.specs.Open.{low, Holds, partsBytes, aroundBytes, headEnd, openBytes, lateNumber}
 use Rattle.tree_builder.specs.State.{slotIn, slotNumber, closedInto}
 use Rattle.tree_builder.specs.Shows.{Around, Slot, LastPart, Shown, Shows, Made, Ready}
-use Rattle.tree_builder.proofs.Stores.{low-append, low-length, holds-patched}
+use Rattle.tree_builder.proofs.Stores.{low-append, low-length, holds-patched, kept-behind}
 use Rattle.tree_builder.proofs.Bytes.{low-two, around-open, inner-open, open-more}
 use Rattle.tree_builder.proofs.Late.{late-closed}
 use Rattle.tree_builder.proofs.Adding.{false-not-true}
@@ -104,8 +105,8 @@ module _ (table : List (List ℕ)) (s : Building) (m out : List ℕ) where
         }
 
   pub close-made : (x : Lexeme) (f : Build) {n : ℕ} {out′ : List ℕ} {s′ : Building} → 0 < s .depth → Ready s → out′ ≡ over out (s .start + 1) (highBytes 2 ((s .fill - s .start - 3) % 65536)) → n ≡ slotIn m (s .depth - 1)
-      → s′ ≡ closedInto s n → Shows table s m out f → Made table (s .fill) s′ m out′ (act close x f)
+      → s′ ≡ closedInto s n → Shows table s m out f → Made table (s .fill) out s′ m out′ (act close x f)
   unfolding Shows act closedInto
   close-made x (build b (frame p t h ks) []) inside ready put read e a = absurd (omega (arith, a .depth))
   close-made x (build b (frame p t h ks) (frame q u g js ∷ fs)) inside ready put read e a =
-      record { made = build b (frame q u g (js ▸ node p t h ks)) fs; is = refl; shows = rw e (close-shown p t h ks q u g js fs ready put read a); grown = rw e (omega arith) }
+      record { made = build b (frame q u g (js ▸ node p t h ks)) fs; is = refl; shows = rw e (close-shown p t h ks q u g js fs ready put read a); grown = rw e (omega arith); behind = λ i low c. kept-behind out (s .start + 1) (highBytes 2 ((s .fill - s .start - 3) % 65536)) put i (omega (arith, ready .header inside, high-length 2 ((s .fill - s .start - 3) % 65536))) }

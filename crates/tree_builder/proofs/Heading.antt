@@ -18,10 +18,11 @@ use Rattle.tree_builder.specs.declared.Step.the-variants.{Did, No}
 use Rattle.tree_builder.specs.Open.{low, Holds, partsBytes, aroundBytes, opening, headEnd, openBytes, lateAround, lateOpen, lateNumber}
 use Rattle.tree_builder.specs.State.{raised, withPart}
 use Rattle.tree_builder.specs.Shows.{numberIn, LastPart, Shown, Shows, Made, Answers, Does, AName}
-use Rattle.tree_builder.proofs.Stores.{low-append, low-length, holds-inserted}
+use Rattle.tree_builder.proofs.Stores.{low-append, low-length, holds-inserted, kept-lifted}
 use Rattle.tree_builder.proofs.Bytes.{low-high, open-none}
 use Rattle.tree_builder.proofs.Slots.{around-higher}
 use Rattle.tree_builder.proofs.Late.{late-inner}
+use Rattle.tree_builder.proofs.Ready.{body-short}
 use Rattle.tree_builder.proofs.Adding.{false-not-true}
 use Rattle.tree_builder.proofs.Leaves.{name-bytes}
 
@@ -204,6 +205,7 @@ module _ (s : Building) (m out : List ℕ) (n : ℕ) {moved out′ : List ℕ} {
         made = build b (frame q t (h ++ (name (spelled (tokenOf x)) ∷ [])) ks) fs;
         is = refl;
         grown = rw e (omega arith);
+        behind = λ i low c. kept-lifted out (s .body) 2 (s .fill) (highBytes 2 n) (omega (arith, a .body, a .fill, body-short table t h ks fs)) (sym (high-length 2 n)) up put i (omega (arith, ap (λ (r : Building). r .fill) e));
         shows = rw e (name-shown table s m out (spelled (tokenOf x)) up (put ∙ ap (λ (k : ℕ). over moved (s .body) (highBytes 2 k)) is) a);
       }
 
@@ -216,6 +218,7 @@ module _ (s : Building) (m out : List ℕ) (n : ℕ) {moved out′ : List ℕ} {
           made = build b (frame q t h (inFront (leaf (placeOf x) 0x35 (name (spelled (tokenOf x)) ∷ [])) empty)) fs;
           is = rw (le-leb (length fs + 1) 32 (omega (arith, a .depth)));
           grown = rw e (omega arith);
+          behind = λ i low c. kept-lifted out (s .body) 5 (s .fill) ((0x35 ∷ highBytes 2 2) ++ highBytes 2 n) (omega (arith, a .body, a .fill, body-short table t h empty fs)) refl up put i (omega (arith, ap (λ (r : Building). r .fill) e));
           shows = rw e
               (first-shown table s m out (leaf (placeOf x) 0x35 (name (spelled (tokenOf x)) ∷ [])) ((0x35 ∷ highBytes 2 2) ++ highBytes 2 n) 5 refl (parent-plain (placeOf x) (spelled (tokenOf x)))
               (name-bytes table (placeOf x) 0x35 n (spelled (tokenOf x)) (omega arith) is) refl up put room a);
@@ -229,6 +232,7 @@ module _ (s : Building) (m out : List ℕ) (n : ℕ) {moved out′ : List ℕ} {
           made = build b (frame q t h (inFront (leaf (placeOf x) 0x35 (name (spelled (tokenOf x)) ∷ [])) (ks ▸ j))) fs;
           is = rw (le-leb (length fs + 1) 32 (omega (arith, a .depth)));
           grown = rw e (omega arith);
+          behind = λ i low c. kept-lifted out (s .body) 5 (s .fill) ((0x35 ∷ highBytes 2 2) ++ highBytes 2 n) (omega (arith, a .body, a .fill, body-short table t h (ks ▸ j) fs)) refl up put i (omega (arith, ap (λ (r : Building). r .fill) e));
           shows = rw e
               (before-shown table s m out (leaf (placeOf x) 0x35 (name (spelled (tokenOf x)) ∷ [])) ((0x35 ∷ highBytes 2 2) ++ highBytes 2 n) 5 refl (parent-plain (placeOf x) (spelled (tokenOf x)))
               (name-bytes table (placeOf x) 0x35 n (spelled (tokenOf x)) (omega arith) is) refl up put room a);

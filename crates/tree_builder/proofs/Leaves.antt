@@ -20,7 +20,7 @@ use Rattle.tree_builder.specs.declared.Step.the-variants.{Did, No}
 use Rattle.tree_builder.specs.Open.{low, lateOpen, lateNumber}
 use Rattle.tree_builder.specs.State.{withPart, lateWith}
 use Rattle.tree_builder.specs.Shows.{numberIn, LastPart, LastWord, Shown, Shows, Made, Answers, Does, AnyToken, AnInteger, ABoolean, AString, AVariable, AClassVariable}
-use Rattle.tree_builder.proofs.Stores.{low-append, low-length}
+use Rattle.tree_builder.proofs.Stores.{low-append, low-length, kept-behind}
 use Rattle.tree_builder.proofs.Bytes.{low-high, low-leaf}
 use Rattle.tree_builder.proofs.Late.{late-plain, late-constant}
 use Rattle.tree_builder.proofs.Adding.{no-room, part-shown, part-added}
@@ -154,6 +154,7 @@ module _ (s : Building) (m out : List ℕ) where
             made = build b (frame q t h (ks ▸ k)) fs;
             is = rw (le-leb (length fs + 1) 32 (omega (arith, a .depth)));
             grown = rw e (omega arith);
+            behind = λ i c d. kept-behind out (s .fill) ((0x11 ∷ highBytes 2 3 ++ (l % 256 ∷ [])) ++ highBytes 2 n) put i (omega (arith, ap (λ (r : Building). r .fill) e));
             shows = record {
               rounds = y .rounds;
               depth = y .depth;

@@ -19,7 +19,7 @@ use Rattle.tree_builder.specs.declared.Step.the-variants.{Did, No}
 use Rattle.tree_builder.specs.Open.{low, Holds, headEnd, openBytes, lateOpen, lateNumber}
 use Rattle.tree_builder.specs.State.{slotNumber, openedAt}
 use Rattle.tree_builder.specs.Shows.{numberIn, LastPart, LastWord, Shown, Shows, Made, Answers, Does, AnyToken, Ready}
-use Rattle.tree_builder.proofs.Stores.{low-append, low-length, holds-more, holds-less, holds-inserted}
+use Rattle.tree_builder.proofs.Stores.{low-append, low-length, holds-more, holds-less, holds-inserted, kept-behind, kept-lifted}
 use Rattle.tree_builder.proofs.Bytes.{head-end, open-none, open-more, low-header}
 use Rattle.tree_builder.proofs.Late.{late-begun, late-around}
 use Rattle.tree_builder.proofs.Opening.{NewField, field-shown}
@@ -75,7 +75,7 @@ module _ (table : List (List ℕ)) (s : Building) (m out : List ℕ) where
           }
 
       pub around-made : (x : Lexeme) (f : Build) {s′ : Building} → 0 < s .tallest → s .depth + s .height < 32 → s′ ≡ openedAt s (s .last) (s .last + n) (s .fill + n) (s .height) (s .late) → Shows table s m out f
-          → Made table (s .fill) s′ m′ out′ (act (around u g) x f)
+          → Made table (s .fill) out s′ m′ out′ (act (around u g) x f)
       unfolding Shows act LastPart tallest openedAt
       around-made x (build b (frame p t h empty) fs) tall shallow e a = absurd (omega (arith, a .tall))
       around-made x (build b (frame p t h (ks ▸ k)) fs) tall shallow e a =
@@ -83,6 +83,7 @@ module _ (table : List (List ℕ)) (s : Building) (m out : List ℕ) where
             made = build b (frame (placeOf x) u g (empty ▸ k)) (frame p t h ks ∷ fs);
             is = rw (le-leb (suc (length fs) + height k) 32 (omega (arith, a .depth, a .last .1)));
             grown = rw e (omega arith);
+            behind = λ i low c. kept-lifted out (s .last) n (s .fill) xs (ready .last) size up put i (omega (arith, ap (λ (r : Building). r .fill) e));
             shows = rw e (field-shown table s m out room ready save a (omega arith) (around-new shallow a));
           }
 
@@ -119,7 +120,7 @@ module _ (table : List (List ℕ)) (s : Building) (m out : List ℕ) where
             bytes = rw (ap low none ∙ low-append whole header ∙ ap (λ (l : List ℕ). low whole ++ l) lows) (holds-more (low whole) stored (s .last) held put (last ∙ sym (low-length whole)));
           }
 
-      pub instead-made : (x : Lexeme) (f : Build) {s′ : Building} → s .word ≡ true → s′ ≡ openedAt s (s .last) (s .last + 5) (s .last + 5) 0 (s .before) → Shows table s m out f → Made table (s .fill) s′ m′ out′ (act (instead u) x f)
+      pub instead-made : (x : Lexeme) (f : Build) {s′ : Building} → s .word ≡ true → s′ ≡ openedAt s (s .last) (s .last + 5) (s .last + 5) 0 (s .before) → Shows table s m out f → Made table (s .fill) out s′ m′ out′ (act (instead u) x f)
       unfolding Shows act tallest openedAt
       instead-made x (build b (frame p t h ks) fs) is e a =
           let w : LastWord table s ks fs = a .word is in
@@ -128,6 +129,7 @@ module _ (table : List (List ℕ)) (s : Building) (m out : List ℕ) where
             made = build b (frame (w .place) u (name (w .spelled) ∷ []) empty) (frame p t h (w .kept) ∷ fs);
             is = rw (w .is);
             grown = rw e (omega (arith, ready .last));
+            behind = λ i low c. kept-behind out (s .last) ((u ∷ highBytes 2 0) ++ highBytes 2 (s .name)) put i (omega (arith, ap (λ (r : Building). r .fill) e, length-append (u ∷ highBytes 2 0) (highBytes 2 (s .name)), high-length 2 0, high-length 2 (s .name)));
             shows = rw e (field-shown table s m out room ready save y (omega arith) (instead-new (w .number) (w .before) y));
           }
 

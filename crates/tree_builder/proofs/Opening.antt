@@ -8,13 +8,14 @@ use borrow.Author.Tests.{le-leb, lt-leb}
 use lib.ListN.{length, length-append}
 use Rattle.wire.specs.Numbers.{highBytes}
 use Rattle.wire.specs.Runs.{over}
+use Rattle.wire.proofs.Laws.{high-length}
 use Rattle.notation.specs.Building.{Piece, Nodes, empty, _▸_, tallest, Frame, frame, Build, build, begun}
 use Rattle.notation.specs.Convert.{labelIn, headBytes}
 use Rattle.tree_builder.specs.declared.Building.{Building}
 use Rattle.tree_builder.specs.Open.{low, Holds, aroundBytes, headEnd, openBytes, lateOpen, lateNumber}
 use Rattle.tree_builder.specs.State.{slotIn, slotNumber, openedAt}
 use Rattle.tree_builder.specs.Shows.{Around, LastPart, Shown, Shows, Made, Ready}
-use Rattle.tree_builder.proofs.Stores.{low-append, low-length, holds-more}
+use Rattle.tree_builder.proofs.Stores.{low-append, low-length, holds-more, kept-behind}
 use Rattle.tree_builder.proofs.Bytes.{low-header, around-open, head-end, inner-open, open-none}
 use Rattle.tree_builder.proofs.Slots.{slot-back, around-kept, around-higher}
 use Rattle.tree_builder.proofs.Late.{late-begun}
@@ -74,7 +75,7 @@ module _ (table : List (List ℕ)) (s : Building) (m out : List ℕ) where
 
   -- the header of a field that begins behind all others
   pub begin-made : (r u : ℕ) (f : Build) {m′ out′ : List ℕ} {s′ : Building} → u < 256 → s .depth < 32 → 256 ≤ length m → Ready s → m′ ≡ over m (8 * s .depth) (highBytes 8 (slotNumber (s .start) (s .body) (s .tallest)))
-      → out′ ≡ over out (s .fill) (u ∷ highBytes 2 0) → s′ ≡ openedAt s (s .fill) (s .fill + 3) (s .fill + 3) 0 (s .late) → Shows table s m out f → Made table (s .fill) s′ m′ out′ (begun r u f)
+      → out′ ≡ over out (s .fill) (u ∷ highBytes 2 0) → s′ ≡ openedAt s (s .fill) (s .fill + 3) (s .fill + 3) 0 (s .late) → Shows table s m out f → Made table (s .fill) out s′ m′ out′ (begun r u f)
   unfolding Shows begun LastPart tallest headBytes openedAt
   begin-made r u (build b (frame p t h ks) fs) {m′} {out′} small below room ready save put e x =
       let whole : List ℕ = openBytes table t h ks fs in
@@ -86,6 +87,7 @@ module _ (table : List (List ℕ)) (s : Building) (m out : List ℕ) where
         made = build b (frame r u [] empty) (frame p t h ks ∷ fs);
         is = rw (le-leb (length fs + 1) 32 (omega (arith, x .depth)));
         grown = rw e (omega arith);
+        behind = λ i a c. kept-behind out (s .fill) (u ∷ highBytes 2 0) put i (omega (arith, ap (λ (r : Building). r .fill) e, high-length 2 0));
         shows = rw e
             (field-shown room ready save x (omega arith)
             (record {

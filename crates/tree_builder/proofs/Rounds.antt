@@ -43,7 +43,7 @@ module _ (s : Building) (m out : List ℕ) where
   pub enter-made : s .brackets < 32 → Does AnyToken enter s m out (Did (withBrackets s (s .brackets + 1))) m out
   unfolding Does Answers act Shows
   enter-made room table (build b (frame p t h ks) fs) x u a =
-      record { made = build (suc b) (frame p t h ks) fs; is = rw (lt-ltb b 32 (omega (arith, a .rounds))); shows = bracketed table (s .brackets + 1) (omega (arith, a .rounds)) a; grown = omega arith }
+      record { made = build (suc b) (frame p t h ks) fs; is = rw (lt-ltb b 32 (omega (arith, a .rounds))); shows = bracketed table (s .brackets + 1) (omega (arith, a .rounds)) a; grown = omega arith; behind = λ i low c. refl }
 
   pub leave-refused : s .brackets ≡ 0 → Does AnyToken leave s m out No m out
   unfolding Does Answers act Shows
@@ -54,4 +54,4 @@ module _ (s : Building) (m out : List ℕ) where
   unfolding Does Answers act Shows
   leave-made some table (build zero (frame p t h ks) fs) x u a = absurd (omega (arith, a .rounds))
   leave-made some table (build (suc b) (frame p t h ks) fs) x u a =
-      record { made = build b (frame p t h ks) fs; is = refl; shows = bracketed table (s .brackets - 1) (omega (arith, a .rounds)) a; grown = omega arith }
+      record { made = build b (frame p t h ks) fs; is = refl; shows = bracketed table (s .brackets - 1) (omega (arith, a .rounds)) a; grown = omega arith; behind = λ i low c. refl }

@@ -2,7 +2,7 @@
 use mathlib.Core.Path.{_≡_, refl, sym, ap, _∙_}
 use mathlib.Core.Bool.{Bool, true, false}
 use mathlib.Core.List.{List, [], _∷_, _++_, append-assoc}
-use Prim.Native.Nat.{ℕ, zero, suc, _+_, _≤_, _<_, _%_}
+use Prim.Native.Nat.{ℕ, zero, suc, _+_, _-_, _≤_, _<_, _%_}
 use native.Mathlib.Nat.{add-zero}
 use native.Mathlib.Omega.{arith}
 use borrow.Author.Tests.{ltb-true, ltb-false}
@@ -11,7 +11,7 @@ use lib.ListN.{length, set, length-set, length-append}
 use lib.Seq.{set-comm, set-out, set-set}
 use Rattle.wire.specs.Bytes.{byte}
 use Rattle.wire.specs.Runs.{bytesAt, over}
-use Rattle.wire.proofs.Laws.{over-join, over-length, byte-inside, then-store}
+use Rattle.wire.proofs.Laws.{over-join, over-length, run-length, byte-inside, byte-outside, then-store}
 use Rattle.tree_builder.specs.Open.{low, Holds}
 
 -- ---- Bytes as a slice holds them
@@ -104,3 +104,12 @@ holds-inserted {out} {moved} {out′} xs ys rest p q h up put at gap =
     let whole : out′ ≡ over out p (ys ++ rest) =
     put ∙ ap (λ (l : List ℕ). over l p ys) (up ∙ read) ∙ sym (over-swap out p ys q rest (omega arith)) ∙ ap (λ (k : ℕ). over (over out p ys) k rest) gap ∙ over-join out p ys rest in
     holds-more xs (ys ++ rest) p (holds-less xs rest h) whole at
+
+-- behind a store all is as it was
+pub kept-behind : (out : List ℕ) {out′ : List ℕ} (p : ℕ) (bs : List ℕ) → out′ ≡ over out p bs → (i : ℕ) → p + length bs ≤ i → byte out′ i ≡ byte out i
+kept-behind out p bs put i far = ap (λ (l : List ℕ). byte l i) put ∙ byte-outside out p bs i (λ a b. omega arith)
+
+-- behind a run moved up by as many bytes as are put before it
+pub kept-lifted : (out : List ℕ) {moved out′ : List ℕ} (p n fill : ℕ) (bs : List ℕ) → p ≤ fill → n ≡ length bs → moved ≡ over out (p + n) (bytesAt out p (fill - p)) → out′ ≡ over moved p bs → (i : ℕ) → fill + n ≤ i → byte out′ i ≡ byte out i
+kept-lifted out {moved} p n fill bs low size up put i far =
+    kept-behind moved p bs put i (omega arith) ∙ kept-behind out (p + n) (bytesAt out p (fill - p)) up i (omega (arith, run-length out p (fill - p)))

@@ -6,6 +6,7 @@ use mathlib.Core.Option.{Option, none, some}
 use mathlib.Core.Bool.{true, false}
 use lib.IntN.{ℤ}
 use lib.ListN.{length}
+use Rattle.wire.specs.Bytes.{byte as at}
 use Rattle.rules.specs.Compile.{stringNumber}
 use Rattle.notation.specs.Building.{Piece, byte, name, Nodes, empty, _▸_, leaf, height, tallest, Frame, frame, Build, build, Action, act, constantNode, variableNode, spelled}
 use Rattle.notation.specs.Tokens.{Lexeme, lexeme, number, tokenOf}
@@ -69,21 +70,22 @@ module _ (table : List (List ℕ)) where
     unfoldable pub Shows : (frames out : List ℕ) → Build → Type 0
     Shows m out (build b (frame p t h ks) fs) = Shown m out b t h ks fs
 
-  -- what was to come of an action came, and is shown; the output is filled by a few bytes more
-  pub record Made (filled : ℕ) (s : Building) (frames out : List ℕ) (wanted : Option Build) : Type 0 where
+  -- what was to come of an action came, and is shown; of an output that was filled so far, a few bytes more are filled, and those behind are as they were
+  pub record Made (filled : ℕ) (given : List ℕ) (s : Building) (frames out : List ℕ) (wanted : Option Build) : Type 0 where
     pub made : Build
     pub is : wanted ≡ some made
     pub shows : Shows s frames out made
     pub grown : s .fill ≤ filled + 12
+    pub behind : (i : ℕ) → filled ≤ i → s .fill ≤ i → at out i ≡ at given i
 
   -- the answer is no exactly where nothing comes of the action
-  unfoldable pub Answers : (filled : ℕ) → Step → (frames out : List ℕ) → (wanted : Option Build) → Type 0
-  Answers n No m out o = o ≡ none
-  Answers n (Did s) m out o = Made n s m out o
+  unfoldable pub Answers : (filled : ℕ) → (given : List ℕ) → Step → (frames out : List ℕ) → (wanted : Option Build) → Type 0
+  Answers n given No m out o = o ≡ none
+  Answers n given (Did s) m out o = Made n given s m out o
 
 -- an action at any token of which P holds: from whatever tree the state, the slots and the output stand for, to what the answer says
 unfoldable pub Does : (P : (table : List (List ℕ)) → Lexeme → Type 0) → Action → Building → (frames out : List ℕ) → Step → (frames′ out′ : List ℕ) → Type 0
-Does P a s m out r m′ out′ = (table : List (List ℕ)) (f : Build) (x : Lexeme) → P table x → Shows table s m out f → Answers table (s .fill) r m′ out′ (act a x f)
+Does P a s m out r m′ out′ = (table : List (List ℕ)) (f : Build) (x : Lexeme) → P table x → Shows table s m out f → Answers table (s .fill) out r m′ out′ (act a x f)
 
 abbrev pub AnyToken : List (List ℕ) → Lexeme → Type 0
 AnyToken table x = Unit {0}

@@ -1,10 +1,10 @@
-// The tree of a text, built as a manifest's bytes in a lent output. A byte past the output's end is not written, and nothing else changes.
+// The tree of a text, built as a manifest's bytes in a lent output: a function for each action of the grammar. A byte past the output's end is
+// not written, and nothing else changes: with no output at all the same calls find a text's faults and its manifest's size.
 ghost use mathlib.Core.Path.{_≡_};
 ghost use mathlib.Core.List.{List, [], _∷_, _++_};
-ghost use mathlib.Core.Bool.{_&&_, true};
+ghost use mathlib.Core.Bool.{true};
 ghost use Prim.Native.Nat.{ℕ, _+_, _-_, _*_, _%_, _≤_, _<_, max};
 ghost use lib.ListN.{length};
-ghost use lib.Dec.{ltb, eqb};
 ghost use Rattle.wire.specs.Numbers.{highBytes, word64};
 ghost use Rattle.wire.specs.Runs.{bytesAt, over};
 ghost use Rattle.notation.specs.Building.{start, begin as beginAction, close as closeAction, constant as constantAction, named as namedAction, parentFirst as parentAction, around as aroundAction, instead as insteadAction, byte, read as readAction, enter as enterAction, leave as leaveAction, void as voidAction};
@@ -14,18 +14,18 @@ ghost use Rattle.tree_builder.specs.Shows.{Shows, Does, AnyToken, AnInte
 
 // The field being read, what is open around it, and how far the output is filled.
 pub struct Building {
-    pub brackets: usize,
-    pub depth: usize,
+    pub brackets: usize, // round brackets that are open
+    pub depth: usize, // fields around
     pub fill: usize,
-    pub start: usize,
-    pub body: usize,
-    pub tallest: usize,
-    pub last: usize,
-    pub height: usize,
-    pub late: usize,
-    pub word: bool,
-    pub name: u16,
-    pub before: usize,
+    pub start: usize, // where the field being read starts
+    pub body: usize, // where its parts do
+    pub tallest: usize, // how tall they are; 0 where there is none
+    pub last: usize, // where the last part starts
+    pub height: usize, // and its height
+    pub late: usize, // the place + 1 of the first constant on a line past 255, or 0
+    pub word: bool, // the last part is a string constant just read:
+    pub name: u16, // its name
+    pub before: usize, // and what `late` was before it
 }
 
 // What an action answers: the new state, or that it passes a limit.
