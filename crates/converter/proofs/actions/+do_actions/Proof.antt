@@ -1,0 +1,135 @@
+-- `do_actions`: none is left, the first one stops, or the others follow it.
+use native.Mathlib.Omega.{arith}
+use Rattle.converter.proofs.Sequence.{none-done, first-stopped, then-others, able-first, stands-next}
+use Prim.Native.Nat.{ℕ, _<_}
+use borrow.Author.Needs.{needs}
+use borrow.Fn.Kinds.{In}
+use borrow.Fn.PlainCycle.{Measures, is, falls, and}
+use Rattle.converter.proofs.actions.do_actions.Reads as do-actions
+use Rattle.converter.proofs.actions.do_actions.Kinds as do-actions-kinds
+use Rattle.converter.proofs.actions.+do_actions.Lts-do_actions as do-actions-lts
+use Rattle.converter.proofs.actions.do_action.Reads as do-action-reads
+use Rattle.converter.proofs.actions.+do_actions.{statement}
+use Rattle.converter.proofs.actions.+do_actions.Tie.{close}
+
+abbrev μ-do-actions : Measures 2 do-actions-kinds.ps ℕ
+μ-do-actions κs a = a .1 .1 .1 .0
+
+abbrev do-actions-at : ℕ → In 2 do-actions-kinds.ps
+do-actions-at t =
+    and 2 do-actions-kinds.ps (is 2 do-actions-kinds.ps μ-do-actions t) do-actions.Pre
+
+abbrev do-actions-below : ℕ → In 2 do-actions-kinds.ps
+do-actions-below t =
+    and 2 do-actions-kinds.ps (falls 2 do-actions-kinds.ps _<_ μ-do-actions t) do-actions.Pre
+
+do-actions-returns : (t : ℕ) → do-actions-lts.Need-returns (
+  do-action-reads.Asked,
+  do-action-reads.Learnt,
+  do-actions-below t,
+  do-actions.Post,
+) (do-actions-at t) do-actions.Post
+do-actions-returns t c = none-done _ _ _ _ _ _ (c .if1 .taken)
+
+do-actions-do-action-requires : (t : ℕ) → do-actions-lts.Need-do-action-requires (
+  do-action-reads.Asked,
+  do-action-reads.Learnt,
+  do-actions-below t,
+  do-actions.Post,
+) (do-actions-at t) do-actions.Post
+do-actions-do-action-requires t c κs = (able-first _ _ _ _ _ _ (c .before .before .if1 .left) (omega arith) (c .before .before .before .before .before .pre .1), omega arith)
+
+do-actions-enum-known-next : (t : ℕ) → do-actions-lts.Need-enum-known-next (
+  do-action-reads.Asked,
+  do-action-reads.Learnt,
+  do-actions-below t,
+  do-actions.Post,
+) (do-actions-at t) do-actions.Post
+do-actions-enum-known-next t c = search needs
+
+do-actions-do-actions-requires : (t : ℕ) → do-actions-lts.Need-do-actions-requires (
+  do-action-reads.Asked,
+  do-action-reads.Learnt,
+  do-actions-below t,
+  do-actions.Post,
+) (do-actions-at t) do-actions.Post
+do-actions-do-actions-requires t c κs =
+    let p = c .before .before .before .before .before .before .before .before .before .before .before .before .before .before .before .pre in
+    (omega (arith, p .0, c .before .before .before .before .before .before .before .before .before .before .before .before .if1 .left), stands-next _ _ _ _ _ _ (c .before .before .before .before .before .before .before .before .before .before .before .before .if1 .left) (omega arith) (p .1) _ _ _ _ (c .before .before .before .next .given .1) (c .before .before .before .before .before .before .before .before .before .do-action .ensures) (search needs))
+
+do-actions-enum-told : (t : ℕ) → do-actions-lts.Need-enum-told (
+  do-action-reads.Asked,
+  do-action-reads.Learnt,
+  do-actions-below t,
+  do-actions.Post,
+) (do-actions-at t) do-actions.Post
+do-actions-enum-told t c = search needs
+
+do-actions-same-length : (t : ℕ) → do-actions-lts.Need-same-length (
+  do-action-reads.Asked,
+  do-action-reads.Learnt,
+  do-actions-below t,
+  do-actions.Post,
+) (do-actions-at t) do-actions.Post
+do-actions-same-length t c = search needs
+
+do-actions-same-length-2 : (t : ℕ) → do-actions-lts.Need-same-length-2 (
+  do-action-reads.Asked,
+  do-action-reads.Learnt,
+  do-actions-below t,
+  do-actions.Post,
+) (do-actions-at t) do-actions.Post
+do-actions-same-length-2 t c = search needs
+
+do-actions-returns-2 : (t : ℕ) → do-actions-lts.Need-returns-2 (
+  do-action-reads.Asked,
+  do-action-reads.Learnt,
+  do-actions-below t,
+  do-actions.Post,
+) (do-actions-at t) do-actions.Post
+do-actions-returns-2 t c = then-others _ _ _ _ _ _ (c .before .before .before .before .before .before .before .before .before .before .before .before .before .before .before .before .before .if1 .left) (omega arith) _ _ _ _ _ _ _ (c .before .before .before .before .before .before .before .before .next .given .1) (c .before .before .before .before .before .before .before .before .before .before .before .before .before .before .do-action .ensures) (c .before .before .before .before .do-actions .ensures)
+
+do-actions-same-length-3 : (t : ℕ) → do-actions-lts.Need-same-length-3 (
+  do-action-reads.Asked,
+  do-action-reads.Learnt,
+  do-actions-below t,
+  do-actions.Post,
+) (do-actions-at t) do-actions.Post
+do-actions-same-length-3 t c = search needs
+
+do-actions-same-length-4 : (t : ℕ) → do-actions-lts.Need-same-length-4 (
+  do-action-reads.Asked,
+  do-action-reads.Learnt,
+  do-actions-below t,
+  do-actions.Post,
+) (do-actions-at t) do-actions.Post
+do-actions-same-length-4 t c = search needs
+
+do-actions-returns-3 : (t : ℕ) → do-actions-lts.Need-returns-3 (
+  do-action-reads.Asked,
+  do-action-reads.Learnt,
+  do-actions-below t,
+  do-actions.Post,
+) (do-actions-at t) do-actions.Post
+do-actions-returns-3 t c = first-stopped _ _ _ _ _ _ (c .before .before .before .before .before .before .before .before .before .if1 .left) (omega arith) _ _ _ (c .enum-told .given .1) (c .before .before .before .before .before .before .do-action .ensures)
+
+pub +do-actions-spec : {M : Type 1} → statement M
++do-actions-spec = close μ-do-actions λ t. do-actions-lts.spec (
+  do-action-reads.Asked,
+  do-action-reads.Learnt,
+  do-actions-below t,
+  do-actions.Post,
+)
+    (do-actions-at t)
+    do-actions.Post
+    (do-actions-returns t)
+    (do-actions-do-action-requires t)
+    (do-actions-enum-known-next t)
+    (do-actions-do-actions-requires t)
+    (do-actions-enum-told t)
+    (do-actions-same-length t)
+    (do-actions-same-length-2 t)
+    (do-actions-returns-2 t)
+    (do-actions-same-length-3 t)
+    (do-actions-same-length-4 t)
+    (do-actions-returns-3 t)

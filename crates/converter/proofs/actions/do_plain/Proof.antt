@@ -1,0 +1,166 @@
+-- `do_plain`: each code.
+use mathlib.Core.Path.{refl}
+use mathlib.Core.List.{[]}
+use Rattle.notation.specs.Building.{Action, beginResource, around, instead, close, constant, read, named, parentFirst, enter as enterAction, leave as leaveAction}
+use Rattle.parse_table.specs.Codes.{actionOf}
+use Rattle.tree_builder.proofs.Whole.{resource-begins}
+use Rattle.converter.specs.Doing.{Suits}
+use Rattle.converter.proofs.Doing.{by-code, by-known, code-close}
+use borrow.Author.Needs.{needs}
+use Rattle.converter.proofs.actions.do_plain.Statement.{statement}
+use Rattle.converter.proofs.actions.do_plain.Tie as tie
+use Rattle.converter.proofs.actions.do_plain.Reads as reads
+use Rattle.converter.proofs.actions.do_plain.Lts as lts
+use Rattle.converter.proofs.actions.add_constant.Reads as add-constant-reads
+use Rattle.converter.proofs.actions.add_variable.Reads as add-variable-reads
+use Rattle.tree_builder.proofs.add_name.Reads as add-name-reads
+use Rattle.tree_builder.proofs.around.Reads as around-reads
+use Rattle.tree_builder.proofs.begin.Reads as begin-reads
+use Rattle.tree_builder.proofs.close.Reads as close-reads
+use Rattle.tree_builder.proofs.enter.Reads as enter-reads
+use Rattle.tree_builder.proofs.instead.Reads as instead-reads
+use Rattle.tree_builder.proofs.leave.Reads as leave-reads
+use Rattle.tree_builder.proofs.parent_first.Reads as parent-first-reads
+
+add-constant-requires : tie.Need-add-constant-requires
+add-constant-requires c κs = search needs
+
+add-variable-requires : tie.Need-add-variable-requires
+add-variable-requires c κs = search needs
+
+add-name-requires : tie.Need-add-name-requires
+add-name-requires c κs = search needs
+
+parent-first-requires : tie.Need-parent-first-requires
+parent-first-requires c κs = search needs
+
+enter-requires : tie.Need-enter-requires
+enter-requires c κs = search needs
+
+leave-requires : tie.Need-leave-requires
+leave-requires c κs = search needs
+
+begin-requires : tie.Need-begin-requires
+begin-requires c κs = search needs
+
+instead-requires : tie.Need-instead-requires
+instead-requires c κs = let p = c .before .before .before .before .before .pre .0 in (p .word (c .before .before .match .keys8), p .slots, p .ready)
+
+around-requires : tie.Need-around-requires
+around-requires c κs = search needs
+
+close-requires : tie.Need-close-requires
+close-requires c κs = search needs
+
+same-length : tie.Need-same-length
+same-length c = search needs
+
+returns : tie.Need-returns
+unfolding Suits actionOf
+returns c = by-known _ _ _ _ _ _ _ _ _ 2 constant (c .before .before .before .before .match .keys1) refl (c .before .before .add-constant .ensures .0 _)
+
+same-length-2 : tie.Need-same-length-2
+same-length-2 c = search needs
+
+returns-2 : tie.Need-returns-2
+unfolding Suits actionOf
+returns-2 c = by-known _ _ _ _ _ _ _ _ _ 3 read (c .before .before .before .before .match .keys2) refl (c .before .before .add-variable .ensures _)
+
+same-length-3 : tie.Need-same-length-3
+same-length-3 c = search needs
+
+returns-3 : tie.Need-returns-3
+unfolding Suits actionOf
+returns-3 c = by-known _ _ _ _ _ _ _ _ _ 4 named (c .before .before .before .before .match .keys3) refl (c .before .before .add-name .ensures _)
+
+same-length-4 : tie.Need-same-length-4
+same-length-4 c = search needs
+
+returns-4 : tie.Need-returns-4
+unfolding Suits actionOf
+returns-4 c = by-known _ _ _ _ _ _ _ _ _ 5 parentFirst (c .before .before .before .before .match .keys4) refl (c .before .before .parent-first .ensures _)
+
+returns-5 : tie.Need-returns-5
+unfolding Suits actionOf
+returns-5 c = by-known _ _ _ _ _ _ _ _ _ 6 enterAction (c .before .match .keys5) refl (c .enter .ensures _ _)
+
+returns-6 : tie.Need-returns-6
+unfolding Suits actionOf
+returns-6 c = by-known _ _ _ _ _ _ _ _ _ 7 leaveAction (c .before .match .keys6) refl (c .leave .ensures _ _)
+
+same-length-5 : tie.Need-same-length-5
+same-length-5 c = search needs
+
+same-length-6 : tie.Need-same-length-6
+same-length-6 c = search needs
+
+returns-7 : tie.Need-returns-7
+unfolding Suits actionOf
+returns-7 c = by-known _ _ _ _ _ _ _ _ _ 8 beginResource (c .before .before .before .before .before .before .before .match .keys7) refl (resource-begins _ _ _ _ _ _ _ (c .before .before .before .before .begin .ensures))
+
+same-length-7 : tie.Need-same-length-7
+same-length-7 c = search needs
+
+same-length-8 : tie.Need-same-length-8
+same-length-8 c = search needs
+
+returns-8 : tie.Need-returns-8
+unfolding Suits actionOf
+returns-8 c = by-known _ _ _ _ _ _ _ _ _ 9 (instead 0x18) (c .before .before .before .before .before .before .before .match .keys8) refl (c .before .before .before .before .instead .ensures)
+
+same-length-9 : tie.Need-same-length-9
+same-length-9 c = search needs
+
+same-length-10 : tie.Need-same-length-10
+same-length-10 c = search needs
+
+returns-9 : tie.Need-returns-9
+unfolding Suits actionOf
+returns-9 c = by-known _ _ _ _ _ _ _ _ _ 10 (around 0x19 []) (c .before .before .before .before .before .before .before .match .keys9) refl (c .before .before .before .before .around .ensures)
+
+same-length-11 : tie.Need-same-length-11
+same-length-11 c = search needs
+
+same-length-12 : tie.Need-same-length-12
+same-length-12 c = search needs
+
+returns-10 : tie.Need-returns-10
+unfolding Suits
+returns-10 c = by-code _ _ _ _ _ _ _ _ _ close (code-close _ (c .before .before .before .before .before .before .before .before .pre .1) (c .before .before .before .before .before .match .rest)) (c .before .before .close .ensures)
+
+pub do-plain-spec : {M : Type 1} → statement M
+do-plain-spec =
+    tie.close
+    (tie.spec
+    add-constant-requires
+    add-variable-requires
+    add-name-requires
+    parent-first-requires
+    enter-requires
+    leave-requires
+    begin-requires
+    instead-requires
+    around-requires
+    close-requires
+    same-length
+    returns
+    same-length-2
+    returns-2
+    same-length-3
+    returns-3
+    same-length-4
+    returns-4
+    returns-5
+    returns-6
+    same-length-5
+    same-length-6
+    returns-7
+    same-length-7
+    same-length-8
+    returns-8
+    same-length-9
+    same-length-10
+    returns-9
+    same-length-11
+    same-length-12
+    returns-10)

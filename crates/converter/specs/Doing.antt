@@ -1,0 +1,109 @@
+-- What the code must know of a token, so that what it does at the token is what the grammar's action does.
+use Prim.Native.Nat.{ℕ, _+_, _/_, _%_, _≤_}
+use mathlib.Core.Bool.{Bool, true, false, not, _&&_}
+use mathlib.Core.Option.{Option, none, some}
+use lib.ListN.{length}
+use mathlib.Core.Path.{_≡_}
+use mathlib.Core.List.{List, [], _∷_}
+use Rattle.lexer.specs.declared.Token.{Token}
+use Rattle.notation.specs.Tokens.{Lexeme, tokenOf, aNumber, aVariable, trueWord, falseWord}
+use Rattle.notation.specs.Building.{Build, acts, Action, begin, beginResource, around, instead, close, constant, read, named, parentFirst, void, enter, leave, spelled, resourceTag}
+use Rattle.tree_builder.specs.Shows.{AnInteger, ABoolean, AString, AVariable, AClassVariable, AName, Shows, Ready}
+use Rattle.tree_builder.specs.declared.Step.{Step}
+use Rattle.tree_builder.specs.declared.Step.the-variants.{Did, No}
+use Rattle.parse_table.specs.Codes.{actionsIn}
+use Rattle.tree_builder.specs.declared.Building.{Building}
+use Rattle.converter.specs.declared.actions.Names.{Names}
+
+module _ (r : Token) where
+  -- x is the constant r, and a string has the number n
+  pub record ConstantAt (n : ℕ) (table : List (List ℕ)) (x : Lexeme) : Type 0 where
+    pub integer : r .kind ≡ aNumber → AnInteger (r .line) (r .start) (r .value) table x
+    pub true-word : r .kind ≡ trueWord → ABoolean (r .line) (r .start) 1 table x
+    pub false-word : r .kind ≡ falseWord → ABoolean (r .line) (r .start) 0 table x
+    pub string : (r .kind ≡ aNumber → ⊥) → (r .kind ≡ trueWord → ⊥) → (r .kind ≡ falseWord → ⊥) → AString (r .line) (r .start) n table x
+
+  -- x is the variable r, whose names have these numbers
+  pub record VariableAt (ns : Names) (table : List (List ℕ)) (x : Lexeme) : Type 0 where
+    pub plain : r .kind ≡ aVariable → AVariable 0x13 (ns .name) table x
+    pub top : (r .kind ≡ aVariable → ⊥) → r .«class_end» ≡ 0 → AVariable 0x14 (ns .name) table x
+    pub qualified : (r .kind ≡ aVariable → ⊥) → (r .«class_end» ≡ 0 → ⊥) → AClassVariable (ns .class) (ns .name) table x
+
+  -- x is r, as far as an action looks at it
+  unfoldable pub Suits : Action → Names → List (List ℕ) → Lexeme → Type 0
+  Suits (begin t) ns table x = Unit {0}
+  Suits beginResource ns table x = ns .resource ≡ resourceTag (spelled (tokenOf x))
+  Suits (around t h) ns table x = Unit {0}
+  Suits (instead t) ns table x = Unit {0}
+  Suits close ns table x = Unit {0}
+  Suits constant ns table x = ConstantAt (ns .name) table x
+  Suits read ns table x = VariableAt ns table x
+  Suits named ns table x = AName (ns .name) table x
+  Suits parentFirst ns table x = AName (ns .name) table x
+  Suits (void t) ns table x = Unit {0}
+  Suits enter ns table x = Unit {0}
+  Suits leave ns table x = Unit {0}
+
+-- what an action asks for: room for the slots, a state in range, and where a name comes in the place of a string constant, that one was just read
+pub record Able (frames : List ℕ) (s : Building) (action : ℕ) (r : Token) : Type 0 where
+  pub slots : 256 ≤ length frames
+  pub ready : Ready s
+  pub place : r .start ≤ 1048576
+  pub word : action ≡ 9 → s .word ≡ true
+
+-- x is r, as far as some actions look at it
+unfoldable pub SuitsAll : Token → Names → List Action → List (List ℕ) → Lexeme → Type 0
+SuitsAll r ns [] table x = Unit {0}
+SuitsAll r ns (a ∷ ds) table x = Suits r a ns table x × SuitsAll r ns ds table x
+
+-- how far some actions fill the output at most
+abbrev pub filled : ℕ → List Action → ℕ
+filled n [] = n
+filled n (a ∷ ds) = filled (n + 12) ds
+
+-- the answer is no exactly where nothing comes of the actions
+pub record AllMade (table : List (List ℕ)) (most : ℕ) (s : Building) (frames out : List ℕ) (wanted : Option Build) : Type 0 where
+  pub made : Build
+  pub is : wanted ≡ some made
+  pub shows : Shows table s frames out made
+  pub grown : s .fill ≤ most
+
+unfoldable pub AllAnswered : (table : List (List ℕ)) → (most : ℕ) → Step → (frames out : List ℕ) → (wanted : Option Build) → Type 0
+AllAnswered table n No m out o = o ≡ none
+AllAnswered table n (Did s) m out o = AllMade table n s m out o
+
+-- whether an action puts a name in the place of a string constant, and that none of some does
+abbrev pub isInstead : Action → Bool
+isInstead (begin t) = false
+isInstead beginResource = false
+isInstead (around t h) = false
+isInstead (instead t) = true
+isInstead close = false
+isInstead constant = false
+isInstead read = false
+isInstead named = false
+isInstead parentFirst = false
+isInstead (void t) = false
+isInstead enter = false
+isInstead leave = false
+
+abbrev pub noInstead : List Action → Bool
+noInstead [] = true
+noInstead (a ∷ ds) = not (isInstead a) && noInstead ds
+
+-- some actions at any token that is r: what the answer says
+unfoldable pub DoesAll : Token → Names → List Action → Building → (frames out : List ℕ) → Step → (frames′ out′ : List ℕ) → Type 0
+DoesAll r ns ds s m out a m′ out′ = (table : List (List ℕ)) (f : Build) (x : Lexeme) → SuitsAll r ns ds table x → Shows table s m out f → AllAnswered table (filled (s .fill) ds) a m′ out′ (acts ds x f)
+
+-- what some actions ask for: the state stands for a tree, and the token for x; a name comes in the place of a constant only where one was just read
+pub record Stands (frames out : List ℕ) (s : Building) (actions : ℕ) (r : Token) (ns : Names) : Type 0 where
+  pub table : List (List ℕ)
+  pub tree : Build
+  pub token : Lexeme
+  pub shows : Shows table s frames out tree
+  pub suits : SuitsAll r ns (actionsIn actions) table token
+  pub slots : 256 ≤ length frames
+  pub low : filled (s .fill) (actionsIn actions) ≤ 1048576
+  pub place : r .start ≤ 1048576
+  pub word : actions % 256 ≡ 9 → s .word ≡ true
+  pub once : noInstead (actionsIn (actions / 256)) ≡ true

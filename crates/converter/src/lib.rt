@@ -1,0 +1,2 @@
+// The converter: from a text in the notation to a manifest.
+pub mod actions; // actions.rt: the grammar's actions, done to the tree
