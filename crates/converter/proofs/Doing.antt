@@ -16,17 +16,32 @@ use Rattle.notation.specs.Building.{byte, Action, begin, beginResource, around,
 use Rattle.parse_table.specs.Codes.{orElse, actionOf}
 use Rattle.tree_builder.specs.declared.Building.{Building}
 use Rattle.tree_builder.specs.declared.Step.{Step}
-use Rattle.tree_builder.specs.Shows.{Does}
+use Rattle.tree_builder.specs.Shows.{Does, IsWord}
 use Rattle.converter.specs.declared.actions.Names.{Names}
-use Rattle.converter.specs.Doing.{Suits}
+use Rattle.rules.proofs.Within.{false-not-true}
+use Rattle.converter.specs.Doing.{ConstantAt, Suits, isConstant, WordRead}
 
--- the action that a code stands for
-pub by-code : (t : Token) (ns : Names) (s : Building) (m out : List ℕ) (r : Step) (m′ out′ : List ℕ) (n : ℕ) (a : Action) → actionOf n ≡ a → Does (Suits t a ns) a s m out r m′ out′ → Does (Suits t (actionOf n) ns) (actionOf n) s m out r m′ out′
-by-code t ns s m out r m′ out′ n a e does = subst (λ (b : Action). Does (Suits t b ns) b s m out r m′ out′) (sym e) does
+-- what is done by a code that stands for an action
+abbrev pub DoneBy : (t : Token) (ns : Names) (s : Building) (m out : List ℕ) (r : Step) (m′ out′ : List ℕ) → Action → Type 0
+DoneBy t ns s m out r m′ out′ a = Does (Suits t a ns) a s m out r m′ out′ × WordRead a t r
 
--- a code that is known
-pub by-known : (t : Token) (ns : Names) (s : Building) (m out : List ℕ) (r : Step) (m′ out′ : List ℕ) (n k : ℕ) (a : Action) → n ≡ k → actionOf k ≡ a → Does (Suits t a ns) a s m out r m′ out′ → Does (Suits t (actionOf n) ns) (actionOf n) s m out r m′ out′
-by-known t ns s m out r m′ out′ n k a i e does = by-code t ns s m out r m′ out′ n a (ap actionOf i ∙ e) does
+module _ (t : Token) (ns : Names) (s : Building) (m out : List ℕ) (r : Step) (m′ out′ : List ℕ) (n : ℕ) (a : Action) (e : actionOf n ≡ a) where
+  pub by-code : DoneBy t ns s m out r m′ out′ a → DoneBy t ns s m out r m′ out′ (actionOf n)
+  by-code done = subst (DoneBy t ns s m out r m′ out′) (sym e) done
+
+  -- an action that reads no constant
+  pub by-other : isConstant a ≡ false → Does (Suits t a ns) a s m out r m′ out′ → DoneBy t ns s m out r m′ out′ (actionOf n)
+  unfolding WordRead
+  by-other other does = by-code (does, λ one k. false-not-true (sym other ∙ one))
+
+-- the same by a code that is known
+pub by-known : (t : Token) (ns : Names) (s : Building) (m out : List ℕ) (r : Step) (m′ out′ : List ℕ) (n k : ℕ) (a : Action) → n ≡ k → actionOf k ≡ a → isConstant a ≡ false → Does (Suits t a ns) a s m out r m′ out′ → DoneBy t ns s m out r m′ out′ (actionOf n)
+by-known t ns s m out r m′ out′ n k a i e other does = by-other t ns s m out r m′ out′ n a (ap actionOf i ∙ e) other does
+
+-- the action that reads one
+pub by-constant : (t : Token) (ns : Names) (s : Building) (m out : List ℕ) (r : Step) (m′ out′ : List ℕ) (n : ℕ) → n ≡ 2 → Does (ConstantAt t (ns .name)) constant s m out r m′ out′ → (t .kind ≡ 0 → IsWord r) → DoneBy t ns s m out r m′ out′ (actionOf n)
+unfolding Suits WordRead
+by-constant t ns s m out r m′ out′ n e does word = let two : actionOf 2 ≡ constant = unfold actionOf in refl in by-code t ns s m out r m′ out′ n constant (ap actionOf e ∙ two) (does, λ one k. word k)
 
 -- the codes of operations, of empty fields, of fields that begin
 pub code-around : (n : ℕ) → 0x80 ≤ n → actionOf n ≡ around 0x16 (byte (n - 0x80) ∷ [])

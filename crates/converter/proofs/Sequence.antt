@@ -18,10 +18,10 @@ use Rattle.parse_table.proofs.Answers.{first-action, no-action}
 use Rattle.tree_builder.specs.declared.Building.{Building}
 use Rattle.tree_builder.specs.declared.Step.{Step}
 use Rattle.tree_builder.specs.declared.Step.the-variants.{Did, No}
-use Rattle.tree_builder.specs.Shows.{Shows, Made, Answers, Does, Ready}
+use Rattle.tree_builder.specs.Shows.{Shows, Made, Answers, Does, IsWord, Ready}
 use Rattle.tree_builder.proofs.Ready.{ready}
 use Rattle.converter.specs.declared.actions.Names.{Names}
-use Rattle.converter.specs.Doing.{Suits, SuitsAll, Able, filled, AllMade, AllAnswered, isInstead, noInstead, DoesAll, Stands}
+use Rattle.converter.specs.Doing.{Suits, SuitsAll, Able, filled, AllMade, AllAnswered, isInstead, noInstead, WordRead, onlyConstant, noAction, WordsRead, DoesAll, Stands}
 
 -- from a lower fill
 filled-more : (ds : List Action) (a b : ℕ) → a ≤ b → filled a ds ≤ filled b ds
@@ -58,6 +58,33 @@ no-other k l none-of = go (eqb k 0) refl
     go false e =
         let parts : (not (isInstead (actionOf (k % 256))) && noInstead (actionsIn (k / 256))) ≡ true = sym (ap noInstead (first-action k l (eqb-false k 0 e))) ∙ none-of in
         (λ nine. not-both (isInstead (actionOf (k % 256))) (noInstead (actionsIn (k / 256))) (nine-instead (k % 256) nine) parts, both-right (not (isInstead (actionOf (k % 256)))) (noInstead (actionsIn (k / 256))) parts)
+
+-- ---- Whether a word was read
+
+module _ (t : Token) (s : Building) where
+  pub none-read : (n : ℕ) → n ≡ 0 → WordsRead (actionsIn n) t s (Did s)
+  none-read n e = record { word = λ one k. false-not-true (sym (ap (λ (i : ℕ). onlyConstant (actionsIn i)) e ∙ ap onlyConstant no-action) ∙ one); idle = λ none-left. refl }
+
+  module _ (n : ℕ) (some-left : n ≡ 0 → ⊥) (small : n < 2 ^ 32) where
+    -- there is one
+    some-action : (r : Step) → noAction (actionsIn n) ≡ true → r ≡ Did s
+    some-action r e = false-not-true (sym (ap noAction (first-action n small some-left)) ∙ e)
+
+    -- nothing comes of it
+    pub stopped-reads : WordsRead (actionsIn n) t s No
+    unfolding IsWord
+    stopped-reads = record { word = λ one k. tt; idle = some-action No }
+
+    -- it is the only one, or others follow it
+    pub then-reads : (a : Step) (next : Building) (r : Step) → a ≡ Did next → WordRead (actionOf (n % 256)) t a → WordsRead (actionsIn (n / 256)) t next r → WordsRead (actionsIn n) t s r
+    unfolding WordRead
+    then-reads a next r e read others = record { word = λ one k. go (actionsIn (n / 256)) (others .idle) k (sym (ap onlyConstant (first-action n small some-left)) ∙ one); idle = some-action r }
+      where
+        go : (ds : List Action) → (noAction ds ≡ true → r ≡ Did next) → t .kind ≡ 0 → onlyConstant (actionOf (n % 256) ∷ ds) ≡ true → IsWord r
+        go [] same k one = subst IsWord (e ∙ sym (same refl)) (read one k)
+        go (d ∷ ds) same k one = false-not-true one
+
+-- ---- What is done
 
 module _ (t : Token) (ns : Names) (s : Building) (m out : List ℕ) where
   -- no action is left

@@ -6,9 +6,9 @@ use lib.ListN.{length}
 use mathlib.Core.Path.{_≡_}
 use mathlib.Core.List.{List, [], _∷_}
 use Rattle.lexer.specs.declared.Token.{Token}
-use Rattle.notation.specs.Tokens.{Lexeme, tokenOf, aNumber, aVariable, trueWord, falseWord}
+use Rattle.notation.specs.Tokens.{Lexeme, tokenOf, aWord, aNumber, aVariable, trueWord, falseWord}
 use Rattle.notation.specs.Building.{Build, acts, Action, begin, beginResource, around, instead, close, constant, read, named, parentFirst, void, enter, leave, spelled, resourceTag}
-use Rattle.tree_builder.specs.Shows.{AnInteger, ABoolean, AString, AVariable, AClassVariable, AName, Shows, Ready}
+use Rattle.tree_builder.specs.Shows.{AnInteger, ABoolean, AString, AVariable, AClassVariable, AName, Shows, IsWord, Ready}
 use Rattle.tree_builder.specs.declared.Step.{Step}
 use Rattle.tree_builder.specs.declared.Step.the-variants.{Did, No}
 use Rattle.parse_table.specs.Codes.{actionsIn}
@@ -43,6 +43,40 @@ module _ (r : Token) where
   Suits (void t) ns table x = Unit {0}
   Suits enter ns table x = Unit {0}
   Suits leave ns table x = Unit {0}
+
+-- whether an action reads a constant; behind one that does, at a word, the state tells that a word was just read
+abbrev pub isConstant : Action → Bool
+isConstant (begin t) = false
+isConstant beginResource = false
+isConstant (around t h) = false
+isConstant (instead t) = false
+isConstant close = false
+isConstant constant = true
+isConstant read = false
+isConstant named = false
+isConstant parentFirst = false
+isConstant (void t) = false
+isConstant enter = false
+isConstant leave = false
+
+unfoldable pub WordRead : Action → Token → Step → Type 0
+WordRead a r step = isConstant a ≡ true → r .kind ≡ aWord → IsWord step
+
+-- whether there is one action, which reads a constant
+abbrev pub onlyConstant : List Action → Bool
+onlyConstant [] = false
+onlyConstant (a ∷ []) = isConstant a
+onlyConstant (a ∷ b ∷ ds) = false
+
+-- whether there is none
+abbrev pub noAction : List Action → Bool
+noAction [] = true
+noAction (a ∷ ds) = false
+
+-- behind one that reads a constant, at a word, the state tells so; behind none the state is as before
+pub record WordsRead (ds : List Action) (r : Token) (s : Building) (step : Step) : Type 0 where
+  pub word : onlyConstant ds ≡ true → r .kind ≡ aWord → IsWord step
+  pub idle : noAction ds ≡ true → step ≡ Did s
 
 -- what an action asks for: room for the slots, a state in range, and where a name comes in the place of a string constant, that one was just read
 pub record Able (frames : List ℕ) (s : Building) (action : ℕ) (r : Token) : Type 0 where

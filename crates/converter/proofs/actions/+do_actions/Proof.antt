@@ -1,6 +1,6 @@
 -- `do_actions`: none is left, the first one stops, or the others follow it.
 use native.Mathlib.Omega.{arith}
-use Rattle.converter.proofs.Sequence.{none-done, first-stopped, then-others, able-first, stands-next}
+use Rattle.converter.proofs.Sequence.{none-done, none-read, first-stopped, stopped-reads, then-others, then-reads, able-first, stands-next}
 use Prim.Native.Nat.{ℕ, _<_}
 use borrow.Author.Needs.{needs}
 use borrow.Fn.Kinds.{In}
@@ -29,7 +29,7 @@ do-actions-returns : (t : ℕ) → do-actions-lts.Need-returns (
   do-actions-below t,
   do-actions.Post,
 ) (do-actions-at t) do-actions.Post
-do-actions-returns t c = none-done _ _ _ _ _ _ (c .if1 .taken)
+do-actions-returns t c = (none-done _ _ _ _ _ _ (c .if1 .taken), none-read _ _ _ (c .if1 .taken))
 
 do-actions-do-action-requires : (t : ℕ) → do-actions-lts.Need-do-action-requires (
   do-action-reads.Asked,
@@ -55,7 +55,7 @@ do-actions-do-actions-requires : (t : ℕ) → do-actions-lts.Need-do-actions-re
 ) (do-actions-at t) do-actions.Post
 do-actions-do-actions-requires t c κs =
     let p = c .before .before .before .before .before .before .before .before .before .before .before .before .before .before .before .pre in
-    (omega (arith, p .0, c .before .before .before .before .before .before .before .before .before .before .before .before .if1 .left), stands-next _ _ _ _ _ _ (c .before .before .before .before .before .before .before .before .before .before .before .before .if1 .left) (omega arith) (p .1) _ _ _ _ (c .before .before .before .next .given .1) (c .before .before .before .before .before .before .before .before .before .do-action .ensures) (search needs))
+    (omega (arith, p .0, c .before .before .before .before .before .before .before .before .before .before .before .before .if1 .left), stands-next _ _ _ _ _ _ (c .before .before .before .before .before .before .before .before .before .before .before .before .if1 .left) (omega arith) (p .1) _ _ _ _ (c .before .before .before .next .given .1) (c .before .before .before .before .before .before .before .before .before .do-action .ensures .0) (search needs))
 
 do-actions-enum-told : (t : ℕ) → do-actions-lts.Need-enum-told (
   do-action-reads.Asked,
@@ -87,7 +87,8 @@ do-actions-returns-2 : (t : ℕ) → do-actions-lts.Need-returns-2 (
   do-actions-below t,
   do-actions.Post,
 ) (do-actions-at t) do-actions.Post
-do-actions-returns-2 t c = then-others _ _ _ _ _ _ (c .before .before .before .before .before .before .before .before .before .before .before .before .before .before .before .before .before .if1 .left) (omega arith) _ _ _ _ _ _ _ (c .before .before .before .before .before .before .before .before .next .given .1) (c .before .before .before .before .before .before .before .before .before .before .before .before .before .before .do-action .ensures) (c .before .before .before .before .do-actions .ensures)
+do-actions-returns-2 t c =
+    (then-others _ _ _ _ _ _ (c .before .before .before .before .before .before .before .before .before .before .before .before .before .before .before .before .before .if1 .left) (omega arith) _ _ _ _ _ _ _ (c .before .before .before .before .before .before .before .before .next .given .1) (c .before .before .before .before .before .before .before .before .before .before .before .before .before .before .do-action .ensures .0) (c .before .before .before .before .do-actions .ensures .0), then-reads _ _ _ (c .before .before .before .before .before .before .before .before .before .before .before .before .before .before .before .before .before .if1 .left) (omega arith) _ _ _ (c .before .before .before .before .before .before .before .before .next .given .1) (c .before .before .before .before .before .before .before .before .before .before .before .before .before .before .do-action .ensures .1) (c .before .before .before .before .do-actions .ensures .1))
 
 do-actions-same-length-3 : (t : ℕ) → do-actions-lts.Need-same-length-3 (
   do-action-reads.Asked,
@@ -111,7 +112,7 @@ do-actions-returns-3 : (t : ℕ) → do-actions-lts.Need-returns-3 (
   do-actions-below t,
   do-actions.Post,
 ) (do-actions-at t) do-actions.Post
-do-actions-returns-3 t c = first-stopped _ _ _ _ _ _ (c .before .before .before .before .before .before .before .before .before .if1 .left) (omega arith) _ _ _ (c .enum-told .given .1) (c .before .before .before .before .before .before .do-action .ensures)
+do-actions-returns-3 t c = (first-stopped _ _ _ _ _ _ (c .before .before .before .before .before .before .before .before .before .if1 .left) (omega arith) _ _ _ (c .enum-told .given .1) (c .before .before .before .before .before .before .do-action .ensures .0), stopped-reads _ _ _ (c .before .before .before .before .before .before .before .before .before .if1 .left) (omega arith))
 
 pub +do-actions-spec : {M : Type 1} → statement M
 +do-actions-spec = close μ-do-actions λ t. do-actions-lts.spec (

@@ -1,9 +1,10 @@
 -- `do_action`: the codes by their ranges.
+use mathlib.Core.Path.{refl}
 use mathlib.Core.List.{[], _∷_}
 use native.Mathlib.Omega.{arith}
 use Rattle.notation.specs.Building.{byte, begin, around, void}
 use Rattle.converter.specs.Doing.{Suits}
-use Rattle.converter.proofs.Doing.{by-code, code-around, code-void, code-begin}
+use Rattle.converter.proofs.Doing.{by-other, code-around, code-void, code-begin}
 use borrow.Author.Needs.{needs}
 use Rattle.converter.proofs.actions.do_action.Statement.{statement}
 use Rattle.converter.proofs.actions.do_action.Tie as tie
@@ -28,7 +29,7 @@ same-length-2 c = search needs
 
 returns : tie.Need-returns
 unfolding Suits
-returns c = by-code _ _ _ _ _ _ _ _ _ _ (code-around _ (omega arith)) (c .before .before .before .before .around-operator .ensures)
+returns c = by-other _ _ _ _ _ _ _ _ _ _ (code-around _ (omega arith)) refl (c .before .before .before .before .around-operator .ensures)
 
 cast-add-void : tie.Need-cast-add-void
 cast-add-void c = search needs
@@ -41,7 +42,7 @@ same-length-3 c = search needs
 
 returns-2 : tie.Need-returns-2
 unfolding Suits
-returns-2 c = by-code _ _ _ _ _ _ _ _ _ _ (code-void _ (omega arith) (omega arith)) (c .before .before .add-void .ensures _)
+returns-2 c = by-other _ _ _ _ _ _ _ _ _ _ (code-void _ (omega arith) (omega arith)) refl (c .before .before .add-void .ensures _)
 
 cast-begin : tie.Need-cast-begin
 cast-begin c = search needs
@@ -57,7 +58,7 @@ same-length-5 c = search needs
 
 returns-3 : tie.Need-returns-3
 unfolding Suits
-returns-3 c = by-code _ _ _ _ _ _ _ _ _ _ (code-begin _ (omega arith) (omega arith)) (c .before .before .before .before .begin .ensures)
+returns-3 c = by-other _ _ _ _ _ _ _ _ _ _ (code-begin _ (omega arith) (omega arith)) refl (c .before .before .before .before .begin .ensures)
 
 do-plain-requires : tie.Need-do-plain-requires
 do-plain-requires c κs = search needs

@@ -5,7 +5,7 @@ use Rattle.notation.specs.Building.{Action, beginResource, around, instead, clo
 use Rattle.parse_table.specs.Codes.{actionOf}
 use Rattle.tree_builder.proofs.Whole.{resource-begins}
 use Rattle.converter.specs.Doing.{Suits}
-use Rattle.converter.proofs.Doing.{by-code, by-known, code-close}
+use Rattle.converter.proofs.Doing.{by-constant, by-known, by-other, code-close}
 use borrow.Author.Needs.{needs}
 use Rattle.converter.proofs.actions.do_plain.Statement.{statement}
 use Rattle.converter.proofs.actions.do_plain.Tie as tie
@@ -56,37 +56,36 @@ same-length : tie.Need-same-length
 same-length c = search needs
 
 returns : tie.Need-returns
-unfolding Suits actionOf
-returns c = by-known _ _ _ _ _ _ _ _ _ 2 constant (c .before .before .before .before .match .keys1) refl (c .before .before .add-constant .ensures .0 _)
+returns c = by-constant _ _ _ _ _ _ _ _ _ (c .before .before .before .before .match .keys1) (c .before .before .add-constant .ensures .0 _) (c .before .before .add-constant .ensures .1)
 
 same-length-2 : tie.Need-same-length-2
 same-length-2 c = search needs
 
 returns-2 : tie.Need-returns-2
-unfolding Suits actionOf
-returns-2 c = by-known _ _ _ _ _ _ _ _ _ 3 read (c .before .before .before .before .match .keys2) refl (c .before .before .add-variable .ensures _)
+unfolding Suits
+returns-2 c = by-known _ _ _ _ _ _ _ _ _ 3 read (c .before .before .before .before .match .keys2) (unfold actionOf in refl) refl (c .before .before .add-variable .ensures _)
 
 same-length-3 : tie.Need-same-length-3
 same-length-3 c = search needs
 
 returns-3 : tie.Need-returns-3
-unfolding Suits actionOf
-returns-3 c = by-known _ _ _ _ _ _ _ _ _ 4 named (c .before .before .before .before .match .keys3) refl (c .before .before .add-name .ensures _)
+unfolding Suits
+returns-3 c = by-known _ _ _ _ _ _ _ _ _ 4 named (c .before .before .before .before .match .keys3) (unfold actionOf in refl) refl (c .before .before .add-name .ensures _)
 
 same-length-4 : tie.Need-same-length-4
 same-length-4 c = search needs
 
 returns-4 : tie.Need-returns-4
-unfolding Suits actionOf
-returns-4 c = by-known _ _ _ _ _ _ _ _ _ 5 parentFirst (c .before .before .before .before .match .keys4) refl (c .before .before .parent-first .ensures _)
+unfolding Suits
+returns-4 c = by-known _ _ _ _ _ _ _ _ _ 5 parentFirst (c .before .before .before .before .match .keys4) (unfold actionOf in refl) refl (c .before .before .parent-first .ensures _)
 
 returns-5 : tie.Need-returns-5
-unfolding Suits actionOf
-returns-5 c = by-known _ _ _ _ _ _ _ _ _ 6 enterAction (c .before .match .keys5) refl (c .enter .ensures _ _)
+unfolding Suits
+returns-5 c = by-known _ _ _ _ _ _ _ _ _ 6 enterAction (c .before .match .keys5) (unfold actionOf in refl) refl (c .enter .ensures _ _)
 
 returns-6 : tie.Need-returns-6
-unfolding Suits actionOf
-returns-6 c = by-known _ _ _ _ _ _ _ _ _ 7 leaveAction (c .before .match .keys6) refl (c .leave .ensures _ _)
+unfolding Suits
+returns-6 c = by-known _ _ _ _ _ _ _ _ _ 7 leaveAction (c .before .match .keys6) (unfold actionOf in refl) refl (c .leave .ensures _ _)
 
 same-length-5 : tie.Need-same-length-5
 same-length-5 c = search needs
@@ -95,8 +94,8 @@ same-length-6 : tie.Need-same-length-6
 same-length-6 c = search needs
 
 returns-7 : tie.Need-returns-7
-unfolding Suits actionOf
-returns-7 c = by-known _ _ _ _ _ _ _ _ _ 8 beginResource (c .before .before .before .before .before .before .before .match .keys7) refl (resource-begins _ _ _ _ _ _ _ (c .before .before .before .before .begin .ensures))
+unfolding Suits
+returns-7 c = by-known _ _ _ _ _ _ _ _ _ 8 beginResource (c .before .before .before .before .before .before .before .match .keys7) (unfold actionOf in refl) refl (resource-begins _ _ _ _ _ _ _ (c .before .before .before .before .begin .ensures))
 
 same-length-7 : tie.Need-same-length-7
 same-length-7 c = search needs
@@ -105,8 +104,8 @@ same-length-8 : tie.Need-same-length-8
 same-length-8 c = search needs
 
 returns-8 : tie.Need-returns-8
-unfolding Suits actionOf
-returns-8 c = by-known _ _ _ _ _ _ _ _ _ 9 (instead 0x18) (c .before .before .before .before .before .before .before .match .keys8) refl (c .before .before .before .before .instead .ensures)
+unfolding Suits
+returns-8 c = by-known _ _ _ _ _ _ _ _ _ 9 (instead 0x18) (c .before .before .before .before .before .before .before .match .keys8) (unfold actionOf in refl) refl (c .before .before .before .before .instead .ensures)
 
 same-length-9 : tie.Need-same-length-9
 same-length-9 c = search needs
@@ -115,8 +114,8 @@ same-length-10 : tie.Need-same-length-10
 same-length-10 c = search needs
 
 returns-9 : tie.Need-returns-9
-unfolding Suits actionOf
-returns-9 c = by-known _ _ _ _ _ _ _ _ _ 10 (around 0x19 []) (c .before .before .before .before .before .before .before .match .keys9) refl (c .before .before .before .before .around .ensures)
+unfolding Suits
+returns-9 c = by-known _ _ _ _ _ _ _ _ _ 10 (around 0x19 []) (c .before .before .before .before .before .before .before .match .keys9) (unfold actionOf in refl) refl (c .before .before .before .before .around .ensures)
 
 same-length-11 : tie.Need-same-length-11
 same-length-11 c = search needs
@@ -126,7 +125,7 @@ same-length-12 c = search needs
 
 returns-10 : tie.Need-returns-10
 unfolding Suits
-returns-10 c = by-code _ _ _ _ _ _ _ _ _ close (code-close _ (c .before .before .before .before .before .before .before .before .pre .1) (c .before .before .before .before .before .match .rest)) (c .before .before .close .ensures)
+returns-10 c = by-other _ _ _ _ _ _ _ _ _ close (code-close _ (c .before .before .before .before .before .before .before .before .pre .1) (c .before .before .before .before .before .match .rest)) refl (c .before .before .close .ensures)
 
 pub do-plain-spec : {M : Type 1} → statement M
 do-plain-spec =
