@@ -1,2 +1,3 @@
 pub mod Doing
 pub mod Sequence
+pub mod Leaving

@@ -24,7 +24,7 @@ use Rattle.converter.specs.declared.actions.Names.{Names}
 use Rattle.converter.specs.Doing.{Suits, SuitsAll, Able, filled, AllMade, AllAnswered, isInstead, noInstead, WordRead, onlyConstant, noAction, WordsRead, DoesAll, Stands}
 
 -- from a lower fill
-filled-more : (ds : List Action) (a b : ℕ) → a ≤ b → filled a ds ≤ filled b ds
+pub filled-more : (ds : List Action) (a b : ℕ) → a ≤ b → filled a ds ≤ filled b ds
 filled-more [] a b h = h
 filled-more (d ∷ ds) a b h = filled-more ds (a + 12) (b + 12) (omega arith)
 
@@ -32,7 +32,7 @@ filled-least : (ds : List Action) (a : ℕ) → a ≤ filled a ds
 filled-least [] a = omega arith
 filled-least (d ∷ ds) a = omega (arith, filled-least ds (a + 12))
 
-answered-more : (table : List (List ℕ)) (a b : ℕ) → a ≤ b → (r : Step) (m out : List ℕ) (o : Option Build) → AllAnswered table a r m out o → AllAnswered table b r m out o
+pub answered-more : (table : List (List ℕ)) (a b : ℕ) → a ≤ b → (r : Step) (m out : List ℕ) (o : Option Build) → AllAnswered table a r m out o → AllAnswered table b r m out o
 unfolding AllAnswered
 answered-more table a b h No m out o e = e
 answered-more table a b h (Did s) m out o w = record { made = w .made; is = w .is; shows = w .shows; grown = omega (arith, w .grown) }
@@ -47,7 +47,7 @@ not-both true c e h = false-not-true h
 not-both false c e h = false-not-true e
 
 -- where none of some does so, the first one does not, and no other one
-no-other : (k : ℕ) → k < 2 ^ 32 → noInstead (actionsIn k) ≡ true → (k % 256 ≡ 9 → ⊥) × (noInstead (actionsIn (k / 256)) ≡ true)
+pub no-other : (k : ℕ) → k < 2 ^ 32 → noInstead (actionsIn k) ≡ true → (k % 256 ≡ 9 → ⊥) × (noInstead (actionsIn (k / 256)) ≡ true)
 no-other k l none-of = go (eqb k 0) refl
   where
     go : (b : Bool) → eqb k 0 ≡ b → (k % 256 ≡ 9 → ⊥) × (noInstead (actionsIn (k / 256)) ≡ true)

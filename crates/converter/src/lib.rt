@@ -1,2 +1,3 @@
 // The converter: from a text in the notation to a manifest.
 pub mod actions; // actions.rt: the grammar's actions, done to the tree
+mod steps; // steps.rt: one token
