@@ -1,3 +1,5 @@
 pub mod Doing
 pub mod Sequence
 pub mod Leaving
+pub mod RowFacts
+pub mod Taking

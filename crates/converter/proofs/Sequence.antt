@@ -38,7 +38,7 @@ answered-more table a b h No m out o e = e
 answered-more table a b h (Did s) m out o w = record { made = w .made; is = w .is; shows = w .shows; grown = omega (arith, w .grown) }
 
 -- the code of the one action that puts a name in the place of a constant
-nine-instead : (k : ℕ) → k ≡ 9 → isInstead (actionOf k) ≡ true
+pub nine-instead : (k : ℕ) → k ≡ 9 → isInstead (actionOf k) ≡ true
 unfolding actionOf
 nine-instead k e = rw e
 

@@ -1,5 +1,5 @@
 -- When the stack of symbols, the tree in the making and a token in hand are a state of the grammar's machine, and what a step makes of it.
-use Prim.Native.Nat.{ℕ, _+_, _*_, _≤_}
+use Prim.Native.Nat.{ℕ, _+_, _-_, _*_, _≤_, _<_}
 use mathlib.Core.Path.{_≡_}
 use mathlib.Core.Bool.{Bool, true, false, not, _&&_}
 use mathlib.Core.List.{List, [], _∷_}
@@ -8,7 +8,15 @@ use lib.ListN.{length}
 use Rattle.lexer.specs.declared.Token.{Token}
 use Rattle.notation.specs.Tokens.{Lexeme, kind, tokenOf, isAmong, aWord, aNumber, aText, aVariable, aQualified, trueWord, falseWord}
 use Rattle.notation.specs.Building.{Build, Action, spelled, resourceTag, acts}
-use Rattle.notation.specs.Grammar.{Symbol, sign, aName, expression, operators, readOrWord, closeBracket, one, maybe, further, statements, block, otherwise, branches, items, classRest, parameters, defaultValue, aConstant, inherits, parent, devices, device, moreDevices, ends, leftOut}
+use Rattle.notation.specs.Grammar.{Symbol, sign, aName, expression, operators, readOrWord, closeBracket, one, maybe, further, statements, block, otherwise, branches, items, classRest, parameters, defaultValue, aConstant, inherits, parent, devices, device, moreDevices, ends, leftOut, rowOf, Stepped, stuck, to, step}
+use Rattle.rules.specs.Bytes.{byte}
+use Rattle.parse_table.specs.Codes.{rowIn}
+use Rattle.parse_table.specs.Stack.{stackOf}
+use Rattle.parse_table.specs.declared.rows.Row.{Row}
+use Rattle.parse_table.proofs.Bound.{Kept}
+use Rattle.converter.specs.declared.steps.Machine.{Machine}
+use Rattle.converter.specs.declared.steps.Taken.{Taken}
+use Rattle.converter.specs.declared.steps.Taken.the-variants.{To, Stuck}
 use Rattle.tree_builder.specs.declared.Building.{Building}
 use Rattle.tree_builder.specs.declared.Step.{Step}
 use Rattle.tree_builder.specs.Shows.{AName, Shows}
@@ -45,3 +53,81 @@ pub record Leavable (frames out : List ℕ) (s : Building) (r : Token) (ns : Nam
 -- what it does, at any token
 unfoldable pub LeavesOut : Symbol → Building → (frames out : List ℕ) → Step → (frames′ out′ : List ℕ) → Type 0
 LeavesOut k s m out a m′ out′ = (table : List (List ℕ)) (f : Build) (x : Lexeme) → Shows table s m out f → AllAnswered table (s .fill + 12) a m′ out′ (leftBehind k x f)
+
+-- ---- The symbol behind a bare word
+
+abbrev pub isReadOrWord : Symbol → Bool
+isReadOrWord (sign k) = false
+isReadOrWord aName = false
+isReadOrWord (expression l) = false
+isReadOrWord (operators l m) = false
+isReadOrWord readOrWord = true
+isReadOrWord closeBracket = false
+isReadOrWord (one e) = false
+isReadOrWord (maybe e) = false
+isReadOrWord (further e) = false
+isReadOrWord statements = false
+isReadOrWord block = false
+isReadOrWord otherwise = false
+isReadOrWord branches = false
+isReadOrWord items = false
+isReadOrWord classRest = false
+isReadOrWord parameters = false
+isReadOrWord defaultValue = false
+isReadOrWord aConstant = false
+isReadOrWord inherits = false
+isReadOrWord parent = false
+isReadOrWord devices = false
+isReadOrWord device = false
+isReadOrWord moreDevices = false
+isReadOrWord ends = false
+
+abbrev pub noneBehindWord : List Symbol → Bool
+noneBehindWord [] = true
+noneBehindWord (s ∷ k) = not (isReadOrWord s) && noneBehindWord k
+
+-- it is only on top, and only where a word was just read
+unfoldable pub WordOnTop : List Symbol → Building → Type 0
+WordOnTop [] s = Unit {0}
+WordOnTop (y ∷ k) s = (isReadOrWord y ≡ true → s .word ≡ true) × (noneBehindWord k ≡ true)
+
+-- ---- A step
+
+-- the stack, the tree and the token in hand are a state of the machine: these symbols, this tree, this token
+pub record Standing (stack frames out : List ℕ) (s : Building) (top : ℕ) (r : Token) (ns : Names) (table : List (List ℕ)) (f : Build) (x : Lexeme) : Type 0 where
+  pub shows : Shows table s frames out f
+  pub carried : Carried r ns table x
+  pub kept : Kept (stackOf stack top) f
+  pub words : WordOnTop (stackOf stack top) s
+  pub low : s .fill + 12 * top ≤ 1000000
+
+-- it goes on from these symbols and this tree
+pub record Onward (table : List (List ℕ)) (m : Machine) (stack frames out : List ℕ) (wanted : Stepped) : Type 0 where
+  pub tree : Build
+  pub is : wanted ≡ to (stackOf stack (m .top)) tree
+  pub shows : Shows table (m .building) frames out tree
+  pub words : WordOnTop (stackOf stack (m .top)) (m .building)
+
+unfoldable pub TakenSo : (table : List (List ℕ)) → Taken → (stack frames out : List ℕ) → (wanted : Stepped) → Type 0
+TakenSo table Stuck st m out o = o ≡ stuck
+TakenSo table (To n) st m out o = Onward table n st m out o
+
+-- what a step asks for
+pub record Steppable (stack frames out : List ℕ) (s : Building) (top : ℕ) (r : Token) (ns : Names) : Type 0 where
+  pub table : List (List ℕ)
+  pub tree : Build
+  pub token : Lexeme
+  pub standing : Standing stack frames out s top r ns table tree token
+  pub slots : 256 ≤ length frames
+  pub room : 468 ≤ length stack
+  pub place : r .start ≤ 1048576
+
+-- what it does
+unfoldable pub Steps : Token → Names → Building → (top : ℕ) → (stack frames out : List ℕ) → Taken → (stack′ frames′ out′ : List ℕ) → Type 0
+Steps r ns s top st m out a st′ m′ out′ = (table : List (List ℕ)) (f : Build) (x : Lexeme) → Standing st m out s top r ns table f x → TakenSo table a st′ m′ out′ (step (stackOf st top) x f)
+
+-- the row of the symbol on top takes the token
+pub record TakenRow (stack : List ℕ) (top : ℕ) (r : Token) (w : Row) : Type 0 where
+  pub some-top : 0 < top
+  pub row-of : rowIn w ≡ rowOf (symbolOf (byte stack (top - 1))) (r .kind)
+  pub taken : w .taken ≡ true

@@ -2,13 +2,27 @@
 ghost use mathlib.Core.Path.{_≡_};
 ghost use Prim.Native.Nat.{_≤_, _<_};
 ghost use Rattle.parse_table.specs.Codes.{symbolOf};
-ghost use Rattle.converter.specs.Stepping.{Leavable, LeavesOut};
+ghost use Rattle.converter.specs.Stepping.{Leavable, LeavesOut, Steppable, TakenRow, Steps};
 use crate::actions::Names;
 use crate::actions::do_actions;
 use lexer::Token;
+use parse_table::rows::Row;
+use parse_table::stack::push;
 use parse_table::table::left_out;
 use tree_builder::Building;
 use tree_builder::Step;
+
+// The number of symbols on the stack, and the tree in the making.
+pub struct Machine {
+    pub top: usize,
+    pub building: Building,
+}
+
+// What comes of a token: the new state, or that the token may not stand there.
+pub enum Taken {
+    To(Machine),
+    Stuck,
+}
 
 // The symbol on top takes nothing of this kind: it is left out, if it may be.
 fn leave_out(
@@ -27,4 +41,30 @@ fn leave_out(
         return do_actions(out, frames, s, left.actions, token, names);
     }
     Step::No
+}
+
+// The symbol on top takes the token: its actions are done, and the row's symbols come in its place.
+fn take_row(
+    out: &mut [u8],
+    frames: &mut [u8],
+    stack: &mut [u8],
+    s: Building,
+    top: usize,
+    token: Token,
+    names: Names,
+    row: Row,
+) -> Taken
+    requires { ⌜ Steppable (now stack) (now frames) (now out) s top token names × TakenRow (now stack) top token row ⌝ }
+    ensures { λ r. ⌜ Steps token names s top (now (stack .entry)) (now (frames .entry)) (now (out .entry)) r (now (stack .exit)) (now (frames .exit)) (now (out .exit)) ⌝ }
+{
+    match do_actions(out, frames, s, row.actions, token, names) {
+        Step::Did(next) => {
+            let above = push(stack, top, row.symbols);
+            Taken::To(Machine {
+                top: above,
+                building: next,
+            })
+        }
+        Step::No => Taken::Stuck,
+    }
 }

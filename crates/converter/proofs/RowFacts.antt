@@ -1,0 +1,141 @@
+-- What every row of the grammar's table keeps to, by computing: an action looks only at tokens that it is for, and the symbol behind a bare word comes only
+-- there. Assumes nothing.
+use mathlib.Core.Path.{_≡_, refl, sym, _∙_, ap, subst}
+use mathlib.Core.Bool.{Bool, true, false, not, _&&_, _||_}
+use mathlib.Core.List.{List, [], _∷_, _++_}
+use mathlib.Core.Option.{Option, none, some}
+use native.Mathlib.Omega.{arith}
+use lib.Dec.{leb, eqb}
+use borrow.Author.Tests.{eqb-true}
+use Prim.Native.Nat.{ℕ, suc}
+use Rattle.rules.specs.Bytes.{pick}
+use Rattle.rules.proofs.Lists.{both-left, both-right}
+use Rattle.rules.proofs.Within.{false-not-true}
+use Rattle.lexer.specs.declared.Token.{Token}
+use Rattle.notation.specs.Tokens.{Lexeme, isAmong, aWord, aNumber, aText, aVariable, aQualified, trueWord, falseWord, question, leftBrace, rightBrace}
+use Rattle.notation.specs.Lexing.{find}
+use Rattle.notation.specs.Building.{byte, Action, begin, beginResource, around, instead, close, constant, read, named, parentFirst, void, enter, leave}
+use Rattle.notation.specs.Grammar.{Entry, arm, attribute, parameter, Symbol, sign, aName, expression, operators, readOrWord, closeBracket, one, maybe, further, statements, block, otherwise, branches, items, classRest, parameters, defaultValue, aConstant, inherits, parent, devices, device, moreDevices, ends, Row, row, operatorByte, operatorRow, operatorIn, binds, rowOf}
+use Rattle.notation.proofs.NeedsKept.{none-not-some, same-result}
+use Rattle.notation.proofs.TableRows.{rowsOf}
+use Rattle.converter.specs.declared.actions.Names.{Names}
+use Rattle.converter.specs.Doing.{Suits, SuitsAll, isInstead, noInstead, isConstant, onlyConstant}
+use Rattle.converter.specs.Stepping.{Carried, isReadOrWord, noneBehindWord}
+
+-- the kinds of tokens that an action is for
+abbrev pub fits : ℕ → Action → Bool
+fits k (begin t) = true
+fits k beginResource = isAmong k (aWord ∷ [])
+fits k (around t h) = true
+fits k (instead t) = true
+fits k close = true
+fits k constant = isAmong k (aWord ∷ aNumber ∷ aText ∷ trueWord ∷ falseWord ∷ [])
+fits k read = isAmong k (aVariable ∷ aQualified ∷ [])
+fits k named = isAmong k (aWord ∷ aText ∷ aVariable ∷ [])
+fits k parentFirst = isAmong k (aWord ∷ aText ∷ aVariable ∷ [])
+fits k (void t) = true
+fits k enter = true
+fits k leave = true
+
+abbrev pub allFit : ℕ → List Action → Bool
+allFit k [] = true
+allFit k (a ∷ ds) = fits k a && allFit k ds
+
+-- a name comes in the place of a constant only by the symbol behind a word, and first
+abbrev pub insteadFirst : Symbol → List Action → Bool
+insteadFirst s [] = true
+insteadFirst s (a ∷ ds) = (not (isInstead a) || isReadOrWord s) && noInstead ds
+
+-- this symbol comes first, and only where a word was read
+abbrev pub wordFirst : ℕ → List Action → List Symbol → Bool
+wordFirst k ds [] = true
+wordFirst k ds (y ∷ ys) = (not (isReadOrWord y) || (onlyConstant ds && eqb k aWord)) && noneBehindWord ys
+
+abbrev pub rowFits : Symbol → ℕ → Row → Bool
+rowFits s k (row ds ss) = allFit k ds && (insteadFirst s ds && wordFirst k ds ss)
+
+-- ---- Every row
+
+abbrev allKeyed : (ℕ → Row → Bool) → List (ℕ × Row) → Bool
+allKeyed test [] = true
+allKeyed test (x ∷ xs) = test (x .0) (x .1) && allKeyed test xs
+
+-- a test that holds of all keys and rows holds of what is found
+found-keyed : (test : ℕ → Row → Bool) (xs : List (ℕ × Row)) (k : ℕ) (v : Row) → allKeyed test xs ≡ true → find k xs ≡ some v → test k v ≡ true
+found-keyed test [] k v a e = none-not-some e
+found-keyed test (x ∷ xs) k v a e = go (eqb k (x .0)) refl (λ e. found-keyed test xs k v (both-right (test (x .0) (x .1)) (allKeyed test xs) a) e) e
+  where
+    go : (b : Bool) → eqb k (x .0) ≡ b → (find k xs ≡ some v → test k v ≡ true) → _≡_ {A = Option Row} (pick b (some (x .1)) (find k xs)) (some v) → test k v ≡ true
+    go true i others e = subst (λ (v : Row). test k v ≡ true) (same-result (x .1) v e) (ap (λ (n : ℕ). test n (x .1)) (eqb-true k (x .0) i) ∙ both-left (test (x .0) (x .1)) (allKeyed test xs) a)
+    go false i others e = others e
+
+-- operators of any level
+operator-fits : (l m q n : ℕ) → rowFits (operators l m) q (operatorRow l q n) ≡ true
+operator-fits l m q n = go (eqb q question)
+  where
+    go : (b : Bool) → rowFits (operators l m) q (pick b (row (around 0x19 [] ∷ []) (sign leftBrace ∷ one arm ∷ sign rightBrace ∷ ends ∷ operators l n ∷ [])) (row (around 0x16 (byte (operatorByte q) ∷ []) ∷ []) (expression (suc n) ∷ ends ∷ operators l n ∷ []))) ≡ true
+    go true = refl
+    go false = refl
+
+operators-fit : (l m q : ℕ) (o : Option ℕ) (r : Row) → operatorIn l m q o ≡ some r → rowFits (operators l m) q r ≡ true
+operators-fit l m q none r h = none-not-some h
+operators-fit l m q (some n) r h = go (leb l n && leb n m) h
+  where
+    go : (b : Bool) → _≡_ {A = Option Row} (pick b (some (operatorRow l q n)) none) (some r) → rowFits (operators l m) q r ≡ true
+    go true i = subst (λ (r : Row). rowFits (operators l m) q r ≡ true) (same-result (operatorRow l q n) r i) (operator-fits l m q n)
+    go false i = none-not-some i
+
+entry-fits : (e : Entry) → (allKeyed (rowFits (one e)) (rowsOf (one e)) ≡ true) × (allKeyed (rowFits (maybe e)) (rowsOf (maybe e)) ≡ true)
+entry-fits arm = (refl, refl)
+entry-fits attribute = (refl, refl)
+entry-fits parameter = (refl, refl)
+
+pub row-fits : (s : Symbol) (q : ℕ) (r : Row) → rowOf s q ≡ some r → rowFits s q r ≡ true
+unfolding rowOf
+row-fits (sign k) q r h = found-keyed (rowFits (sign k)) (rowsOf (sign k)) q r refl h
+row-fits aName q r h = found-keyed (rowFits aName) (rowsOf aName) q r refl h
+row-fits (expression l) q r h = found-keyed (rowFits (expression l)) (rowsOf (expression l)) q r refl h
+row-fits (operators l m) q r h = operators-fit l m q (binds q) r h
+row-fits readOrWord q r h = found-keyed (rowFits readOrWord) (rowsOf readOrWord) q r refl h
+row-fits closeBracket q r h = found-keyed (rowFits closeBracket) (rowsOf closeBracket) q r refl h
+row-fits (one e) q r h = found-keyed (rowFits (one e)) (rowsOf (one e)) q r (entry-fits e .0) h
+row-fits (maybe e) q r h = found-keyed (rowFits (maybe e)) (rowsOf (maybe e)) q r (entry-fits e .1) h
+row-fits (further e) q r h = found-keyed (rowFits (further e)) (rowsOf (further e)) q r refl h
+row-fits statements q r h = found-keyed (rowFits statements) (rowsOf statements) q r refl h
+row-fits block q r h = found-keyed (rowFits block) (rowsOf block) q r refl h
+row-fits otherwise q r h = found-keyed (rowFits otherwise) (rowsOf otherwise) q r refl h
+row-fits branches q r h = found-keyed (rowFits branches) (rowsOf branches) q r refl h
+row-fits items q r h = found-keyed (rowFits items) (rowsOf items) q r refl h
+row-fits classRest q r h = found-keyed (rowFits classRest) (rowsOf classRest) q r refl h
+row-fits parameters q r h = found-keyed (rowFits parameters) (rowsOf parameters) q r refl h
+row-fits defaultValue q r h = found-keyed (rowFits defaultValue) (rowsOf defaultValue) q r refl h
+row-fits aConstant q r h = found-keyed (rowFits aConstant) (rowsOf aConstant) q r refl h
+row-fits inherits q r h = found-keyed (rowFits inherits) (rowsOf inherits) q r refl h
+row-fits parent q r h = found-keyed (rowFits parent) (rowsOf parent) q r refl h
+row-fits devices q r h = found-keyed (rowFits devices) (rowsOf devices) q r refl h
+row-fits device q r h = found-keyed (rowFits device) (rowsOf device) q r refl h
+row-fits moreDevices q r h = found-keyed (rowFits moreDevices) (rowsOf moreDevices) q r refl h
+row-fits ends q r h = none-not-some h
+
+-- ---- What a token in hand is for its row's actions
+
+module _ (t : Token) (ns : Names) (table : List (List ℕ)) (x : Lexeme) (h : Carried t ns table x) where
+  suits-one : (a : Action) → fits (t .kind) a ≡ true → Suits t a ns table x
+  unfolding Suits
+  suits-one (begin u) e = tt
+  suits-one beginResource e = h .resource e
+  suits-one (around u g) e = tt
+  suits-one (instead u) e = tt
+  suits-one close e = tt
+  suits-one constant e = h .constants e
+  suits-one read e = h .variables e
+  suits-one named e = h .named e
+  suits-one parentFirst e = h .named e
+  suits-one (void u) e = tt
+  suits-one enter e = tt
+  suits-one leave e = tt
+
+  pub suits-all : (ds : List Action) → allFit (t .kind) ds ≡ true → SuitsAll t ns ds table x
+  unfolding SuitsAll
+  suits-all [] e = tt
+  suits-all (a ∷ ds) e = (suits-one a (both-left (fits (t .kind) a) (allFit (t .kind) ds) e), suits-all ds (both-right (fits (t .kind) a) (allFit (t .kind) ds) e))

@@ -1,0 +1,59 @@
+-- `take_row`: the actions stop, or the row's symbols are put on the stack.
+use native.Mathlib.Omega.{arith}
+use Rattle.converter.proofs.Taking.{stands-row, row-room, row-stuck, row-onward}
+use borrow.Author.Needs.{needs}
+use Rattle.converter.proofs.steps.take_row.Statement.{statement}
+use Rattle.converter.proofs.steps.take_row.Tie as tie
+use Rattle.converter.proofs.steps.take_row.Reads as reads
+use Rattle.converter.proofs.steps.take_row.Lts as lts
+use Rattle.converter.proofs.actions.do_actions.Reads as do-actions-reads
+use Rattle.parse_table.proofs.stack.push.Reads as push-reads
+
+do-actions-requires : tie.Need-do-actions-requires
+do-actions-requires c κs = let p = c .before .before .before .before .before .pre in stands-row _ _ _ _ _ _ _ _ (p .1) (omega arith) (p .0)
+
+enum-known-next : tie.Need-enum-known-next
+enum-known-next c = search needs
+
+push-requires : tie.Need-push-requires
+push-requires c κs = let p = c .before .before .before .before .before .before .before .before .before .before .before .before .before .before .pre in row-room _ _ _ _ _ _ _ _ (p .1) (p .0)
+
+enum-told : tie.Need-enum-told
+enum-told c = search needs
+
+same-length : tie.Need-same-length
+same-length c = search needs
+
+same-length-2 : tie.Need-same-length-2
+same-length-2 c = search needs
+
+same-length-3 : tie.Need-same-length-3
+same-length-3 c = search needs
+
+returns : tie.Need-returns
+returns c = let d = c .before .before .before .before .before .before .before .before .before .before .before .do-actions .ensures in row-onward _ _ _ _ _ _ _ _ (c .before .before .before .before .before .before .before .before .before .before .before .before .before .before .before .before .before .pre .1) _ _ _ _ _ _ (c .before .before .before .before .before .next .given .1) (d .0) (d .1) (c .before .before .push .ensures)
+
+same-length-4 : tie.Need-same-length-4
+same-length-4 c = search needs
+
+same-length-5 : tie.Need-same-length-5
+same-length-5 c = search needs
+
+returns-2 : tie.Need-returns-2
+returns-2 c = row-stuck _ _ _ _ _ _ _ _ (c .before .before .before .before .before .before .before .before .before .before .before .before .pre .1) _ _ _ _ (c .enum-told .given .1) (c .before .before .before .before .before .before .do-actions .ensures .0)
+
+pub take-row-spec : {M : Type 1} → statement M
+take-row-spec =
+    tie.close
+    (tie.spec
+    do-actions-requires
+    enum-known-next
+    push-requires
+    enum-told
+    same-length
+    same-length-2
+    same-length-3
+    returns
+    same-length-4
+    same-length-5
+    returns-2)
