@@ -3,3 +3,4 @@ pub mod Sequence
 pub mod Leaving
 pub mod RowFacts
 pub mod Taking
+pub mod Passing

@@ -80,7 +80,7 @@ not-it true e i = false-not-true e
 not-it false e i = false-not-true i
 
 -- the new stack has it only on top, and only where a word was read
-words-after : (q : ℕ) (ds : List Action) (ss k : List Symbol) (s : Building) → wordFirst q ds ss ≡ true → noneBehindWord k ≡ true → (onlyConstant ds ≡ true → q ≡ aWord → s .word ≡ true) → WordOnTop (ss ++ k) s
+pub words-after : (q : ℕ) (ds : List Action) (ss k : List Symbol) (s : Building) → wordFirst q ds ss ≡ true → noneBehindWord k ≡ true → (onlyConstant ds ≡ true → q ≡ aWord → s .word ≡ true) → WordOnTop (ss ++ k) s
 unfolding WordOnTop
 words-after q ds [] [] s w n h = tt
 words-after q ds [] (y ∷ k) s w n h = (λ e. not-it (isReadOrWord y) (both-left (not (isReadOrWord y)) (noneBehindWord k) n) e, both-right (not (isReadOrWord y)) (noneBehindWord k) n)

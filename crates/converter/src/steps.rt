@@ -9,6 +9,7 @@ use lexer::Token;
 use parse_table::rows::Row;
 use parse_table::stack::push;
 use parse_table::table::left_out;
+use parse_table::table::row;
 use tree_builder::Building;
 use tree_builder::Step;
 
@@ -67,4 +68,34 @@ fn take_row(
         }
         Step::No => Taken::Stuck,
     }
+}
+
+// One token: from the top on, symbols that do not take it are left out, up to the one that does.
+pub fn take(
+    out: &mut [u8],
+    frames: &mut [u8],
+    stack: &mut [u8],
+    s: Building,
+    top: usize,
+    token: Token,
+    names: Names,
+) -> Taken
+    requires { ⌜ Steppable (now stack) (now frames) (now out) s top token names ⌝ }
+    ensures { λ r. ⌜ Steps token names s top (now (stack .entry)) (now (frames .entry)) (now (out .entry)) r (now (stack .exit)) (now (frames .exit)) (now (out .exit)) ⌝ }
+{
+    let mut n = top;
+    let mut building = s;
+    while 0 < n {
+        let symbol = stack[n - 1];
+        let w = row(symbol, token.kind);
+        if w.taken {
+            return take_row(out, frames, stack, building, n, token, names, w);
+        }
+        match leave_out(out, frames, building, symbol, token, names) {
+            Step::Did(next) => building = next,
+            Step::No => return Taken::Stuck,
+        }
+        n = n - 1;
+    }
+    Taken::Stuck
 }
