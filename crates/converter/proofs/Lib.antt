@@ -4,3 +4,4 @@ pub mod Leaving
 pub mod RowFacts
 pub mod Taking
 pub mod Passing
+pub mod Entering
