@@ -5,3 +5,4 @@ pub mod RowFacts
 pub mod Taking
 pub mod Passing
 pub mod Entering
+pub mod OtherTable
