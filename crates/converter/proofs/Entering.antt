@@ -1,11 +1,11 @@
 -- Strings entered in the table one after the other. Assumes nothing.
-use mathlib.Core.Path.{_≡_, refl, sym, _∙_, ap, subst}
+use mathlib.Core.Path.{_≡_, sym, _∙_, ap, subst}
 use mathlib.Core.Bool.{Bool, true, false}
 use mathlib.Core.List.{List, [], _∷_}
-use mathlib.Core.Option.{Option, none, some}
+use mathlib.Core.Option.{some}
 use native.Mathlib.Omega.{arith}
 use lib.ListN.{length}
-use Prim.Native.Nat.{ℕ, _+_, _*_, _≤_, _<_}
+use Prim.Native.Nat.{ℕ, _≤_, _<_}
 use Rattle.rules.specs.Bytes.{pick}
 use Rattle.rules.specs.Check.{ascends}
 use Rattle.rules.specs.Compile.{stringNumber}
@@ -20,7 +20,6 @@ use Rattle.interner.specs.Table.{strings, Kept}
 use Rattle.interner.proofs.Ascending.{before-both, not-itself, not-back}
 use Rattle.interner.proofs.Keeping.{strings-counted}
 use Rattle.tree_builder.specs.Shows.{numberIn}
-use Rattle.converter.specs.declared.strings.Numbered.{Numbered}
 use Rattle.converter.specs.Entering.{Enterable, EnteredOne, EnteredBoth}
 
 -- a number that is found

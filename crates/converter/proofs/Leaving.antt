@@ -1,22 +1,17 @@
 -- A symbol is left out: what is done then looks at no token. Assumes nothing.
-use mathlib.Core.Path.{_≡_, refl, sym, _∙_, ap, subst}
-use mathlib.Core.Bool.{Bool, true, false, _&&_}
+use mathlib.Core.Path.{_≡_, refl, ap, subst}
+use mathlib.Core.Bool.{true, false}
 use mathlib.Core.List.{List, [], _∷_}
 use mathlib.Core.Option.{Option, none, some}
 use native.Mathlib.Omega.{arith}
-use lib.Dec.{leb}
-use borrow.Author.Tests.{leb-true}
 use Prim.Native.Nat.{ℕ, _+_, _^_, _≤_, _<_}
-use Rattle.rules.proofs.Lists.{both-left, both-right}
-use Rattle.rules.proofs.Within.{false-not-true}
 use Rattle.lexer.specs.declared.Token.{Token}
 use Rattle.notation.specs.Tokens.{Lexeme}
-use Rattle.notation.specs.Building.{Build, Action, begin, beginResource, around, instead, close, constant, read, named, parentFirst, void, enter, leave, acts}
+use Rattle.notation.specs.Building.{Action, close, void, acts}
 use Rattle.notation.specs.Grammar.{Symbol, sign, aName, expression, operators, readOrWord, closeBracket, one, maybe, further, statements, block, otherwise, branches, items, classRest, parameters, defaultValue, aConstant, inherits, parent, devices, device, moreDevices, ends, leftOut}
 use Rattle.tree_builder.specs.declared.Building.{Building}
 use Rattle.tree_builder.specs.declared.Step.{Step}
-use Rattle.tree_builder.specs.declared.Step.the-variants.{Did, No}
-use Rattle.tree_builder.specs.Shows.{Shows}
+use Rattle.tree_builder.specs.declared.Step.the-variants.{No}
 use Rattle.parse_table.specs.Codes.{actionsIn, leftOutIn}
 use Rattle.parse_table.specs.declared.table.LeftOut.{LeftOut}
 use Rattle.parse_table.proofs.Answers.{out-allowed, out-needed}

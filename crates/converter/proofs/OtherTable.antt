@@ -1,6 +1,6 @@
 -- The lengths of a tree's bytes do not depend on the table, so a state with no output, and no word just read, shows the same tree for any table.
 -- Assumes nothing.
-use mathlib.Core.Path.{_≡_, refl, sym, _∙_, ap, ap₂}
+use mathlib.Core.Path.{_≡_, refl, sym, _∙_, ap₂}
 use mathlib.Core.Bool.{false}
 use mathlib.Core.List.{List, [], _∷_, _++_}
 use native.Mathlib.Omega.{arith}
@@ -9,14 +9,14 @@ use Prim.Native.Nat.{ℕ, suc, _+_, max}
 use Rattle.wire.specs.Runs.{over}
 use Rattle.wire.proofs.Laws.{over-length}
 use Rattle.rules.specs.Catalog.{highBytes}
-use Rattle.rules.specs.Fields.{Field, field, Fields, none as noFields, more, wrap, write, writeAll}
+use Rattle.rules.specs.Fields.{field, Fields, none as noFields, more, wrap, write, writeAll}
 use Rattle.rules.proofs.Within.{false-not-true}
 use Rattle.notation.specs.Building.{Piece, byte, name, Node, node, Nodes, empty, _▸_, tallest, Frame, frame, Build, build}
 use Rattle.notation.specs.Convert.{pieceBytes, headBytes, numbered, numberedOnto}
 use Rattle.tree_builder.specs.declared.Building.{Building}
 use Rattle.tree_builder.specs.Open.{low, Holds, opening, partsBytes, aroundBytes, headEnd, openBytes}
 use Rattle.tree_builder.specs.State.{slotNumber}
-use Rattle.tree_builder.specs.Shows.{Slot, Around, LastPart, LastWord, Shown, Shows}
+use Rattle.tree_builder.specs.Shows.{Around, LastPart, Shows}
 
 -- a field written has its header, its head and its fields
 field-length : (p t : ℕ) (h : List ℕ) (ks : Fields) → length (write (field p t h ks)) ≡ 3 + length h + length (writeAll ks)

@@ -1,16 +1,16 @@
 -- A symbol that does not take the token is left out, and the machine goes on with those below it. Assumes nothing.
 use mathlib.Core.Path.{_≡_, refl, sym, _∙_, ap, subst}
-use mathlib.Core.Bool.{Bool, true, false}
+use mathlib.Core.Bool.{false}
 use mathlib.Core.List.{List, [], _∷_}
 use mathlib.Core.Option.{Option, none, some}
 use native.Mathlib.Omega.{arith}
 use lib.ListN.{length}
-use Prim.Native.Nat.{ℕ, _+_, _-_, _*_, _≤_, _<_}
+use Prim.Native.Nat.{ℕ, _+_, _-_, _<_}
 use Rattle.rules.specs.Bytes.{byte}
 use Rattle.lexer.specs.declared.Token.{Token}
 use Rattle.notation.specs.Tokens.{Lexeme, kind, tokenOf}
 use Rattle.notation.specs.Building.{Build, Action, acts}
-use Rattle.notation.specs.Grammar.{Symbol, rowOf, leftOut, Stepped, stuck, to, step}
+use Rattle.notation.specs.Grammar.{Symbol, rowOf, leftOut, Stepped, stuck, step}
 use Rattle.notation.proofs.NeedsKept.{none-not-some}
 use Rattle.tree_builder.specs.declared.Building.{Building}
 use Rattle.tree_builder.specs.declared.Step.{Step}
@@ -22,7 +22,7 @@ use Rattle.parse_table.proofs.Answers.{row-not-taken, on-top, push-room}
 use Rattle.parse_table.proofs.Bound.{Kept, out-kept}
 use Rattle.converter.specs.declared.actions.Names.{Names}
 use Rattle.converter.specs.declared.steps.Taken.{Taken}
-use Rattle.converter.specs.declared.steps.Taken.the-variants.{To, Stuck}
+use Rattle.converter.specs.declared.steps.Taken.the-variants.{Stuck}
 use Rattle.converter.specs.Doing.{AllMade, AllAnswered}
 use Rattle.converter.specs.Stepping.{withoutIt, leftBehind, Leavable, LeavesOut, WordOnTop, Standing, TakenSo, Steppable, Steps}
 use Rattle.converter.proofs.Taking.{words-after}

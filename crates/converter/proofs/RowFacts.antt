@@ -1,16 +1,14 @@
 -- What every row of the grammar's table keeps to, by computing: an action looks only at tokens that it is for, and the symbol behind a bare word comes only
 -- there. Assumes nothing.
-use mathlib.Core.Path.{_≡_, refl, sym, _∙_, ap, subst}
+use mathlib.Core.Path.{_≡_, refl, _∙_, ap, subst}
 use mathlib.Core.Bool.{Bool, true, false, not, _&&_, _||_}
-use mathlib.Core.List.{List, [], _∷_, _++_}
+use mathlib.Core.List.{List, [], _∷_}
 use mathlib.Core.Option.{Option, none, some}
-use native.Mathlib.Omega.{arith}
 use lib.Dec.{leb, eqb}
 use borrow.Author.Tests.{eqb-true}
 use Prim.Native.Nat.{ℕ, suc}
 use Rattle.rules.specs.Bytes.{pick}
 use Rattle.rules.proofs.Lists.{both-left, both-right}
-use Rattle.rules.proofs.Within.{false-not-true}
 use Rattle.lexer.specs.declared.Token.{Token}
 use Rattle.notation.specs.Tokens.{Lexeme, isAmong, aWord, aNumber, aText, aVariable, aQualified, trueWord, falseWord, question, leftBrace, rightBrace}
 use Rattle.notation.specs.Lexing.{find}
@@ -19,7 +17,7 @@ use Rattle.notation.specs.Grammar.{Entry, arm, attribute, parameter, Symbol, si
 use Rattle.notation.proofs.NeedsKept.{none-not-some, same-result}
 use Rattle.notation.proofs.TableRows.{rowsOf}
 use Rattle.converter.specs.declared.actions.Names.{Names}
-use Rattle.converter.specs.Doing.{Suits, SuitsAll, isInstead, noInstead, isConstant, onlyConstant}
+use Rattle.converter.specs.Doing.{Suits, SuitsAll, isInstead, noInstead, onlyConstant}
 use Rattle.converter.specs.Stepping.{Carried, isReadOrWord, noneBehindWord}
 
 -- the kinds of tokens that an action is for

@@ -2,26 +2,25 @@
 use mathlib.Core.Path.{_≡_, refl, sym, _∙_, ap, subst}
 use mathlib.Core.Bool.{Bool, true, false, not, _&&_}
 use mathlib.Core.List.{List, [], _∷_}
-use mathlib.Core.Option.{Option, none, some}
+use mathlib.Core.Option.{Option}
 use native.Mathlib.Omega.{arith}
 use lib.Dec.{eqb}
 use borrow.Author.Tests.{eqb-true, eqb-false}
 use lib.ListN.{length}
 use Prim.Native.Nat.{ℕ, _+_, _/_, _%_, _^_, _≤_, _<_}
 use Rattle.lexer.specs.declared.Token.{Token}
-use Rattle.notation.specs.Tokens.{Lexeme}
-use Rattle.notation.specs.Building.{Build, Action, instead, act, acts}
-use Rattle.rules.proofs.Lists.{both-left, both-right}
+use Rattle.notation.specs.Building.{Build, Action, acts}
+use Rattle.rules.proofs.Lists.{both-right}
 use Rattle.rules.proofs.Within.{false-not-true}
 use Rattle.parse_table.specs.Codes.{actionOf, actionsIn}
 use Rattle.parse_table.proofs.Answers.{first-action, no-action}
 use Rattle.tree_builder.specs.declared.Building.{Building}
 use Rattle.tree_builder.specs.declared.Step.{Step}
 use Rattle.tree_builder.specs.declared.Step.the-variants.{Did, No}
-use Rattle.tree_builder.specs.Shows.{Shows, Made, Answers, Does, IsWord, Ready}
+use Rattle.tree_builder.specs.Shows.{Answers, Does, IsWord}
 use Rattle.tree_builder.proofs.Ready.{ready}
 use Rattle.converter.specs.declared.actions.Names.{Names}
-use Rattle.converter.specs.Doing.{Suits, SuitsAll, Able, filled, AllMade, AllAnswered, isInstead, noInstead, WordRead, onlyConstant, noAction, WordsRead, DoesAll, Stands}
+use Rattle.converter.specs.Doing.{Suits, SuitsAll, Able, filled, AllAnswered, isInstead, noInstead, WordRead, onlyConstant, noAction, WordsRead, DoesAll, Stands}
 
 -- from a lower fill
 pub filled-more : (ds : List Action) (a b : ℕ) → a ≤ b → filled a ds ≤ filled b ds

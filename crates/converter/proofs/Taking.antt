@@ -2,7 +2,7 @@
 use mathlib.Core.Path.{_≡_, refl, sym, _∙_, ap, subst}
 use mathlib.Core.Bool.{Bool, true, false, not, _&&_, _||_}
 use mathlib.Core.List.{List, [], _∷_, _++_}
-use mathlib.Core.Option.{Option, none, some}
+use mathlib.Core.Option.{some}
 use native.Mathlib.Omega.{arith}
 use lib.Dec.{eqb}
 use lib.ListN.{length}
@@ -14,21 +14,19 @@ use Rattle.rules.proofs.Within.{false-not-true}
 use Rattle.lexer.specs.declared.Token.{Token}
 use Rattle.notation.specs.Tokens.{Lexeme, kind, tokenOf, aWord}
 use Rattle.notation.specs.Building.{Build, Action, acts}
-use Rattle.notation.specs.Grammar.{Symbol, row, rowOf, Stepped, stuck, to, toward, step}
+use Rattle.notation.specs.Grammar.{Symbol, row, rowOf, to, toward, step}
 use Rattle.tree_builder.specs.declared.Building.{Building}
 use Rattle.tree_builder.specs.declared.Step.{Step}
 use Rattle.tree_builder.specs.declared.Step.the-variants.{Did, No}
-use Rattle.tree_builder.specs.Shows.{Shows, IsWord}
-use Rattle.parse_table.specs.Codes.{symbolOf, symbolsIn, actionOf, actionsFrom, actionsIn, rowIn}
+use Rattle.tree_builder.specs.Shows.{IsWord}
+use Rattle.parse_table.specs.Codes.{symbolOf, symbolsIn, actionOf, actionsFrom, actionsIn}
 use Rattle.parse_table.specs.Stack.{stackOf, Pushed}
 use Rattle.parse_table.specs.declared.rows.Row.{Row}
 use Rattle.parse_table.proofs.Answers.{row-taken, first-action, no-action, on-top, push-room}
 use Rattle.converter.specs.declared.actions.Names.{Names}
-use Rattle.converter.specs.declared.steps.Machine.{Machine}
-use Rattle.converter.specs.declared.steps.Taken.{Taken}
 use Rattle.converter.specs.declared.steps.Taken.the-variants.{To, Stuck}
-use Rattle.converter.specs.Doing.{SuitsAll, filled, AllMade, AllAnswered, isInstead, noInstead, onlyConstant, WordsRead, DoesAll, Stands}
-use Rattle.converter.specs.Stepping.{Carried, isReadOrWord, noneBehindWord, WordOnTop, Standing, Onward, TakenSo, Steppable, Steps, TakenRow}
+use Rattle.converter.specs.Doing.{filled, AllAnswered, isInstead, noInstead, onlyConstant, WordsRead, DoesAll, Stands}
+use Rattle.converter.specs.Stepping.{isReadOrWord, noneBehindWord, WordOnTop, TakenSo, Steppable, Steps, TakenRow}
 use Rattle.converter.proofs.Sequence.{nine-instead}
 use Rattle.converter.proofs.RowFacts.{allFit, insteadFirst, wordFirst, rowFits, row-fits, suits-all}
 

@@ -1,9 +1,7 @@
 // The grammar's actions by their codes, each done to the tree in the making.
 ghost use mathlib.Core.Path.{_≡_};
-ghost use mathlib.Core.Bool.{true};
 ghost use mathlib.Core.List.{List};
 ghost use Prim.Native.Nat.{ℕ, _≤_, _<_};
-ghost use lib.ListN.{length};
 ghost use Rattle.notation.specs.Building.{constant as constantAction, read as readAction};
 ghost use Rattle.parse_table.specs.Codes.{actionOf, actionsIn};
 ghost use Rattle.tree_builder.specs.Shows.{Does, IsWord, Ready};

@@ -1,6 +1,5 @@
 // A step of the grammar's machine: one token.
-ghost use mathlib.Core.Path.{_≡_};
-ghost use Prim.Native.Nat.{_≤_, _<_};
+ghost use Prim.Native.Nat.{_<_};
 ghost use Rattle.parse_table.specs.Codes.{symbolOf};
 ghost use Rattle.converter.specs.Stepping.{Leavable, LeavesOut, Steppable, TakenRow, Steps};
 use crate::actions::Names;

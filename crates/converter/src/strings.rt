@@ -1,5 +1,5 @@
 // The strings of a token, entered in the table.
-ghost use Prim.Native.Nat.{_≤_, _<_};
+ghost use Prim.Native.Nat.{_<_};
 ghost use Rattle.notation.specs.Quoted.{stringFrom};
 ghost use Rattle.converter.specs.Entering.{Enterable, EnteredOne, EnteredBoth};
 use interner::enter;

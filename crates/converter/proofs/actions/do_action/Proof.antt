@@ -1,8 +1,6 @@
 -- `do_action`: the codes by their ranges.
 use mathlib.Core.Path.{refl}
-use mathlib.Core.List.{[], _∷_}
 use native.Mathlib.Omega.{arith}
-use Rattle.notation.specs.Building.{byte, begin, around, void}
 use Rattle.converter.specs.Doing.{Suits}
 use Rattle.converter.proofs.Doing.{by-other, code-around, code-void, code-begin}
 use borrow.Author.Needs.{needs}

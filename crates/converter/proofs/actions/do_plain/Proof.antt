@@ -1,7 +1,7 @@
 -- `do_plain`: each code.
 use mathlib.Core.Path.{refl}
 use mathlib.Core.List.{[]}
-use Rattle.notation.specs.Building.{Action, beginResource, around, instead, close, constant, read, named, parentFirst, enter as enterAction, leave as leaveAction}
+use Rattle.notation.specs.Building.{beginResource, around, instead, close, read, named, parentFirst, enter as enterAction, leave as leaveAction}
 use Rattle.parse_table.specs.Codes.{actionOf}
 use Rattle.tree_builder.proofs.Whole.{resource-begins}
 use Rattle.converter.specs.Doing.{Suits}
