@@ -6,3 +6,4 @@ pub mod Taking
 pub mod Passing
 pub mod Entering
 pub mod OtherTable
+pub mod Carrying
