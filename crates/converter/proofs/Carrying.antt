@@ -3,12 +3,14 @@ use mathlib.Core.Path.{_≡_, refl, sym, _∙_, ap}
 use mathlib.Core.Bool.{true, false}
 use mathlib.Core.List.{List, [], _∷_}
 use native.Mathlib.Omega.{arith}
-use Prim.Native.Nat.{ℕ}
+use lib.Dec.{eqb}
+use borrow.Author.Tests.{ne-eqb}
+use Prim.Native.Nat.{ℕ, _≤_, _<_}
 use Rattle.rules.proofs.Within.{false-not-true}
 use Rattle.lexer.specs.declared.Token.{Token}
-use Rattle.notation.specs.Tokens.{lexeme, word, number, text, variable, topVariable, classVariable, isAmong, aWord, aNumber, aText, aVariable, aQualified}
+use Rattle.notation.specs.Tokens.{lexeme, word, number, text, variable, topVariable, classVariable, mark, isAmong, aWord, aNumber, aText, aVariable, aQualified}
 use Rattle.notation.specs.Building.{constantNode, variableNode, spelled, resourceTag}
-use Rattle.tree_builder.specs.Shows.{numberIn, AnInteger, AName}
+use Rattle.tree_builder.specs.Shows.{numberIn, AnInteger, ABoolean, AName}
 use Rattle.converter.specs.declared.actions.Names.{Names}
 use Rattle.converter.specs.Stepping.{Carried}
 
@@ -88,3 +90,30 @@ module _ (r : Token) (ns : Names) (table : List (List ℕ)) where
         named = λ i. not-among 4 (0 ∷ 2 ∷ 3 ∷ []) e refl i;
         resource = λ i. not-among 4 (0 ∷ []) e refl i;
       }
+
+  -- a sign, a keyword, the end or a malformed piece
+  module _ (e : 5 ≤ r .kind) where
+    none-below : (k : ℕ) → k < 5 → eqb (r .kind) k ≡ false
+    none-below k l = ne-eqb (r .kind) k (λ z. omega arith)
+
+    pub carried-mark : Carried r ns table (lexeme (r .start) (r .line) (mark (r .kind)))
+    unfolding constantNode ABoolean
+    carried-mark =
+        let b0 = none-below 0 (omega arith) in
+        let b1 = none-below 1 (omega arith) in
+        let b2 = none-below 2 (omega arith) in
+        let b3 = none-below 3 (omega arith) in
+        let b4 = none-below 4 (omega arith) in
+        record {
+          same-kind = refl;
+          constants = λ i.
+              record {
+                integer = λ k. absurd (omega (arith, e, k));
+                true-word = λ k. rw k;
+                false-word = λ k. rw k;
+                string = λ a b c. false-not-true (rw (b0, b1, b2, ne-eqb (r .kind) 26 b, ne-eqb (r .kind) 27 c) at i);
+              };
+          variables = λ i. false-not-true (rw (b3, b4) at i);
+          named = λ i. false-not-true (rw (b0, b2, b3) at i);
+          resource = λ i. false-not-true (rw b0 at i);
+        }

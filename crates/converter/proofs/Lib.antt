@@ -7,3 +7,4 @@ pub mod Passing
 pub mod Entering
 pub mod OtherTable
 pub mod Carrying
+pub mod TokenKinds
