@@ -24,7 +24,7 @@ use Rattle.converter.specs.declared.actions.Names.{Names}
 use Rattle.converter.specs.declared.steps.Taken.{Taken}
 use Rattle.converter.specs.declared.steps.Taken.the-variants.{Stuck}
 use Rattle.converter.specs.Doing.{AllMade, AllAnswered}
-use Rattle.converter.specs.Stepping.{withoutIt, leftBehind, Leavable, LeavesOut, WordOnTop, Standing, TakenSo, Steppable, Steps}
+use Rattle.converter.specs.Stepping.{withoutIt, leftBehind, Leavable, LeavesOut, WordOnTop, WordFor, Standing, TakenSo, Steppable, Steps}
 use Rattle.converter.proofs.Taking.{words-after}
 
 -- what follows where a symbol is left out
@@ -43,6 +43,12 @@ step-left y k x f e = rw (step, e) (go (leftOut y))
     go : (o : Option (List Action)) → _≡_ {A = Stepped} (elim o as (λ o. Stepped) [ none ↦ stuck | some ds ↦ elim (acts ds x f) as (λ o. Stepped) [ none ↦ stuck | some g ↦ step k x g ] ]) (onward k x (withoutIt o x f))
     go none = refl
     go (some ds) = inner (acts ds x f)
+
+-- a word just read counts for every kind
+pub any-kind : (q : ℕ) (k : List Symbol) (s : Building) → WordOnTop k s → WordFor q k s
+unfolding WordOnTop WordFor
+any-kind q [] s w = tt
+any-kind q (y ∷ k) s w = (λ e i. w .0 e, w .1)
 
 -- the stack's height stays bounded
 left-kept : (y : Symbol) (k : List Symbol) (x : Lexeme) (f g : Build) → leftBehind y x f ≡ some g → Kept (y ∷ k) f → Kept k g
@@ -90,16 +96,16 @@ module _ (st m out : List ℕ) (s : Building) (top : ℕ) (t : Token) (ns : Name
 
       -- the machine stands with the symbols below
       standing-next : (table : List (List ℕ)) (f : Build) (x : Lexeme) (z : Standing st m out s top t ns table f x) → Standing st m′ out′ next (top - 1) t ns table (made table f x z .made) x
-      unfolding WordOnTop
+      unfolding WordFor
       standing-next table f x z =
           let w = made table f x z in
-          let words : WordOnTop (topSymbol ∷ stackOf st (top - 1)) s = subst (λ (k : List Symbol). WordOnTop k s) stacked (z .words) in
+          let words : WordFor (t .kind) (topSymbol ∷ stackOf st (top - 1)) s = subst (λ (k : List Symbol). WordFor (t .kind) k s) stacked (z .words) in
           let kept : Kept (topSymbol ∷ stackOf st (top - 1)) f = subst (λ (k : List Symbol). Kept k f) stacked (z .kept) in
           record {
             shows = w .shows;
             carried = z .carried;
             kept = left-kept topSymbol (stackOf st (top - 1)) x f (w .made) (w .is) kept;
-            words = words-after 1 [] [] (stackOf st (top - 1)) next refl (words .1) (λ one k. absurd (omega arith));
+            words = any-kind (t .kind) (stackOf st (top - 1)) next (words-after 1 [] [] (stackOf st (top - 1)) next refl (words .1) (λ one k. absurd (omega arith)));
             low = omega (arith, z .low, w .grown);
           }
 

@@ -10,7 +10,7 @@ use Prim.Native.Nat.{ℕ, suc}
 use Rattle.rules.specs.Bytes.{pick}
 use Rattle.rules.proofs.Lists.{both-left, both-right}
 use Rattle.lexer.specs.declared.Token.{Token}
-use Rattle.notation.specs.Tokens.{Lexeme, isAmong, aWord, aNumber, aText, aVariable, aQualified, trueWord, falseWord, question, leftBrace, rightBrace}
+use Rattle.notation.specs.Tokens.{Lexeme, isAmong, aWord, aNumber, aText, aVariable, aQualified, trueWord, falseWord, leftSquare, question, leftBrace, rightBrace}
 use Rattle.notation.specs.Lexing.{find}
 use Rattle.notation.specs.Building.{byte, Action, begin, beginResource, around, instead, close, constant, read, named, parentFirst, void, enter, leave}
 use Rattle.notation.specs.Grammar.{Entry, arm, attribute, parameter, Symbol, sign, aName, expression, operators, readOrWord, closeBracket, one, maybe, further, statements, block, otherwise, branches, items, classRest, parameters, defaultValue, aConstant, inherits, parent, devices, device, moreDevices, ends, Row, row, operatorByte, operatorRow, operatorIn, binds, rowOf}
@@ -25,7 +25,7 @@ abbrev pub fits : ℕ → Action → Bool
 fits k (begin t) = true
 fits k beginResource = isAmong k (aWord ∷ [])
 fits k (around t h) = true
-fits k (instead t) = true
+fits k (instead t) = isAmong k (leftSquare ∷ [])
 fits k close = true
 fits k constant = isAmong k (aWord ∷ aNumber ∷ aText ∷ trueWord ∷ falseWord ∷ [])
 fits k read = isAmong k (aVariable ∷ aQualified ∷ [])

@@ -13,7 +13,7 @@ use Rattle.rules.proofs.Lists.{both-left, both-right}
 use Rattle.rules.proofs.Within.{false-not-true}
 use Rattle.lexer.specs.declared.Token.{Token}
 use Rattle.notation.specs.Tokens.{Lexeme, kind, tokenOf, aWord}
-use Rattle.notation.specs.Building.{Build, Action, acts}
+use Rattle.notation.specs.Building.{Build, Action, instead, acts}
 use Rattle.notation.specs.Grammar.{Symbol, row, rowOf, to, toward, step}
 use Rattle.tree_builder.specs.declared.Building.{Building}
 use Rattle.tree_builder.specs.declared.Step.{Step}
@@ -26,9 +26,9 @@ use Rattle.parse_table.proofs.Answers.{row-taken, first-action, no-action, on-t
 use Rattle.converter.specs.declared.actions.Names.{Names}
 use Rattle.converter.specs.declared.steps.Taken.the-variants.{To, Stuck}
 use Rattle.converter.specs.Doing.{filled, AllAnswered, isInstead, noInstead, onlyConstant, WordsRead, DoesAll, Stands}
-use Rattle.converter.specs.Stepping.{isReadOrWord, noneBehindWord, WordOnTop, TakenSo, Steppable, Steps, TakenRow}
+use Rattle.converter.specs.Stepping.{isReadOrWord, noneBehindWord, WordOnTop, WordFor, TakenSo, Steppable, Steps, TakenRow}
 use Rattle.converter.proofs.Sequence.{nine-instead}
-use Rattle.converter.proofs.RowFacts.{allFit, insteadFirst, wordFirst, rowFits, row-fits, suits-all}
+use Rattle.converter.proofs.RowFacts.{fits, allFit, insteadFirst, wordFirst, rowFits, row-fits, suits-all}
 
 -- at most four actions
 filled-by : (b n x : ℕ) → filled n (actionsFrom b x) ≤ n + 12 * b
@@ -62,6 +62,19 @@ first-instead y n small h = go (eqb n 0) refl
         let ds = actionsIn (n / 256) in
         let parts : ((not (isInstead a) || isReadOrWord y) && noInstead ds) ≡ true = sym (ap (insteadFirst y) (first-action n small (eqb-false n 0 e))) ∙ h in
         (λ nine. or-else (isInstead a) (isReadOrWord y) (nine-instead (n % 256) nine) (both-left (not (isInstead a) || isReadOrWord y) (noInstead ds) parts), both-right (not (isInstead a) || isReadOrWord y) (noInstead ds) parts)
+
+-- and the token is a square bracket
+instead-kind : (k n : ℕ) → n < 2 ^ 32 → allFit k (actionsIn n) ≡ true → n % 256 ≡ 9 → k ≡ 11
+instead-kind k n small h nine =
+    let some-left : n ≡ 0 → ⊥ = λ z. omega arith in
+    let a = actionOf (n % 256) in
+    let first = both-left (fits k a) (allFit k (actionsIn (n / 256))) (sym (ap (allFit k) (first-action n small some-left)) ∙ h) in
+    let is-nine : actionOf 9 ≡ instead 0x18 = unfold actionOf in refl in
+    go (eqb k 11) refl (sym (ap (fits k) (ap actionOf nine ∙ is-nine)) ∙ first)
+  where
+    go : (b : Bool) → eqb k 11 ≡ b → (b || false) ≡ true → k ≡ 11
+    go true e i = eqb-true k 11 e
+    go false e i = false-not-true i
 
 -- a step by a row
 step-taken : (y : Symbol) (k : List Symbol) (x : Lexeme) (f : Build) (ds : List Action) (ss : List Symbol) → rowOf y (kind (tokenOf x)) ≡ some (row ds ss) → step (y ∷ k) x f ≡ toward (ss ++ k) (acts ds x f)
@@ -118,11 +131,11 @@ module _ (st m out : List ℕ) (s : Building) (top : ℕ) (t : Token) (ns : Name
 
   -- the actions may be done
   pub stands-row : w .actions < 2 ^ 32 → Steppable st m out s top t ns → Stands m out s (w .actions) t ns
-  unfolding WordOnTop
+  unfolding WordFor
   stands-row small h =
       let z = h .standing in
       let first = first-instead topSymbol (w .actions) small (both-left fit₂ fit₃ (both-right fit₁ (fit₂ && fit₃) fit)) in
-      let words : WordOnTop (topSymbol ∷ below) s = subst (λ (k : List Symbol). WordOnTop k s) stacked (z .words) in
+      let words : WordFor (t .kind) (topSymbol ∷ below) s = subst (λ (k : List Symbol). WordFor (t .kind) k s) stacked (z .words) in
       record {
         table = h .table;
         tree = h .tree;
@@ -132,7 +145,7 @@ module _ (st m out : List ℕ) (s : Building) (top : ℕ) (t : Token) (ns : Name
         slots = h .slots;
         low = omega (arith, z .low, filled-four (s .fill) (w .actions));
         place = h .place;
-        word = λ e. words .0 (first .0 e);
+        word = λ e. words .0 (first .0 e) (instead-kind (t .kind) (w .actions) small (both-left fit₁ (fit₂ && fit₃) fit) e);
         once = first .1;
       }
 
@@ -154,11 +167,11 @@ module _ (st m out : List ℕ) (s : Building) (top : ℕ) (t : Token) (ns : Name
 
   -- they are done, and the symbols are put
   pub row-onward : (a : Step) (next : Building) (above : ℕ) (st′ m′ out′ : List ℕ) → a ≡ Did next → DoesAll t ns (actionsIn (w .actions)) s m out a m′ out′ → WordsRead (actionsIn (w .actions)) t s a → Pushed st st′ top (w .symbols) above → Steps t ns s top st m out (To (record { top = above; building = next })) st′ m′ out′
-  unfolding Steps TakenSo DoesAll AllAnswered WordOnTop IsWord
+  unfolding Steps TakenSo DoesAll AllAnswered WordFor IsWord
   row-onward a next above st′ m′ out′ e given reads pushed table f x z =
       let does : DoesAll t ns (actionsIn (w .actions)) s m out (Did next) m′ out′ = subst (λ (b : Step). DoesAll t ns (actionsIn (w .actions)) s m out b m′ out′) e given in
       let made = does table f x (suits-all t ns table x (z .carried) (actionsIn (w .actions)) (both-left fit₁ (fit₂ && fit₃) fit)) (z .shows) in
-      let words : WordOnTop (topSymbol ∷ below) s = subst (λ (k : List Symbol). WordOnTop k s) stacked (z .words) in
+      let words : WordFor (t .kind) (topSymbol ∷ below) s = subst (λ (k : List Symbol). WordFor (t .kind) k s) stacked (z .words) in
       let word : onlyConstant (actionsIn (w .actions)) ≡ true → t .kind ≡ aWord → next .word ≡ true = λ one k. subst IsWord e (reads .word one k) in
       let after = words-after (t .kind) (actionsIn (w .actions)) (symbolsIn (w .symbols)) below next (both-right fit₂ fit₃ (both-right fit₁ (fit₂ && fit₃) fit)) (words .1) word in
       record {

@@ -6,7 +6,7 @@ use mathlib.Core.List.{List, [], _∷_}
 use mathlib.Core.Option.{Option, none, some}
 use lib.ListN.{length}
 use Rattle.lexer.specs.declared.Token.{Token}
-use Rattle.notation.specs.Tokens.{Lexeme, kind, tokenOf, isAmong, aWord, aNumber, aText, aVariable, aQualified, trueWord, falseWord}
+use Rattle.notation.specs.Tokens.{Lexeme, kind, tokenOf, isAmong, aWord, aNumber, aText, aVariable, aQualified, leftSquare, trueWord, falseWord}
 use Rattle.notation.specs.Building.{Build, Action, spelled, resourceTag, acts}
 use Rattle.notation.specs.Grammar.{Symbol, sign, aName, expression, operators, readOrWord, closeBracket, one, maybe, further, statements, block, otherwise, branches, items, classRest, parameters, defaultValue, aConstant, inherits, parent, devices, device, moreDevices, ends, leftOut, rowOf, Stepped, stuck, to, step}
 use Rattle.rules.specs.Bytes.{byte}
@@ -91,6 +91,11 @@ unfoldable pub WordOnTop : List Symbol → Building → Type 0
 WordOnTop [] s = Unit {0}
 WordOnTop (y ∷ k) s = (isReadOrWord y ≡ true → s .word ≡ true) × (noneBehindWord k ≡ true)
 
+-- the same for a token of kind k: the word counts only where an attribute read begins
+unfoldable pub WordFor : (kind : ℕ) → List Symbol → Building → Type 0
+WordFor k [] s = Unit {0}
+WordFor k (y ∷ ys) s = (isReadOrWord y ≡ true → k ≡ leftSquare → s .word ≡ true) × (noneBehindWord ys ≡ true)
+
 -- ---- A step
 
 -- the stack, the tree and the token in hand are a state of the machine: these symbols, this tree, this token
@@ -98,7 +103,7 @@ pub record Standing (stack frames out : List ℕ) (s : Building) (top : ℕ) (r 
   pub shows : Shows table s frames out f
   pub carried : Carried r ns table x
   pub kept : Kept (stackOf stack top) f
-  pub words : WordOnTop (stackOf stack top) s
+  pub words : WordFor (r .kind) (stackOf stack top) s
   pub low : s .fill + 12 * top ≤ 1000000
 
 -- it goes on from these symbols and this tree
