@@ -1,0 +1,31 @@
+-- `write_text`: a string, unless the text is too long already.
+use native.Mathlib.Omega.{arith}
+use mathlib.Core.Path.{ap}
+use Rattle.notation.specs.Tokens.{text}
+use Rattle.printer.proofs.OneToken.{stays, ready, writes-as, string-short}
+use borrow.Author.Needs.{needs}
+use Rattle.printer.proofs.tokens.write_text.Statement.{statement}
+use Rattle.printer.proofs.tokens.write_text.Tie as tie
+
+is-full-requires : tie.Need-is-full-requires
+is-full-requires c κs = search needs
+
+returns : tie.Need-returns
+returns c = stays (c .before .is-full .ensures) (c .if1 .taken)
+
+string-at-requires : tie.Need-string-at-requires
+string-at-requires c κs = search needs
+
+put-text-requires : tie.Need-put-text-requires
+put-text-requires c κs = (ready (c .before .before .before .is-full .ensures) (c .before .before .if1 .left), string-short _ _ (c .string-at .ensures) (c .before .before .before .before .before .before .before .pre .short))
+
+same-length : tie.Need-same-length
+same-length c = search needs
+
+returns-2 : tie.Need-returns-2
+returns-2 c = writes-as (text _) (omega arith) (ap text (c .before .before .before .string-at .ensures)) (c .before .before .before .before .before .before .is-full .ensures) (c .before .before .before .before .before .if1 .left) (c .before .before .put-text .ensures)
+
+pub write-text-spec : {M : Type 1} → statement M
+write-text-spec =
+    tie.close
+    (tie.spec is-full-requires returns string-at-requires put-text-requires same-length returns-2)

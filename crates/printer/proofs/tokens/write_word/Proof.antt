@@ -1,0 +1,31 @@
+-- `write_word`: a name, unless the text is too long already.
+use native.Mathlib.Omega.{arith}
+use mathlib.Core.Path.{ap}
+use Rattle.notation.specs.Tokens.{word}
+use Rattle.printer.proofs.OneToken.{stays, ready, writes-as, string-short}
+use borrow.Author.Needs.{needs}
+use Rattle.printer.proofs.tokens.write_word.Statement.{statement}
+use Rattle.printer.proofs.tokens.write_word.Tie as tie
+
+is-full-requires : tie.Need-is-full-requires
+is-full-requires c κs = search needs
+
+returns : tie.Need-returns
+returns c = stays (c .before .is-full .ensures) (c .if1 .taken)
+
+string-at-requires : tie.Need-string-at-requires
+string-at-requires c κs = search needs
+
+put-word-requires : tie.Need-put-word-requires
+put-word-requires c κs = (ready (c .before .before .before .is-full .ensures) (c .before .before .if1 .left), string-short _ _ (c .string-at .ensures) (c .before .before .before .before .before .before .before .pre .short))
+
+same-length : tie.Need-same-length
+same-length c = search needs
+
+returns-2 : tie.Need-returns-2
+returns-2 c = writes-as (word _) (omega arith) (ap word (c .before .before .before .string-at .ensures)) (c .before .before .before .before .before .before .is-full .ensures) (c .before .before .before .before .before .if1 .left) (c .before .before .put-word .ensures)
+
+pub write-word-spec : {M : Type 1} → statement M
+write-word-spec =
+    tie.close
+    (tie.spec is-full-requires returns string-at-requires put-word-requires same-length returns-2)
