@@ -13,7 +13,7 @@ use syntax::Found;
 use wire::end_of;
 
 mod names; // names.rt: names in the notation
-mod fields; // fields.rt: one field
+pub mod fields; // fields.rt: one field
 
 // The place of the first field that cannot be printed. `table` is the index of the strings.
 pub fn first_unprintable(manifest: &[u8], table: &[u8], strings: u16) -> Found

@@ -1,1 +1,3 @@
 pub mod OneToken
+pub mod FirstLabel
+pub mod ConstantTokens

@@ -1,2 +1,3 @@
 // A manifest as text.
 mod tokens; // tokens.rt: one token, unless the text is too long already
+mod constants; // constants.rt: constants, and the line on which a form begins
