@@ -1,3 +1,4 @@
 pub mod OneToken
 pub mod FirstLabel
 pub mod ConstantTokens
+pub mod OperatorSigns

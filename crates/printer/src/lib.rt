@@ -1,3 +1,4 @@
 // A manifest as text.
 mod tokens; // tokens.rt: one token, unless the text is too long already
 mod constants; // constants.rt: constants, and the line on which a form begins
+mod signs; // signs.rt: operators, brackets, commas and variables
