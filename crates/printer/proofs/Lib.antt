@@ -2,3 +2,5 @@ pub mod OneToken
 pub mod FirstLabel
 pub mod ConstantTokens
 pub mod OperatorSigns
+pub mod PrintedExpressions
+pub mod PrintedArms

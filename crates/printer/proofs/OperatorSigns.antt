@@ -1,19 +1,20 @@
 -- Operators by their numbers; brackets and commas, where they are wanted.
-use Prim.Native.Nat.{ℕ, _+_}
+use Prim.Native.Nat.{ℕ, _+_, _≤_, _<_}
 use mathlib.Core.Path.{_≡_, refl, sym, ap, _∙_, subst}
 use mathlib.Core.Bool.{Bool, true, false}
 use mathlib.Core.List.{List, [], _∷_}
+use native.Mathlib.Omega.{arith}
 use lib.Dec.{eqb}
 use borrow.Author.Tests.{ne-eqb}
 use Rattle.rules.specs.Bytes.{byte, two}
-use Rattle.rules.specs.Tree.{plus, minus, divide, greater, equal, and, or, Expression}
+use Rattle.rules.specs.Tree.{Operator, plus, minus, divide, greater, equal, and, or, Expression}
 use Rattle.rules.specs.Read.{entryFor, operators, operatorFrom}
 use Rattle.rules.specs.declared.Kind.the-variants.{Expression as ExpressionKind}
 use Rattle.rules.proofs.Within.{false-not-true}
 use Rattle.places.specs.At.{expressionAt, StandsAs}
 use Rattle.places.proofs.Expressions.{variable-opens, top-variable-opens, class-variable-opens}
 use Rattle.notation.specs.Tokens
-use Rattle.notation.specs.Print.{at, the, separated, printed}
+use Rattle.notation.specs.Print.{at, the, operatorKind, levelOf, separated, printed}
 use Rattle.token_writer.specs.declared.Pen.{Pen}
 use Rattle.printer.specs.Passing.{Passes}
 use Rattle.printer.specs.Brackets.{opened, closed}
@@ -43,6 +44,34 @@ pub last-operator : (n : ℕ) → (n ≡ 0 → ⊥) → (n ≡ 1 → ⊥) → (n
 unfolding operatorFrom operators
 last-operator n a b c d e f =
     other-entry 0 n plus ((1, minus) ∷ (2, divide) ∷ (3, greater) ∷ (4, equal) ∷ (5, and) ∷ (6, or) ∷ []) or a ∙ other-entry 1 n minus ((2, divide) ∷ (3, greater) ∷ (4, equal) ∷ (5, and) ∷ (6, or) ∷ []) or b ∙ other-entry 2 n divide ((3, greater) ∷ (4, equal) ∷ (5, and) ∷ (6, or) ∷ []) or c ∙ other-entry 3 n greater ((4, equal) ∷ (5, and) ∷ (6, or) ∷ []) or d ∙ other-entry 4 n equal ((5, and) ∷ (6, or) ∷ []) or e ∙ other-entry 5 n and ((6, or) ∷ []) or f ∙ last-entry 6 n or
+
+-- their signs and keywords
+pub kind-range : (n : ℕ) {k : ℕ} → k ≡ operatorKind (operatorFrom n) → (7 ≤ k) × (k ≤ 36)
+unfolding operatorKind
+kind-range n {k} e = go (operatorFrom n) e
+  where
+    go : (o : Operator) → k ≡ operatorKind o → (7 ≤ k) × (k ≤ 36)
+    go plus e = (omega arith, omega arith)
+    go minus e = (omega arith, omega arith)
+    go divide e = (omega arith, omega arith)
+    go greater e = (omega arith, omega arith)
+    go equal e = (omega arith, omega arith)
+    go and e = (omega arith, omega arith)
+    go or e = (omega arith, omega arith)
+
+-- the level above that of an operator is a byte
+pub level-small : (n : ℕ) {l : ℕ} → l ≡ levelOf (operatorFrom n) → l + 1 < 256
+unfolding levelOf
+level-small n {l} e = go (operatorFrom n) e
+  where
+    go : (o : Operator) → l ≡ levelOf o → l + 1 < 256
+    go plus e = omega arith
+    go minus e = omega arith
+    go divide e = omega arith
+    go greater e = omega arith
+    go equal e = omega arith
+    go and e = omega arith
+    go or e = omega arith
 
 -- ---- Brackets and commas
 

@@ -1,3 +1,4 @@
 pub mod Passing
 pub mod Labels
 pub mod Brackets
+pub mod Forms
