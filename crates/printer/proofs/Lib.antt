@@ -4,3 +4,4 @@ pub mod ConstantTokens
 pub mod OperatorSigns
 pub mod PrintedExpressions
 pub mod PrintedArms
+pub mod PrintedEntries

@@ -2,12 +2,13 @@
 use Prim.Native.Nat.{ℕ}
 use mathlib.Core.Path.{_≡_}
 use mathlib.Core.Bool.{Bool, true}
-use mathlib.Core.List.{List}
+use mathlib.Core.List.{List, _∷_}
 use Rattle.wire.specs.Bytes.{byte}
 use Rattle.rules.specs.Tree.{Arms}
 use Rattle.rules.specs.declared.Kind.the-variants.{Expression}
 use Rattle.places.specs.At.{armAt, StandsAs}
-use Rattle.notation.specs.Print.{Rest, printedArms}
+use Rattle.notation.specs.Tokens.{Lexeme}
+use Rattle.notation.specs.Print.{Rest, printedArms, printedEntries}
 use Rattle.token_writer.specs.declared.Pen.{Pen}
 use Rattle.printer.specs.Passing.{Source, Going}
 
@@ -20,3 +21,7 @@ pub record Here (m table : List ℕ) (strings d p t : ℕ) : Type 0 where
 -- the arm at q is written, whatever arms come after it
 pub record ArmPasses (S : ℕ → List ℕ) (m : List ℕ) (d q : ℕ) (later : Bool) (out out′ : List ℕ) (pen pen′ : Pen) : Type 0 where
   pub goes : (after : Arms) (out₀ whole : List ℕ) (rest : Rest) → Going out₀ out pen whole (printedArms S (armAt m d q after) later (pen .line) rest) → Going out₀ out′ pen′ whole (printedArms S after true (pen′ .line) rest)
+
+-- an entry, which p prints, is written, whatever entries come after it
+pub record EntryPasses {A : Type 0} (p : A → ℕ → Rest → List Lexeme) (x : A) (later : Bool) (out out′ : List ℕ) (pen pen′ : Pen) : Type 0 where
+  pub goes : (after : List A) (out₀ whole : List ℕ) (rest : Rest) → Going out₀ out pen whole (printedEntries p (x ∷ after) later (pen .line) rest) → Going out₀ out′ pen′ whole (printedEntries p after true (pen′ .line) rest)
