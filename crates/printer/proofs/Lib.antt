@@ -5,3 +5,4 @@ pub mod OperatorSigns
 pub mod PrintedExpressions
 pub mod PrintedArms
 pub mod PrintedEntries
+pub mod PlainStatements

@@ -5,7 +5,7 @@ use mathlib.Core.Bool.{Bool, true}
 use mathlib.Core.List.{List, _∷_}
 use Rattle.wire.specs.Bytes.{byte}
 use Rattle.rules.specs.Tree.{Arms}
-use Rattle.rules.specs.declared.Kind.the-variants.{Expression}
+use Rattle.rules.specs.declared.Kind.the-variants.{Expression, Statement}
 use Rattle.places.specs.At.{armAt, StandsAs}
 use Rattle.notation.specs.Tokens.{Lexeme}
 use Rattle.notation.specs.Print.{Rest, printedArms, printedEntries}
@@ -25,3 +25,9 @@ pub record ArmPasses (S : ℕ → List ℕ) (m : List ℕ) (d q : ℕ) (later : 
 -- an entry, which p prints, is written, whatever entries come after it
 pub record EntryPasses {A : Type 0} (p : A → ℕ → Rest → List Lexeme) (x : A) (later : Bool) (out out′ : List ℕ) (pen pen′ : Pen) : Type 0 where
   pub goes : (after : List A) (out₀ whole : List ℕ) (rest : Rest) → Going out₀ out pen whole (printedEntries p (x ∷ after) later (pen .line) rest) → Going out₀ out′ pen′ whole (printedEntries p after true (pen′ .line) rest)
+
+-- at p stands a statement with the tag t and d levels left
+pub record StatementHere (m table : List ℕ) (strings d p t : ℕ) : Type 0 where
+  pub source : Source m table strings
+  pub stands : StandsAs m d Statement p
+  pub tag : byte m p ≡ t

@@ -4,3 +4,4 @@ mod constants; // constants.rt: constants, and the line on which a form begins
 mod signs; // signs.rt: operators, brackets, commas and variables
 mod expressions; // expressions.rt: expressions and their arms
 mod attributes; // attributes.rt: attributes of a resource or a class
+mod plain; // plain.rt: statements without blocks

@@ -1,0 +1,67 @@
+-- Statements without blocks: each is written when its parts are, one after the other. Assumes nothing.
+use Prim.Native.Nat.{ℕ, suc, _+_}
+use mathlib.Core.Path.{_≡_, sym, subst}
+use mathlib.Core.Bool.{false}
+use mathlib.Core.List.{List, _∷_}
+use native.Mathlib.Omega.{arith}
+use Rattle.rules.specs.Bytes.{two, endOf, fieldsIn}
+use Rattle.rules.specs.Tree.{Statement, AttributeField}
+use Rattle.places.specs.At.{expressionAt, attributesAt, statementAt}
+use Rattle.places.proofs.Statements.{AssignmentAt, assignment-opens, include-opens}
+use Rattle.notation.specs.Tokens
+use Rattle.notation.specs.Print.{at, the, printed, printedEntries, printedAttribute, printedAttributes, printedResource, printedStatement}
+use Rattle.token_writer.specs.declared.Pen.{Pen}
+use Rattle.printer.specs.Passing.{Passes}
+use Rattle.printer.specs.Forms.{StatementHere}
+use Rattle.printer.proofs.PrintedExpressions.{one-above}
+
+pub assignment-here : {m table : List ℕ} {strings b p : ℕ} → StatementHere m table strings (b + 1) p 0x21 → AssignmentAt m (b + 1) b p
+assignment-here {b = b} h = assignment-opens (h .stands .stands) (one-above b) (h .tag)
+
+module _ (S : ℕ → List ℕ) (m : List ℕ) where
+  -- a statement that is known by another name
+  pub statement-as : (v : ℕ) {a b : List ℕ} {pen pen′ : Pen} {x y : Statement} → y ≡ x → Passes a b pen pen′ (printedStatement S x v) → Passes a b pen pen′ (printedStatement S y v)
+  statement-as v {a} {b} {pen} {pen′} e h = subst (λ (z : Statement). Passes a b pen pen′ (printedStatement S z v)) (sym e) h
+
+  pub assignment-passes : (line : ℕ) {a b c d : List ℕ} {pen q r pen′ : Pen} {n i p k : ℕ}
+      → AssignmentAt m n i p → k ≡ two m (p + 3) → Passes a b pen q (λ rest. at line (Tokens.variable (S k)) ∷ rest line) → Passes b c q r (λ rest. the (q .line) 23 ∷ rest (q .line)) → Passes c d r pen′ (printed S (expressionAt m i (p + 5)) 1 (r .line))
+      → Passes a d pen pen′ (printedStatement S (statementAt m n p) line)
+  unfolding printedStatement
+  assignment-passes line {a} {b} {pen = pen} {q = q} {i = i} {p = p} o ek name sign value =
+      let named : Passes a b pen q (λ rest. at line (Tokens.variable (S (two m (p + 3)))) ∷ rest line) = subst (λ (y : ℕ). Passes a b pen q (λ rest. at line (Tokens.variable (S y)) ∷ rest line)) ek name in
+      statement-as line (o .tree)
+      (record {
+        goes = λ x w k g.
+            value .goes x w k
+            (sign .goes x w (λ u. printed S (expressionAt m i (p + 5)) 1 u k)
+            (named .goes x w (λ u. the u 23 ∷ printed S (expressionAt m i (p + 5)) 1 u k) g));
+      })
+
+  pub include-passes : (line : ℕ) {table : List ℕ} {strings : ℕ} {a b c : List ℕ} {pen q pen′ : Pen} {n p k : ℕ}
+      → StatementHere m table strings n p 0x29 → k ≡ two m (p + 3) → Passes a b pen q (λ rest. the line 33 ∷ rest line) → Passes b c q pen′ (λ rest. at (q .line) (Tokens.word (S k)) ∷ rest (q .line))
+      → Passes a c pen pen′ (printedStatement S (statementAt m n p) line)
+  unfolding printedStatement
+  include-passes line {b = b} {c = c} {q = q} {pen′ = pen′} {p = p} h ek word name =
+      let named : Passes b c q pen′ (λ rest. at (q .line) (Tokens.word (S (two m (p + 3)))) ∷ rest (q .line)) = subst (λ (y : ℕ). Passes b c q pen′ (λ rest. at (q .line) (Tokens.word (S y)) ∷ rest (q .line))) ek name in
+      statement-as line (include-opens (h .stands .stands) (h .tag))
+      (record { goes = λ x w k g. named .goes x w k (word .goes x w (λ u. at u (Tokens.word (S (two m (p + 3)))) ∷ k u) g) })
+
+  pub resource-passes : (line d p x y z : ℕ) {a b c e f g h : List ℕ} {pen q r s t u pen′ : Pen}
+      → x ≡ two m (p + 3) → y ≡ endOf m (p + 5) → z ≡ endOf m p
+      → Passes a b pen q (λ rest. at line (Tokens.word (S x)) ∷ rest line) → Passes b c q r (λ rest. the (q .line) 7 ∷ rest (q .line)) → Passes c e r s (printed S (expressionAt m d (p + 5)) 1 (r .line))
+      → Passes e f s t (λ rest. the (s .line) 13 ∷ rest (s .line)) → Passes f g t u (printedAttributes S (attributesAt m d (fieldsIn m y z)) (t .line)) → Passes g h u pen′ (λ rest. the (u .line) 8 ∷ rest (u .line))
+      → Passes a h pen pen′ (printedResource S (two m (p + 3)) (expressionAt m d (p + 5)) (attributesAt m d (fieldsIn m (endOf m (p + 5)) (endOf m p))) line)
+  resource-passes line d p x y z {a} {b} {f = f} {g = g} {pen = pen} {q = q} {t = t} {u = u} ex ey ez kind begin title colon all close =
+      let fs : List AttributeField = attributesAt m d (fieldsIn m (endOf m (p + 5)) (endOf m p)) in
+      let there : attributesAt m d (fieldsIn m y z) ≡ fs = (λ j. attributesAt m d (fieldsIn m (ey j) (ez j))) in
+      let every : Passes f g t u (printedAttributes S fs (t .line)) = subst (λ (n : List AttributeField). Passes f g t u (printedAttributes S n (t .line))) there all in
+      let named : Passes a b pen q (λ rest. at line (Tokens.word (S (two m (p + 3)))) ∷ rest line) = subst (λ (n : ℕ). Passes a b pen q (λ rest. at line (Tokens.word (S n)) ∷ rest line)) ex kind in
+      record {
+        goes = λ o w k i.
+            close .goes o w k
+            (every .goes o w (λ n. the n 8 ∷ k n)
+            (colon .goes o w (λ n. printedAttributes S fs n (λ j. the j 8 ∷ k j))
+            (title .goes o w (λ n. the n 13 ∷ printedAttributes S fs n (λ j. the j 8 ∷ k j))
+            (begin .goes o w (λ n. printed S (expressionAt m d (p + 5)) 1 n (λ l. the l 13 ∷ printedAttributes S fs l (λ j. the j 8 ∷ k j)))
+            (named .goes o w (λ n. the n 7 ∷ printed S (expressionAt m d (p + 5)) 1 n (λ l. the l 13 ∷ printedAttributes S fs l (λ j. the j 8 ∷ k j))) i)))));
+      }
