@@ -57,7 +57,7 @@ line-join [] ys v = refl
 line-join (x ∷ xs) ys v = refl
 
 -- siblings go forward
-siblings-within : {m : List ℕ} {d q f : ℕ} {k : Kind} → Siblings m d k q f → q ≤ f
+pub siblings-within : {m : List ℕ} {d q f : ℕ} {k : Kind} → Siblings m d k q f → q ≤ f
 siblings-within ended = omega arith
 siblings-within (sibling before s r) = omega arith
 
@@ -65,7 +65,7 @@ siblings-within (sibling before s r) = omega arith
 
 module _ (m : List ℕ) (e v : ℕ) where
   -- the next field behind one with the tag t, whose parts begin at r
-  next-is : (q t r : ℕ) → byte m q ≡ t → q + 3 + stride (formOf t .rest) (headSize (formOf t)) (two m (q + 1)) ≡ r → isConstant t ≡ false → q < e → firstLabel m q e v ≡ firstLabel m r e v
+  pub next-is : (q t r : ℕ) → byte m q ≡ t → q + 3 + stride (formOf t .rest) (headSize (formOf t)) (two m (q + 1)) ≡ r → isConstant t ≡ false → q < e → firstLabel m q e v ≡ firstLabel m r e v
   next-is q t r is next other l =
       label-later m e v q l (ap isConstant is ∙ other)
       ∙ ap (λ (x : ℕ). firstLabel m (q + 3 + stride (formOf x .rest) (headSize (formOf x)) (two m (q + 1))) e v) is
@@ -75,7 +75,7 @@ module _ (m : List ℕ) (e v : ℕ) where
   abbrev ExpressionLabel : ℕ → Type 0
   ExpressionLabel d = (p : ℕ) → StandsAs m d ExpressionKind p → endOf m p ≤ e → firstLabel m p e v ≡ lineFor (constantsOf (expressionAt m d p)) (firstLabel m (endOf m p) e v)
 
-  constant-label : (d p : ℕ) → StandsAs m d ConstantKind p → endOf m p ≤ e → firstLabel m p e v ≡ byte m (p + 3)
+  pub constant-label : (d p : ℕ) → StandsAs m d ConstantKind p → endOf m p ≤ e → firstLabel m p e v ≡ byte m (p + 3)
   unfolding allowed
   constant-label d p s l = label-here m e v p (omega arith) (s .kind)
 

@@ -6,3 +6,4 @@ pub mod PrintedExpressions
 pub mod PrintedArms
 pub mod PrintedEntries
 pub mod PlainStatements
+pub mod StatementLabels
