@@ -7,3 +7,4 @@ pub mod PrintedArms
 pub mod PrintedEntries
 pub mod PlainStatements
 pub mod StatementLabels
+pub mod PrintedStatements
