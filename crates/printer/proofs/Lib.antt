@@ -8,3 +8,4 @@ pub mod PrintedEntries
 pub mod PlainStatements
 pub mod StatementLabels
 pub mod PrintedStatements
+pub mod PrintedBranches

@@ -4,11 +4,11 @@ use mathlib.Core.Path.{_≡_}
 use mathlib.Core.Bool.{Bool, true}
 use mathlib.Core.List.{List, _∷_}
 use Rattle.wire.specs.Bytes.{byte}
-use Rattle.rules.specs.Tree.{Arms}
+use Rattle.rules.specs.Tree.{Arms, Branches}
 use Rattle.rules.specs.declared.Kind.the-variants.{Expression, Statement}
-use Rattle.places.specs.At.{armAt, StandsAs}
+use Rattle.places.specs.At.{armAt, branchAt, StandsAs}
 use Rattle.notation.specs.Tokens.{Lexeme}
-use Rattle.notation.specs.Print.{Rest, printedArms, printedEntries}
+use Rattle.notation.specs.Print.{Rest, printedArms, printedEntries, printedBranches}
 use Rattle.token_writer.specs.declared.Pen.{Pen}
 use Rattle.printer.specs.Passing.{Source, Going}
 
@@ -31,3 +31,7 @@ pub record StatementHere (m table : List ℕ) (strings d p t : ℕ) : Type 0 whe
   pub source : Source m table strings
   pub stands : StandsAs m d Statement p
   pub tag : byte m p ≡ t
+
+-- the branch at q is written, whatever branches come after it
+pub record BranchPasses (S : ℕ → List ℕ) (m : List ℕ) (d q : ℕ) (out out′ : List ℕ) (pen pen′ : Pen) : Type 0 where
+  pub goes : (after : Branches) (out₀ whole : List ℕ) (rest : Rest) → Going out₀ out pen whole (printedBranches S (branchAt m d q after) (pen .line) rest) → Going out₀ out′ pen′ whole (printedBranches S after (pen′ .line) rest)
