@@ -7,7 +7,6 @@ use native.Mathlib.Omega.{arith}
 use borrow.Author.Tests.{eq-eqb, ne-eqb}
 use lib.Dec.{eqb}
 use lib.IntN.{ℤ}
-use Rattle.values.specs.declared.Value.{Value}
 use Rattle.values.specs.declared.Value.the-variants.{Boolean}
 use Rattle.wire.specs.Bytes.{pick, byte, two}
 use Rattle.wire.specs.Numbers.{number as unsigned, signed64}

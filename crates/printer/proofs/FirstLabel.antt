@@ -1,23 +1,22 @@
 -- The line on which an expression begins, by the fields in reading order.
-use Prim.Native.Nat.{ℕ, zero, suc, _+_, _-_, _≤_, _<_}
+use Prim.Native.Nat.{ℕ, zero, suc, _+_, _≤_, _<_}
 use mathlib.Core.Path.{_≡_, refl, sym, ap, _∙_, subst}
 use mathlib.Core.Bool.{Bool, true, false, _&&_}
 use mathlib.Core.List.{List, [], _∷_, _++_}
 use native.Mathlib.Omega.{arith}
-use lib.Dec.{leb, eqb}
-use lib.ListN.{length}
-use borrow.Author.Tests.{le-leb, lt-leb, eqb-true}
+use lib.Dec.{eqb}
+use borrow.Author.Tests.{eqb-true}
 use Rattle.wire.proofs.Fields.{no-fields, field-first}
 use Rattle.rules.specs.Bytes.{pick, byte, two, endOf, fieldsIn}
 use Rattle.rules.specs.Format.{allowed, forms, formIn, formOf, size, headSize, isConstant}
 use Rattle.rules.specs.Check.{stride, nextInOrder}
 use Rattle.rules.specs.Tree.{Constant, Expression, Arms, arm, defaultArm}
 use Rattle.rules.specs.declared.Kind.{Kind}
-use Rattle.rules.specs.declared.Kind.the-variants.{Constant as ConstantKind, Expression as ExpressionKind, Pattern, Arm}
+use Rattle.rules.specs.declared.Kind.the-variants.{Constant as ConstantKind, Expression as ExpressionKind, Arm}
 use Rattle.places.specs.At.{constantAt, expressionAt, armAt, armsAt, StandsAs, Siblings, ended, sibling}
-use Rattle.places.proofs.Tags.{IsConstantTag, integerTag, stringTag, booleanTag, constant-kind, IsExpressionTag, constantTag, variableTag, topVariableTag, classVariableTag, operationTag, negationTag, attributeReadTag, selectorTag, expression-tag}
+use Rattle.places.proofs.Tags.{constant-kind, IsExpressionTag, constantTag, variableTag, topVariableTag, classVariableTag, operationTag, negationTag, attributeReadTag, selectorTag, expression-tag}
 use Rattle.places.proofs.Open.{level}
-use Rattle.places.proofs.Expressions.{constant-opens, variable-opens, top-variable-opens, class-variable-opens, operation-opens, negation-opens, attribute-read-opens, SelectorAt, selector-opens, ArmAt, arm-opens, pattern-constant}
+use Rattle.places.proofs.Expressions.{constant-opens, variable-opens, top-variable-opens, class-variable-opens, operation-opens, negation-opens, attribute-read-opens, selector-opens, ArmAt, arm-opens, pattern-constant}
 use Rattle.syntax.proofs.Reading.{no-places, place-first}
 use Rattle.notation.specs.Print.{constantsOf, constantsOfArms, lineFor}
 use Rattle.printer.specs.Labels.{labelAmong, firstLabel}

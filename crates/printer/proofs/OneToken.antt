@@ -5,8 +5,8 @@ use mathlib.Core.Bool.{Bool, true, false, _||_}
 use mathlib.Core.List.{List, [], _∷_, _++_}
 use native.Mathlib.Omega.{arith}
 use lib.Dec.{ltb, eqb}
-use lib.ListN.{length, take, drop, length-append, length-take, length-drop}
-use borrow.Author.Tests.{ltb-true, ltb-false, lt-ltb, le-ltb, eqb-true, eqb-false}
+use lib.ListN.{length, drop, length-append, length-take, length-drop}
+use borrow.Author.Tests.{ltb-true, ltb-false, lt-ltb, le-ltb, eqb-true}
 use Rattle.rules.specs.Bytes.{pick, two}
 use Rattle.rules.specs.Check.{text, stringPlaces}
 use Rattle.rules.specs.Compile.{stringAt}
@@ -16,7 +16,6 @@ use Rattle.notation.specs.Tokens.{Token, word, number, text as quoted, variable
 use Rattle.notation.specs.Layout.{signOf, keywordOf, spelling, markSpelling, bracketsBehind}
 use Rattle.notation.specs.Print.{at, Rest}
 use Rattle.token_writer.specs.declared.Pen.{Pen}
-use Rattle.token_writer.specs.Writing.{Wrote}
 use Rattle.token_writer.specs.Pens.{gapFor, tokenBytes, textFrom, Ready, Put, Halfway}
 use Rattle.token_writer.proofs.Chains.{one-more}
 use Rattle.printer.specs.Passing.{isFull, Going, writing, full, Passes}

@@ -1,15 +1,13 @@
 -- Statements without blocks: each is written when its parts are, one after the other. Assumes nothing.
-use Prim.Native.Nat.{ℕ, suc, _+_}
+use Prim.Native.Nat.{ℕ, _+_}
 use mathlib.Core.Path.{_≡_, sym, subst}
-use mathlib.Core.Bool.{false}
 use mathlib.Core.List.{List, _∷_}
-use native.Mathlib.Omega.{arith}
 use Rattle.rules.specs.Bytes.{two, endOf, fieldsIn}
-use Rattle.rules.specs.Tree.{Statement, AttributeField}
+use Rattle.rules.specs.Tree.{Statement, builtInResource, definedResource, AttributeField}
 use Rattle.places.specs.At.{expressionAt, attributesAt, statementAt}
-use Rattle.places.proofs.Statements.{AssignmentAt, assignment-opens, include-opens}
+use Rattle.places.proofs.Statements.{AssignmentAt, assignment-opens, include-opens, TitledAt, ClassAt}
 use Rattle.notation.specs.Tokens
-use Rattle.notation.specs.Print.{at, the, printed, printedEntries, printedAttribute, printedAttributes, printedResource, printedStatement}
+use Rattle.notation.specs.Print.{at, the, printed, printedAttributes, printedResource, printedStatement}
 use Rattle.token_writer.specs.declared.Pen.{Pen}
 use Rattle.printer.specs.Passing.{Passes}
 use Rattle.printer.specs.Forms.{StatementHere}
@@ -65,3 +63,36 @@ module _ (S : ℕ → List ℕ) (m : List ℕ) where
             (begin .goes o w (λ n. printed S (expressionAt m d (p + 5)) 1 n (λ l. the l 13 ∷ printedAttributes S fs l (λ j. the j 8 ∷ k j)))
             (named .goes o w (λ n. the n 7 ∷ printed S (expressionAt m d (p + 5)) 1 n (λ l. the l 13 ∷ printedAttributes S fs l (λ j. the j 8 ∷ k j))) i)))));
       }
+
+-- a resource of either sort
+module _ (S : ℕ → List ℕ) (m : List ℕ) where
+  pub built-in-passes : (line : ℕ) {a b : List ℕ} {pen pen′ : Pen} {n i p : ℕ}
+      → TitledAt builtInResource m n i p → Passes a b pen pen′ (printedResource S (two m (p + 3)) (expressionAt m i (p + 5)) (attributesAt m i (fieldsIn m (endOf m (p + 5)) (endOf m p))) line) → Passes a b pen pen′ (printedStatement S (statementAt m n p) line)
+  unfolding printedStatement
+  built-in-passes line o h = statement-as S m line (o .tree) (record { goes = λ x w k g. h .goes x w k g })
+
+  pub defined-passes : (line : ℕ) {a b : List ℕ} {pen pen′ : Pen} {n i p : ℕ}
+      → TitledAt definedResource m n i p → Passes a b pen pen′ (printedResource S (two m (p + 3)) (expressionAt m i (p + 5)) (attributesAt m i (fieldsIn m (endOf m (p + 5)) (endOf m p))) line) → Passes a b pen pen′ (printedStatement S (statementAt m n p) line)
+  unfolding printedStatement
+  defined-passes line o h = statement-as S m line (o .tree) (record { goes = λ x w k g. h .goes x w k g })
+
+  -- a class with its attributes
+  pub class-passes : (line x z : ℕ) {a b c d e f g : List ℕ} {pen q r s t u pen′ : Pen} {n i p : ℕ}
+      → ClassAt m n i p → x ≡ two m (p + 3) → z ≡ endOf m p → Passes a b pen q (λ rest. the line 32 ∷ rest line) → Passes b c q r (λ rest. the (q .line) 7 ∷ rest (q .line)) → Passes c d r s (λ rest. at (r .line) (Tokens.word (S x)) ∷ rest (r .line))
+      → Passes d e s t (λ rest. the (s .line) 13 ∷ rest (s .line)) → Passes e f t u (printedAttributes S (attributesAt m i (fieldsIn m (p + 5) z)) (t .line)) → Passes f g u pen′ (λ rest. the (u .line) 8 ∷ rest (u .line))
+      → Passes a g pen pen′ (printedStatement S (statementAt m n p) line)
+  unfolding printedStatement
+  class-passes line x z {c = c} {d = d} {e = e} {f = f} {r = r} {s = s} {t = t} {u = u} {i = i} {p = p} o ex ez word begin name colon all close =
+      let fs : List AttributeField = attributesAt m i (fieldsIn m (p + 5) (endOf m p)) in
+      let every : Passes e f t u (printedAttributes S fs (t .line)) = subst (λ (n : ℕ). Passes e f t u (printedAttributes S (attributesAt m i (fieldsIn m (p + 5) n)) (t .line))) ez all in
+      let named : Passes c d r s (λ rest. at (r .line) (Tokens.word (S (two m (p + 3)))) ∷ rest (r .line)) = subst (λ (n : ℕ). Passes c d r s (λ rest. at (r .line) (Tokens.word (S n)) ∷ rest (r .line))) ex name in
+      statement-as S m line (o .tree)
+      (record {
+        goes = λ o w k i.
+            close .goes o w k
+            (every .goes o w (λ n. the n 8 ∷ k n)
+            (colon .goes o w (λ n. printedAttributes S fs n (λ j. the j 8 ∷ k j))
+            (named .goes o w (λ n. the n 13 ∷ printedAttributes S fs n (λ j. the j 8 ∷ k j))
+            (begin .goes o w (λ n. at n (Tokens.word (S (two m (p + 3)))) ∷ the n 13 ∷ printedAttributes S fs n (λ j. the j 8 ∷ k j))
+            (word .goes o w (λ n. the n 7 ∷ at n (Tokens.word (S (two m (p + 3)))) ∷ the n 13 ∷ printedAttributes S fs n (λ j. the j 8 ∷ k j)) i)))));
+      })

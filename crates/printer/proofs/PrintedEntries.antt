@@ -13,7 +13,7 @@ use Rattle.places.specs.At.{expressionAt, attributeAt, attributesAt, StandsAs, 
 use Rattle.places.proofs.Statements.{AttributeAt, attribute-opens}
 use Rattle.notation.specs.Tokens
 use Rattle.notation.specs.Tokens.{Lexeme}
-use Rattle.notation.specs.Print.{Rest, at, the, constantsOf, lineFor, separated, printed, printedEntries, printedAttribute, printedAttributes}
+use Rattle.notation.specs.Print.{Rest, at, the, constantsOf, lineFor, separated, printed, printedEntries, printedAttribute}
 use Rattle.token_writer.specs.declared.Pen.{Pen}
 use Rattle.printer.specs.Passing.{Going, Passes}
 use Rattle.printer.specs.Labels.{firstLabel}

@@ -1,33 +1,29 @@
 -- Expressions with parts: each is written when its parts are, one after the other. Assumes nothing.
 use Prim.Native.Nat.{ℕ, suc, _+_, _-_, _≤_, _<_}
-use mathlib.Core.Path.{_≡_, refl, sym, ap, _∙_, subst}
+use mathlib.Core.Path.{_≡_, sym, ap, _∙_, subst}
 use mathlib.Core.Bool.{Bool, true, false}
 use mathlib.Core.List.{List, [], _∷_}
 use native.Mathlib.Omega.{arith}
-use lib.Dec.{leb, eqb}
-use lib.ListN.{length}
+use lib.Dec.{leb}
 use borrow.Author.Tests.{leb-true}
-use Rattle.wire.proofs.Fields.{no-fields, field-first}
-use Rattle.rules.specs.Bytes.{pick, byte, two, endOf, fieldsIn}
-use Rattle.rules.specs.Tree.{Expression, Arms, noArm, arm, defaultArm}
+use Rattle.rules.specs.Bytes.{byte, two, endOf, fieldsIn}
+use Rattle.rules.specs.Tree.{Expression, Arms}
 use Rattle.rules.specs.Read.{operatorFrom}
 use Rattle.rules.specs.declared.Kind.{Kind}
-use Rattle.rules.specs.declared.Kind.the-variants.{Constant as ConstantKind, Expression as ExpressionKind, Arm}
+use Rattle.rules.specs.declared.Kind.the-variants.{Constant as ConstantKind, Expression as ExpressionKind}
 use Rattle.rules.specs.Format.{allowed}
 use Rattle.rules.proofs.Listed.{both-right}
 use Rattle.places.specs.At.{constantAt, expressionAt, armsAt, Stands, StandsAs, Siblings}
 use Rattle.places.proofs.Open.{level}
 use Rattle.places.proofs.Tags.{constant-kind, IsExpressionTag, constantTag, variableTag, topVariableTag, classVariableTag, operationTag, negationTag, attributeReadTag, selectorTag, expression-tag}
-use Rattle.places.proofs.Expressions.{constant-opens, OperationAt, NegationAt, AttributeReadAt, SelectorAt, ArmAt, operation-opens, negation-opens, attribute-read-opens, selector-opens, arm-opens}
+use Rattle.places.proofs.Expressions.{constant-opens, OperationAt, NegationAt, AttributeReadAt, SelectorAt, operation-opens, negation-opens, attribute-read-opens, selector-opens}
 use Rattle.notation.specs.Tokens
 use Rattle.notation.specs.Tokens.{Lexeme}
-use Rattle.notation.specs.Print.{Rest, at, the, constantsOf, lineFor, operatorKind, levelOf, bracketed, separated, constantLexeme, printed, printedArms}
+use Rattle.notation.specs.Print.{Rest, at, the, operatorKind, levelOf, bracketed, constantLexeme, printed, printedArms}
 use Rattle.token_writer.specs.declared.Pen.{Pen}
-use Rattle.printer.specs.Passing.{Source, Going, Passes}
+use Rattle.printer.specs.Passing.{Source, Passes}
 use Rattle.printer.specs.Brackets.{opened, closed}
-use Rattle.printer.specs.Labels.{firstLabel}
-use Rattle.printer.specs.Forms.{Here, ArmPasses}
-use Rattle.printer.proofs.FirstLabel.{expression-line}
+use Rattle.printer.specs.Forms.{Here}
 use Rattle.printer.proofs.OperatorSigns.{passes-as}
 
 -- ---- What stands at a place

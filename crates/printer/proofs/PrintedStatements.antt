@@ -1,13 +1,12 @@
 -- Statements with blocks: each is written when its parts are, one after the other. Assumes nothing.
-use Prim.Native.Nat.{ℕ, suc, _+_, _≤_, _<_}
-use mathlib.Core.Path.{_≡_, refl, sym, ap, _∙_, subst}
-use mathlib.Core.Bool.{Bool, true, false}
+use Prim.Native.Nat.{ℕ, _+_, _≤_, _<_}
+use mathlib.Core.Path.{_≡_, sym, ap, _∙_, subst}
 use mathlib.Core.List.{List, [], _∷_}
 use native.Mathlib.Omega.{arith}
 use Rattle.wire.proofs.Fields.{no-fields, field-first}
 use Rattle.rules.specs.Bytes.{endOf, fieldsIn}
-use Rattle.rules.specs.Tree.{Expression, Block, next, Branches, Statement}
-use Rattle.rules.specs.declared.Kind.the-variants.{Statement as StatementKind, Block as BlockKind}
+use Rattle.rules.specs.Tree.{Expression, Block, next, Branches}
+use Rattle.rules.specs.declared.Kind.the-variants.{Statement as StatementKind}
 use Rattle.places.specs.At.{expressionAt, blockAt, statementAt, statementsAt, branchesAt, StandsAs, Siblings, ended, sibling}
 use Rattle.places.proofs.Statements.{ConditionalAt, ChoiceAt, BlockAt}
 use Rattle.notation.specs.Print.{Rest, the, constantsOfStatement, lineFor, printed, printedElse, printedStatement, printedBlock, printedBranches}

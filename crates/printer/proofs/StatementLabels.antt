@@ -1,22 +1,22 @@
 -- The line on which a statement, a branch or a block begins, by the fields in reading order.
 use Prim.Native.Nat.{ℕ, zero, suc, _+_, _-_, _≤_, _<_}
-use mathlib.Core.Path.{_≡_, refl, sym, ap, _∙_, subst}
+use mathlib.Core.Path.{_≡_, refl, sym, ap, _∙_}
 use mathlib.Core.Bool.{Bool, true, false}
 use mathlib.Core.List.{List, [], _∷_, _++_}
 use native.Mathlib.Omega.{arith}
 use lib.Dec.{eqb}
 use borrow.Author.Tests.{eqb-true}
 use Rattle.wire.proofs.Fields.{no-fields, field-first}
-use Rattle.rules.specs.Bytes.{pick, byte, two, endOf, fieldsIn}
+use Rattle.rules.specs.Bytes.{pick, byte, endOf, fieldsIn}
 use Rattle.rules.specs.Format.{allowed, forms, formIn, formOf, size, headSize}
 use Rattle.rules.specs.Check.{stride}
-use Rattle.rules.specs.Tree.{Constant, AttributeField, Statement, Block, Branches, branch, defaultBranch}
+use Rattle.rules.specs.Tree.{AttributeField, Statement, Block, Branches, branch, defaultBranch}
 use Rattle.rules.specs.declared.Kind.the-variants.{Expression as ExpressionKind, Attribute, Statement as StatementKind, Block as BlockKind, Branch}
-use Rattle.places.specs.At.{constantAt, expressionAt, attributeAt, attributesAt, statementAt, statementsAt, blockAt, branchAt, branchesAt, StandsAs, Siblings, ended, sibling}
+use Rattle.places.specs.At.{constantAt, expressionAt, attributesAt, statementAt, statementsAt, blockAt, branchAt, branchesAt, StandsAs, Siblings, ended, sibling}
 use Rattle.places.proofs.Tags.{IsStatementTag, assignmentTag, conditionalTag, choiceTag, resourceTag, definedTag, classTag, includeTag, statement-tag}
 use Rattle.places.proofs.Open.{level}
 use Rattle.places.proofs.Expressions.{pattern-constant}
-use Rattle.places.proofs.Statements.{AttributeAt, attribute-opens, assignment-opens, conditional-opens, BranchAt, branch-opens, choice-opens, resource-opens, defined-opens, class-opens, include-opens, block-opens}
+use Rattle.places.proofs.Statements.{attribute-opens, assignment-opens, conditional-opens, BranchAt, branch-opens, choice-opens, resource-opens, defined-opens, class-opens, include-opens, block-opens}
 use Rattle.notation.specs.Print.{constantsOf, constantsOfAttributes, constantsOfStatement, constantsOfBlock, constantsOfBranches, lineFor}
 use Rattle.printer.specs.Labels.{firstLabel}
 use Rattle.printer.proofs.FirstLabel.{label-end, line-join, siblings-within, next-is, constant-label, expression-label}
