@@ -1,20 +1,27 @@
 -- Statements without blocks: each is written when its parts are, one after the other. Assumes nothing.
-use Prim.Native.Nat.{ℕ, _+_}
-use mathlib.Core.Path.{_≡_, sym, subst}
+use Prim.Native.Nat.{ℕ, _+_, _-_}
+use mathlib.Core.Path.{_≡_, refl, sym, _∙_, subst}
+use mathlib.Core.Logic.{_⊎_, inl, inr}
 use mathlib.Core.List.{List, _∷_}
-use Rattle.rules.specs.Bytes.{two, endOf, fieldsIn}
-use Rattle.rules.specs.Tree.{Statement, builtInResource, definedResource, AttributeField}
-use Rattle.places.specs.At.{expressionAt, attributesAt, statementAt}
-use Rattle.places.proofs.Statements.{AssignmentAt, assignment-opens, include-opens, TitledAt, ClassAt}
+use Rattle.rules.specs.Bytes.{byte, two, endOf, fieldsIn}
+use Rattle.rules.specs.Tree.{Statement, AttributeField}
+use Rattle.rules.specs.declared.Kind.the-variants.{Expression as ExpressionKind, Statement as StatementKind, Attribute}
+use Rattle.places.specs.At.{expressionAt, attributesAt, statementAt, StandsAs, Siblings}
+use Rattle.places.proofs.Tags.{IsStatementTag, assignmentTag, conditionalTag, choiceTag, resourceTag, definedTag, classTag, includeTag, statement-tag}
+use Rattle.places.proofs.Open.{level}
+use Rattle.places.proofs.Statements.{AssignmentAt, assignment-opens, include-opens, resource-opens, defined-opens, ClassAt, class-opens}
 use Rattle.notation.specs.Tokens
 use Rattle.notation.specs.Print.{at, the, printed, printedAttributes, printedResource, printedStatement}
 use Rattle.token_writer.specs.declared.Pen.{Pen}
-use Rattle.printer.specs.Passing.{Passes}
+use Rattle.printer.specs.Passing.{Source, Passes}
 use Rattle.printer.specs.Forms.{StatementHere}
-use Rattle.printer.proofs.PrintedExpressions.{one-above}
 
-pub assignment-here : {m table : List ℕ} {strings b p : ℕ} → StatementHere m table strings (b + 1) p 0x21 → AssignmentAt m (b + 1) b p
-assignment-here {b = b} h = assignment-opens (h .stands .stands) (one-above b) (h .tag)
+module _ {m table : List ℕ} {strings d p : ℕ} where
+  pub assignment-here : StatementHere m table strings d p 0x21 → AssignmentAt m d (d - 1) p
+  assignment-here h = assignment-opens (h .stands .stands) (level (h .stands .stands)) (h .tag)
+
+  pub class-here : StatementHere m table strings d p 0x28 → ClassAt m d (d - 1) p
+  class-here h = class-opens (h .stands .stands) (level (h .stands .stands)) (h .tag)
 
 module _ (S : ℕ → List ℕ) (m : List ℕ) where
   -- a statement that is known by another name
@@ -64,18 +71,6 @@ module _ (S : ℕ → List ℕ) (m : List ℕ) where
             (named .goes o w (λ n. the n 7 ∷ printed S (expressionAt m d (p + 5)) 1 n (λ l. the l 13 ∷ printedAttributes S fs l (λ j. the j 8 ∷ k j))) i)))));
       }
 
--- a resource of either sort
-module _ (S : ℕ → List ℕ) (m : List ℕ) where
-  pub built-in-passes : (line : ℕ) {a b : List ℕ} {pen pen′ : Pen} {n i p : ℕ}
-      → TitledAt builtInResource m n i p → Passes a b pen pen′ (printedResource S (two m (p + 3)) (expressionAt m i (p + 5)) (attributesAt m i (fieldsIn m (endOf m (p + 5)) (endOf m p))) line) → Passes a b pen pen′ (printedStatement S (statementAt m n p) line)
-  unfolding printedStatement
-  built-in-passes line o h = statement-as S m line (o .tree) (record { goes = λ x w k g. h .goes x w k g })
-
-  pub defined-passes : (line : ℕ) {a b : List ℕ} {pen pen′ : Pen} {n i p : ℕ}
-      → TitledAt definedResource m n i p → Passes a b pen pen′ (printedResource S (two m (p + 3)) (expressionAt m i (p + 5)) (attributesAt m i (fieldsIn m (endOf m (p + 5)) (endOf m p))) line) → Passes a b pen pen′ (printedStatement S (statementAt m n p) line)
-  unfolding printedStatement
-  defined-passes line o h = statement-as S m line (o .tree) (record { goes = λ x w k g. h .goes x w k g })
-
   -- a class with its attributes
   pub class-passes : (line x z : ℕ) {a b c d e f g : List ℕ} {pen q r s t u pen′ : Pen} {n i p : ℕ}
       → ClassAt m n i p → x ≡ two m (p + 3) → z ≡ endOf m p → Passes a b pen q (λ rest. the line 32 ∷ rest line) → Passes b c q r (λ rest. the (q .line) 7 ∷ rest (q .line)) → Passes c d r s (λ rest. at (r .line) (Tokens.word (S x)) ∷ rest (r .line))
@@ -86,7 +81,7 @@ module _ (S : ℕ → List ℕ) (m : List ℕ) where
       let fs : List AttributeField = attributesAt m i (fieldsIn m (p + 5) (endOf m p)) in
       let every : Passes e f t u (printedAttributes S fs (t .line)) = subst (λ (n : ℕ). Passes e f t u (printedAttributes S (attributesAt m i (fieldsIn m (p + 5) n)) (t .line))) ez all in
       let named : Passes c d r s (λ rest. at (r .line) (Tokens.word (S (two m (p + 3)))) ∷ rest (r .line)) = subst (λ (n : ℕ). Passes c d r s (λ rest. at (r .line) (Tokens.word (S n)) ∷ rest (r .line))) ex name in
-      statement-as S m line (o .tree)
+      statement-as line (o .tree)
       (record {
         goes = λ o w k i.
             close .goes o w k
@@ -96,3 +91,33 @@ module _ (S : ℕ → List ℕ) (m : List ℕ) where
             (begin .goes o w (λ n. at n (Tokens.word (S (two m (p + 3)))) ∷ the n 13 ∷ printedAttributes S fs n (λ j. the j 8 ∷ k j))
             (word .goes o w (λ n. the n 7 ∷ at n (Tokens.word (S (two m (p + 3)))) ∷ the n 13 ∷ printedAttributes S fs n (λ j. the j 8 ∷ k j)) i)))));
       })
+
+-- ---- By the tag
+
+module _ {m : List ℕ} {d p t : ℕ} (s : StandsAs m d StatementKind p) (tag : t ≡ byte m p) where
+  pub tagged : {table : List ℕ} {strings u : ℕ} → Source m table strings → t ≡ u → StatementHere m table strings d p u
+  tagged source is = record { source = source; stands = s; tag = sym tag ∙ is }
+
+  -- a resource of either sort
+  pub resource-parts : (t ≡ 0x25) ⊎ (t ≡ 0x27) → StandsAs m (d - 1) ExpressionKind (p + 5) × Siblings m (d - 1) Attribute (endOf m (p + 5)) (endOf m p)
+  resource-parts (inl is) = let o = resource-opens (s .stands) (level (s .stands)) (sym tag ∙ is) in (o .title, o .attributes)
+  resource-parts (inr is) = let o = defined-opens (s .stands) (level (s .stands)) (sym tag ∙ is) in (o .title, o .attributes)
+
+  pub either-passes : (S : ℕ → List ℕ) (line : ℕ) {a b : List ℕ} {pen pen′ : Pen} → (t ≡ 0x25) ⊎ (t ≡ 0x27)
+      → Passes a b pen pen′ (printedResource S (two m (p + 3)) (expressionAt m (d - 1) (p + 5)) (attributesAt m (d - 1) (fieldsIn m (endOf m (p + 5)) (endOf m p))) line) → Passes a b pen pen′ (printedStatement S (statementAt m d p) line)
+  unfolding printedStatement
+  either-passes S line (inl is) h = statement-as S m line (resource-opens (s .stands) (level (s .stands)) (sym tag ∙ is) .tree) h
+  either-passes S line (inr is) h = statement-as S m line (defined-opens (s .stands) (level (s .stands)) (sym tag ∙ is) .tree) h
+
+-- the last tag is that of an include
+pub last-statement : {t : ℕ} → IsStatementTag t → (t ≡ 0x21 → ⊥) → (t ≡ 0x22 → ⊥) → (t ≡ 0x23 → ⊥) → ((t ≡ 0x25) ⊎ (t ≡ 0x27) → ⊥) → (t ≡ 0x28 → ⊥) → t ≡ 0x29
+last-statement assignmentTag n1 n2 n3 n4 n5 = absurd (n1 refl)
+last-statement conditionalTag n1 n2 n3 n4 n5 = absurd (n2 refl)
+last-statement choiceTag n1 n2 n3 n4 n5 = absurd (n3 refl)
+last-statement resourceTag n1 n2 n3 n4 n5 = absurd (n4 (inl refl))
+last-statement definedTag n1 n2 n3 n4 n5 = absurd (n4 (inr refl))
+last-statement classTag n1 n2 n3 n4 n5 = absurd (n5 refl)
+last-statement includeTag n1 n2 n3 n4 n5 = refl
+
+pub include-tag : {m : List ℕ} {d p t : ℕ} → StandsAs m d StatementKind p → t ≡ byte m p → (t ≡ 0x21 → ⊥) → (t ≡ 0x22 → ⊥) → (t ≡ 0x23 → ⊥) → ((t ≡ 0x25) ⊎ (t ≡ 0x27) → ⊥) → (t ≡ 0x28 → ⊥) → t ≡ 0x29
+include-tag {m} {p = p} {t = t} s tag = last-statement (subst IsStatementTag (sym tag) (statement-tag (byte m p) (s .kind)))

@@ -1,5 +1,5 @@
 -- Entries: all are written when each is, one after the other; and an attribute is when its parts are. Assumes nothing.
-use Prim.Native.Nat.{ℕ, suc, _+_, _≤_, _<_}
+use Prim.Native.Nat.{ℕ, _+_, _-_, _≤_, _<_}
 use mathlib.Core.Path.{_≡_, refl, sym, ap, _∙_, subst}
 use mathlib.Core.Bool.{Bool, true, false}
 use mathlib.Core.List.{List, [], _∷_}
@@ -10,6 +10,7 @@ use Rattle.rules.specs.Tree.{Expression, AttributeField}
 use Rattle.rules.specs.declared.Kind.{Kind}
 use Rattle.rules.specs.declared.Kind.the-variants.{Attribute}
 use Rattle.places.specs.At.{expressionAt, attributeAt, attributesAt, StandsAs, Siblings, ended, sibling}
+use Rattle.places.proofs.Open.{level}
 use Rattle.places.proofs.Statements.{AttributeAt, attribute-opens}
 use Rattle.notation.specs.Tokens
 use Rattle.notation.specs.Tokens.{Lexeme}
@@ -55,8 +56,8 @@ module _ {A : Type 0} (p : A → ℕ → Rest → List Lexeme) (read : List ℕ 
 
 -- ---- Attributes
 
-pub attribute-here : {m : List ℕ} {i q : ℕ} → StandsAs m (i + 1) Attribute q → AttributeAt m (i + 1) i q
-attribute-here {i = i} s = let above : i + 1 ≡ suc i = omega arith in attribute-opens s above
+pub attribute-here : {m : List ℕ} {d q : ℕ} → StandsAs m d Attribute q → AttributeAt m d (d - 1) q
+attribute-here s = attribute-opens s (level (s .stands))
 
 pub no-attributes : (m : List ℕ) (d : ℕ) → attributesAt m d [] ≡ []
 unfolding attributesAt
@@ -67,17 +68,17 @@ unfolding attributesAt
 more-attributes m d q qs = refl
 
 -- name, arrow and expression, on the line of the first constant in it
-pub attribute-passes : (S : ℕ → List ℕ) (m : List ℕ) (i q : ℕ) (later : Bool) {a b c d e : List ℕ} {pen u v x pen′ : Pen} {n f line : ℕ}
-    → StandsAs m (i + 1) Attribute q → n ≡ two m (q + 3) → f ≡ endOf m (q + 5) → line ≡ firstLabel m (q + 5) f (pen .line) → Passes a b pen u (λ rest. separated later (pen .line) (rest (pen .line)))
-    → Passes b c u v (λ rest. at line (Tokens.word (S n)) ∷ rest line) → Passes c d v x (λ rest. the (v .line) 15 ∷ rest (v .line)) → Passes d e x pen′ (printed S (expressionAt m i (q + 5)) 1 (x .line))
-    → EntryPasses (printedAttribute S) (attributeAt m (i + 1) q) later a e pen pen′
+pub attribute-passes : (S : ℕ → List ℕ) (m : List ℕ) (n q : ℕ) (later : Bool) {a b c d e : List ℕ} {pen u v x pen′ : Pen} {k f line : ℕ}
+    → StandsAs m n Attribute q → k ≡ two m (q + 3) → f ≡ endOf m (q + 5) → line ≡ firstLabel m (q + 5) f (pen .line) → Passes a b pen u (λ rest. separated later (pen .line) (rest (pen .line)))
+    → Passes b c u v (λ rest. at line (Tokens.word (S k)) ∷ rest line) → Passes c d v x (λ rest. the (v .line) 15 ∷ rest (v .line)) → Passes d e x pen′ (printed S (expressionAt m (n - 1) (q + 5)) 1 (x .line))
+    → EntryPasses (printedAttribute S) (attributeAt m n q) later a e pen pen′
 unfolding printedEntries
-attribute-passes S m i q later {a} {b} {c} {pen = pen} {u = u} {v = v} {n = n} s en ef eline comma name sign expression =
-    let body : Expression = expressionAt m i (q + 5) in
+attribute-passes S m n q later {a} {b} {c} {pen = pen} {u = u} {v = v} {k = k} s ek ef eline comma name sign expression =
+    let body : Expression = expressionAt m (n - 1) (q + 5) in
     let here : ℕ = lineFor (constantsOf body) (pen .line) in
-    let first = eline ∙ ap (λ (y : ℕ). firstLabel m (q + 5) y (pen .line)) ef ∙ expression-line m i (q + 5) (pen .line) (attribute-here s .expression) in
+    let first = eline ∙ ap (λ (y : ℕ). firstLabel m (q + 5) y (pen .line)) ef ∙ expression-line m (n - 1) (q + 5) (pen .line) (attribute-here s .expression) in
     let named : Passes b c u v (λ rest. at here (Tokens.word (S (two m (q + 3)))) ∷ rest here) =
-    subst (λ (y : ℕ). Passes b c u v (λ rest. at here (Tokens.word (S y)) ∷ rest here)) en (subst (λ (y : ℕ). Passes b c u v (λ rest. at y (Tokens.word (S n)) ∷ rest y)) first name) in
+    subst (λ (y : ℕ). Passes b c u v (λ rest. at here (Tokens.word (S y)) ∷ rest here)) ek (subst (λ (y : ℕ). Passes b c u v (λ rest. at y (Tokens.word (S k)) ∷ rest y)) first name) in
     record {
       goes = λ after o w k g.
           let follows : Rest = (λ y. printedEntries (printedAttribute S) after true y k) in

@@ -1,6 +1,7 @@
 -- `attribute`: a comma if one is wanted, name, arrow and expression.
 use mathlib.Core.Path.{_∙_}
 use native.Mathlib.Omega.{arith}
+use Rattle.places.proofs.Open.{level}
 use Rattle.printer.proofs.PrintedEntries.{attribute-here, attribute-passes}
 use borrow.Author.Needs.{needs}
 use Rattle.printer.proofs.attributes.attribute.Statement.{statement}
@@ -33,6 +34,9 @@ write-word-requires c κs = search needs
 write-mark-requires : tie.Need-write-mark-requires
 write-mark-requires c κs = search needs
 
+sub-expression : tie.Need-sub-expression
+sub-expression c = omega (arith, level (c .before .before .before .before .before .before .before .before .before .before .before .before .before .before .before .before .before .before .pre .1 .stands))
+
 add-expression : tie.Need-add-expression
 add-expression c = search needs
 
@@ -58,6 +62,7 @@ attribute-spec =
     two-at-requires
     write-word-requires
     write-mark-requires
+    sub-expression
     add-expression
     expression-requires
     same-length

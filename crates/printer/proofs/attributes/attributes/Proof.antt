@@ -1,5 +1,5 @@
 -- `attributes`: at the loop's head, what is written and the attributes left give the whole.
-use Prim.Native.Nat.{_+_, _-_}
+use Prim.Native.Nat.{_-_}
 use mathlib.Core.Path.{_≡_, refl, _∙_}
 use native.Mathlib.Omega.{arith}
 use lib.ListN.{length}
@@ -13,10 +13,10 @@ use Rattle.printer.proofs.attributes.attributes.Statement.{statement}
 use Rattle.printer.proofs.attributes.attributes.Tie as tie
 
 abbrev Inv-loop : tie.InvT-loop
-Inv-loop m table strings inner first end out₀ q₀ at₀ later₀ out q at later = EntriesTo (printedAttribute (stringAt (stringTexts m))) (attributesAt m (inner + 1)) m (inner + 1) Attribute first end q later out₀ out at₀ at × (length out ≡ length out₀)
+Inv-loop m table strings depth first end out₀ q₀ at₀ later₀ out q at later = EntriesTo (printedAttribute (stringAt (stringTexts m))) (attributesAt m depth) m depth Attribute first end q later out₀ out at₀ at × (length out ≡ length out₀)
 
 abbrev μ-loop : tie.MeasureT-loop
-μ-loop m table strings inner first end out₀ q₀ at₀ later₀ out q at later = end - q
+μ-loop m table strings depth first end out₀ q₀ at₀ later₀ out q at later = end - q
 
 loop-holds : tie.Need-loop-holds Inv-loop μ-loop
 loop-holds c = (no-entry-yet _ _ _ _ _ _ _ (c .before .before .before .pre .1), refl)

@@ -1,4 +1,6 @@
 -- `assignment`: a variable, a sign and an expression.
+use native.Mathlib.Omega.{arith}
+use Rattle.places.proofs.Open.{level}
 use Rattle.printer.proofs.PlainStatements.{assignment-here, assignment-passes}
 use borrow.Author.Needs.{needs}
 use Rattle.printer.proofs.plain.assignment.Statement.{statement}
@@ -15,6 +17,9 @@ write-variable-requires c κs = search needs
 
 write-mark-requires : tie.Need-write-mark-requires
 write-mark-requires c κs = search needs
+
+sub-expression : tie.Need-sub-expression
+sub-expression c = omega (arith, level (c .before .before .before .before .before .before .before .before .before .before .before .before .pre .stands .stands))
 
 add-expression : tie.Need-add-expression
 add-expression c = search needs
@@ -36,6 +41,7 @@ assignment-spec =
     two-at-requires
     write-variable-requires
     write-mark-requires
+    sub-expression
     add-expression
     expression-requires
     same-length

@@ -22,9 +22,6 @@ write-mark-requires c κs = search needs
 add-expression : tie.Need-add-expression
 add-expression c = search needs
 
-add-expression-2 : tie.Need-add-expression-2
-add-expression-2 c = search needs
-
 expression-requires : tie.Need-expression-requires
 expression-requires c κs = search needs
 
@@ -61,7 +58,6 @@ resource-spec =
     write-word-requires
     write-mark-requires
     add-expression
-    add-expression-2
     expression-requires
     write-mark-requires-2
     add-end-of
