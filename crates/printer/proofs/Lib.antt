@@ -1,6 +1,7 @@
 pub mod OneToken
 pub mod FirstLabel
 pub mod ConstantTokens
+pub mod PrintedPatterns
 pub mod OperatorSigns
 pub mod PrintedExpressions
 pub mod PrintedArms

@@ -1,79 +1,74 @@
 -- Branches: each is written when its parts are, and all are when each is, one after the other. Assumes nothing.
-use Prim.Native.Nat.{ℕ, suc, _+_, _≤_, _<_}
-use mathlib.Core.Path.{_≡_, sym, ap, _∙_, subst}
-use mathlib.Core.Bool.{Bool}
+use Prim.Native.Nat.{ℕ, _+_, _-_, _≤_, _<_}
+use mathlib.Core.Path.{_≡_, refl, sym, ap, _∙_, subst}
+use mathlib.Core.Bool.{Bool, true, false}
 use mathlib.Core.List.{List, _∷_}
 use native.Mathlib.Omega.{arith}
 use lib.Dec.{eqb}
-use borrow.Author.Tests.{eq-eqb, ne-eqb}
 use Rattle.wire.proofs.Fields.{no-fields, field-first}
 use Rattle.rules.specs.Bytes.{pick, byte, endOf, fieldsIn}
 use Rattle.rules.specs.Tree.{Block, Branches, branch, defaultBranch}
 use Rattle.rules.specs.declared.Kind.the-variants.{Branch}
 use Rattle.places.specs.At.{constantAt, blockAt, branchAt, branchesAt, StandsAs, Siblings, ended, sibling}
+use Rattle.places.proofs.Open.{level}
 use Rattle.places.proofs.Statements.{BranchAt, branch-opens}
-use Rattle.notation.specs.Print.{Rest, the, constantsOfBlock, lineFor, constantLexeme, printedBlock, printedBranches}
+use Rattle.notation.specs.Tokens.{Lexeme}
+use Rattle.notation.specs.Print.{Rest, the, constantLexeme, printedBlock, printedBranches}
 use Rattle.token_writer.specs.declared.Pen.{Pen}
 use Rattle.printer.specs.Passing.{Going, Passes}
 use Rattle.printer.specs.Labels.{firstLabel}
+use Rattle.printer.specs.Patterns.{printedPattern}
 use Rattle.printer.specs.Forms.{BranchPasses}
 use Rattle.printer.proofs.StatementLabels.{block-line}
 
 -- ---- One branch
 
-pub branch-here : {m : List ℕ} {i q : ℕ} → StandsAs m (i + 1) Branch q → BranchAt m (i + 1) i q
-branch-here {i = i} s = let above : i + 1 ≡ suc i = omega arith in branch-opens s above
+pub branch-here : {m : List ℕ} {d q : ℕ} → StandsAs m d Branch q → BranchAt m d (d - 1) q
+branch-here s = branch-opens s (level (s .stands))
 
-module _ (S : ℕ → List ℕ) (m : List ℕ) (i q : ℕ) {t : ℕ} (s : StandsAs m (i + 1) Branch q) (tag : t ≡ byte m (q + 3)) where
+module _ (S : ℕ → List ℕ) (m : List ℕ) (n q : ℕ) (s : StandsAs m n Branch q) where
   body : Block
-  body = blockAt m i (endOf m (q + 3))
+  body = blockAt m (n - 1) (endOf m (q + 3))
 
-  constant-tree : (t ≡ 0x1b → ⊥) → (after : Branches) → branchAt m (i + 1) q after ≡ branch (constantAt m (q + 3)) body after
-  unfolding body
-  constant-tree other after = branch-here s .tree after ∙ ap (λ (b : Bool). pick b (defaultBranch body after) (branch (constantAt m (q + 3)) body after)) (ap (λ (x : ℕ). eqb x 0x1b) (sym tag) ∙ ne-eqb t 0x1b other)
+  -- what comes behind the pattern, which ends on the line v: a colon, and the block in braces
+  behind : ℕ → Rest → List Lexeme
+  behind v rest = the v 13 ∷ the v 7 ∷ printedBlock S body v (λ u. the u 8 ∷ rest u)
 
-  default-tree : t ≡ 0x1b → (after : Branches) → branchAt m (i + 1) q after ≡ defaultBranch body after
-  unfolding body
-  default-tree is after = branch-here s .tree after ∙ ap (λ (b : Bool). pick b (defaultBranch body after) (branch (constantAt m (q + 3)) body after)) (ap (λ (x : ℕ). eqb x 0x1b) (sym tag) ∙ eq-eqb t 0x1b is)
-
-  -- a colon, and the block in braces
-  block-behind : {a b c d e : List ℕ} {pen u v x pen′ : Pen}
+  behind-passes : {a b c d e : List ℕ} {pen u v x pen′ : Pen}
       → Passes a b pen u (λ rest. the (pen .line) 13 ∷ rest (pen .line)) → Passes b c u v (λ rest. the (u .line) 7 ∷ rest (u .line)) → Passes c d v x (printedBlock S body (v .line)) → Passes d e x pen′ (λ rest. the (x .line) 8 ∷ rest (x .line))
-      → Passes a e pen pen′ (λ rest. the (pen .line) 13 ∷ the (pen .line) 7 ∷ printedBlock S body (pen .line) (λ u. the u 8 ∷ rest u))
-  block-behind colon begin block close = record {
+      → Passes a e pen pen′ (behind (pen .line))
+  unfolding behind
+  behind-passes colon begin block close = record {
     goes = λ o w k g. close .goes o w k (block .goes o w (λ n. the n 8 ∷ k n) (begin .goes o w (λ n. printedBlock S body n (λ j. the j 8 ∷ k j)) (colon .goes o w (λ n. the n 7 ∷ printedBlock S body n (λ j. the j 8 ∷ k j)) g)));
   }
 
-  -- a pattern that is a constant
-  pub constant-branch-passes : {a b c d e f : List ℕ} {pen u v x y pen′ : Pen} {z : ℕ}
-      → (t ≡ 0x1b → ⊥) → z ≡ endOf m (q + 3) → Passes a b pen u (λ rest. constantLexeme S (constantAt m (q + 3)) ∷ rest (byte m (q + 3 + 3)))
-      → Passes b c u v (λ rest. the (u .line) 13 ∷ rest (u .line)) → Passes c d v x (λ rest. the (v .line) 7 ∷ rest (v .line)) → Passes d e x y (printedBlock S (blockAt m i z) (x .line)) → Passes e f y pen′ (λ rest. the (y .line) 8 ∷ rest (y .line))
-      → BranchPasses S m (i + 1) q a f pen pen′
-  unfolding printedBranches constantAt body
-  constant-branch-passes {a} {d = d} {e = e} {pen = pen} {x = x} {y = y} other ez pattern colon begin block close =
-      let inside = subst (λ (n : ℕ). Passes d e x y (printedBlock S (blockAt m i n) (x .line))) ez block in
-      record {
-        goes = λ after o w k g.
-            block-behind colon begin inside close .goes o w (λ n. printedBranches S after n k)
-            (pattern .goes o w (λ n. the n 13 ∷ the n 7 ∷ printedBlock S body n (λ j. the j 8 ∷ printedBranches S after j k))
-            (subst (λ (r : Branches). Going o a pen w (printedBranches S r (pen .line) k)) (constant-tree other after) g));
-      }
+  -- a default stands on the line of the first constant in its block
+  pattern-first : (after : Branches) (v : ℕ) (k : Rest) → printedBranches S (branchAt m n q after) v k ≡ printedPattern S m (q + 3) v (λ u. behind u (λ x. printedBranches S after x k))
+  unfolding printedBranches printedPattern constantAt body behind
+  pattern-first after v k = ap (λ (x : Branches). printedBranches S x v k) (branch-here s .tree after) ∙ go (eqb (byte m (q + 3)) 0x1b)
+    where
+      follows : Rest
+      follows u = behind u (λ x. printedBranches S after x k)
 
-  -- a default, on the line of the first constant in its block
-  pub default-branch-passes : {a b c d e f : List ℕ} {pen u v x y pen′ : Pen} {z n line : ℕ}
-      → t ≡ 0x1b → z ≡ endOf m (q + 3) → n ≡ endOf m z → line ≡ firstLabel m z n (pen .line) → Passes a b pen u (λ rest. the line 28 ∷ rest line)
-      → Passes b c u v (λ rest. the (u .line) 13 ∷ rest (u .line)) → Passes c d v x (λ rest. the (v .line) 7 ∷ rest (v .line)) → Passes d e x y (printedBlock S (blockAt m i z) (x .line)) → Passes e f y pen′ (λ rest. the (y .line) 8 ∷ rest (y .line))
-      → BranchPasses S m (i + 1) q a f pen pen′
-  unfolding printedBranches body
-  default-branch-passes {a} {b} {d = d} {e = e} {pen = pen} {u = u} {x = x} {y = y} is ez en eline word colon begin block close =
-      let inside = subst (λ (n : ℕ). Passes d e x y (printedBlock S (blockAt m i n) (x .line))) ez block in
-      let first = eline ∙ (λ j. firstLabel m (ez j) ((en ∙ ap (endOf m) ez) j) (pen .line)) ∙ block-line m i (endOf m (q + 3)) (pen .line) (branch-here s .block) in
-      let begun : Passes a b pen u (λ rest. the (lineFor (constantsOfBlock body) (pen .line)) 28 ∷ rest (lineFor (constantsOfBlock body) (pen .line))) = subst (λ (n : ℕ). Passes a b pen u (λ rest. the n 28 ∷ rest n)) first word in
+      first : ℕ
+      first = firstLabel m (endOf m (q + 3)) (endOf m (endOf m (q + 3))) v
+
+      go : (x : Bool) → printedBranches S (pick x (defaultBranch body after) (branch (constantAt m (q + 3)) body after)) v k ≡ pick x (the first 28 ∷ follows first) (constantLexeme S (constantAt m (q + 3)) ∷ follows (byte m (q + 3 + 3)))
+      go true = ap (λ (u : ℕ). the u 28 ∷ follows u) (sym (block-line m (n - 1) (endOf m (q + 3)) v (branch-here s .block)))
+      go false = refl
+
+  pub branch-passes : {a b c d e f : List ℕ} {pen u v x y pen′ : Pen} {z : ℕ}
+      → z ≡ endOf m (q + 3) → Passes a b pen u (printedPattern S m (q + 3) (pen .line))
+      → Passes b c u v (λ rest. the (u .line) 13 ∷ rest (u .line)) → Passes c d v x (λ rest. the (v .line) 7 ∷ rest (v .line)) → Passes d e x y (printedBlock S (blockAt m (n - 1) z) (x .line)) → Passes e f y pen′ (λ rest. the (y .line) 8 ∷ rest (y .line))
+      → BranchPasses S m n q a f pen pen′
+  unfolding body
+  branch-passes {a} {d = d} {e = e} {pen = pen} {x = x} {y = y} ez pattern colon begin block close =
+      let inside = subst (λ (j : ℕ). Passes d e x y (printedBlock S (blockAt m (n - 1) j) (x .line))) ez block in
       record {
         goes = λ after o w k g.
-            block-behind colon begin inside close .goes o w (λ n. printedBranches S after n k)
-            (begun .goes o w (λ n. the n 13 ∷ the n 7 ∷ printedBlock S body n (λ j. the j 8 ∷ printedBranches S after j k))
-            (subst (λ (r : Branches). Going o a pen w (printedBranches S r (pen .line) k)) (default-tree is after) g));
+            behind-passes colon begin inside close .goes o w (λ j. printedBranches S after j k)
+            (pattern .goes o w (λ u. behind u (λ j. printedBranches S after j k))
+            (subst (λ (r : List Lexeme). Going o a pen w r) (pattern-first after (pen .line) k) g));
       }
 
 -- ---- One branch after the other

@@ -1,9 +1,9 @@
-// Constants, and the line on which a form begins.
+// Constants, patterns, and the line on which a form begins.
 ghost use mathlib.Core.Path.{_≡_};
 ghost use mathlib.Core.List.{_∷_};
 ghost use Prim.Native.Nat.{_+_, _≤_, _<_};
 ghost use lib.ListN.{length};
-ghost use Rattle.wire.specs.Bytes.{byte};
+ghost use Rattle.wire.specs.Bytes.{byte, endOf};
 ghost use Rattle.rules.specs.Format.{isConstant};
 ghost use Rattle.rules.specs.Compile.{stringAt};
 ghost use Rattle.places.specs.At.{constantAt};
@@ -11,6 +11,7 @@ ghost use Rattle.syntax.specs.Strings.{stringTexts};
 ghost use Rattle.notation.specs.Print.{constantLexeme};
 ghost use Rattle.printer.specs.Passing.{Source, Passes};
 ghost use Rattle.printer.specs.Labels.{firstLabel, booleanKind};
+ghost use Rattle.printer.specs.Patterns.{printedPattern};
 use crate::tokens::write_mark;
 use crate::tokens::write_number;
 use crate::tokens::write_text;
@@ -18,6 +19,7 @@ use printable::fields::next_place;
 use token_writer::Pen;
 use wire::byte_at;
 use wire::byte_in;
+use wire::end_of;
 use wire::signed_at;
 use wire::two_at;
 
@@ -71,4 +73,24 @@ pub fn first_label(m: &[u8], p: usize, end: usize, line: u8) -> u8
         q = next_place(m, q);
     }
     line
+}
+
+// A pattern: a constant, or `default` on the line on which the form behind it begins.
+pub fn write_pattern(
+    m: &[u8],
+    table: &[u8],
+    strings: u16,
+    p: usize,
+    out: &mut [u8],
+    pen: Pen,
+) -> Pen
+    requires { ⌜ (Source (now m) (now table) strings) × (endOf (now m) (endOf (now m) p) ≤ length (now m)) ⌝ }
+    ensures { λ r. ⌜ Passes (now (out .entry)) (now (out .exit)) pen r (printedPattern (stringAt (stringTexts (now (m .entry)))) (now (m .entry)) p (pen .line)) ⌝ }
+{
+    if byte_at(m, p) == 0x1b {
+        let body = end_of(m, p);
+        let line = first_label(m, body, end_of(m, body), pen.line);
+        return write_mark(out, pen, line, 28);
+    }
+    write_constant(m, table, strings, p, out, pen)
 }
