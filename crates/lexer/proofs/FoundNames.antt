@@ -20,6 +20,7 @@ use Rattle.lexer.specs.Found.{lexFrom, tokensFrom, plainToken, Named, Fo
 use Rattle.lexer.proofs.Scanning.{stepped-on}
 use Rattle.lexer.proofs.WordNumbers.{run-in-word, keyword-bound}
 use Rattle.lexer.proofs.Ends.{token-ends, breaks-off, begins-behind, begins-token, with-letter, name-read}
+use Rattle.lexer.proofs.Spelling.{run-spelled}
 use Rattle.lexer.proofs.FoundTokens.{Gives, found-fault, found-mark, found-word, found-variable}
 
 -- ---- Words
@@ -57,7 +58,7 @@ module _ (t : List ℕ) (p l : ℕ) (o : Bool) (e : ℕ) (letter : isLetter (get
       go true i =
           let no : keywordIn keywords (slice p e t) ≡ none = sym f ∙ rw i in
           let meant : wordToken (slice p e t) ≡ word (slice p e t) = rw (short, no) in
-          rw (eqb-true k 0 i) (found-word t p l o bound e record { some-byte = omega (arith, run .low); at-most-255 = omega arith } (run .high) (rw meant at word-read))
+          rw (eqb-true k 0 i) (found-word t p l o bound e record { some-byte = omega (arith, run .low); at-most-255 = omega arith; spelled = run-spelled t p e (omega (arith, run .low)) (with-letter t p (p + 1) e refl letter run) } (run .high) (rw meant at word-read))
       go false i =
           let some-keyword : keywordIn keywords (slice p e t) ≡ some k = sym f ∙ rw i in
           let meant : wordToken (slice p e t) ≡ mark k = rw (short, some-keyword) in
@@ -76,12 +77,12 @@ name-meant w x b e = go (leb (length w) 255) (keywordIn keywords w) refl refl e
     go true (some k) i j f = rw (i, j, sym f)
     go false k i j f = rw (i, sym f)
 
-pub name-sized : (t : List ℕ) (a e : ℕ) → a < e → e ≤ length t → nameFits (slice a e t) ≡ true → Named a e
+pub name-sized : (t : List ℕ) (a e : ℕ) → a < e → WordRun t a e → nameFits (slice a e t) ≡ true → Named t a e
 unfolding nameFits
-name-sized t a e low high h =
+name-sized t a e low run h =
     let short = leb-true (length (slice a e t)) 255 (both-true (leb (length (slice a e t)) 255) (noKeyword (keywordIn keywords (slice a e t))) h .0) in
-    let size = length-slice a e t high in
-    record { some-byte = low; at-most-255 = omega arith }
+    let size = length-slice a e t (run .high) in
+    record { some-byte = low; at-most-255 = omega arith; spelled = run-spelled t a e low run }
 
 -- the test of the code
 pub long-no-name : (w : List ℕ) → 255 < length w → nameFits w ≡ false
@@ -136,4 +137,4 @@ module _ (t : List ℕ) (p l : ℕ) (o : Bool) (e : ℕ) (dollar : getD t p 0 �
   pub variable-found : l ≤ p → nameFits (slice (p + 1) e t) ≡ true → Found t p l o (plainToken aVariable p l e)
   variable-found bound h =
       let meant = name-meant (slice (p + 1) e t) (variable (slice (p + 1) e t)) true h in
-      found-variable t p l o bound e (name-sized t (p + 1) e (omega (arith, run .low)) (run .high) h) (run .high) (rw meant at variable-read)
+      found-variable t p l o bound e (name-sized t (p + 1) e (omega (arith, run .low)) (with-letter t (p + 1) (p + 2) e (omega arith) letter run) h) (run .high) (rw meant at variable-read)

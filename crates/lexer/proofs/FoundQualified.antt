@@ -138,7 +138,7 @@ module _ (t : List ℕ) (p l e : ℕ) (top : TopRead t p l e) (o : Bool) where
   pub top-found : twoColons t e ≡ false → nameFits (slice (p + 3) e t) ≡ true → Found t p l o (plainToken aQualified p l e)
   top-found single h =
       let meant = name-meant (slice (p + 3) e t) (topVariable (slice (p + 3) e t)) true h in
-      found-top t p l o (top .line-bound) e (name-sized t (p + 3) e (top .some-byte) (top .run .high) h) (top .run .high) (rw meant at (top-ends single))
+      found-top t p l o (top .line-bound) e (name-sized t (p + 3) e (top .some-byte) (top .run) h) (top .run .high) (rw meant at (top-ends single))
 
 -- ---- $::a::x
 
@@ -195,8 +195,8 @@ module _ (t : List ℕ) (p l i : ℕ) (top : TopRead t p l i) (colons : twoColon
     unfolding tokenIn
     class-found h j =
         let meant = name-meant (slice (p + 3) i t) (nameToken (slice (i + 2) e t) (classVariable (slice (p + 3) i t) (slice (i + 2) e t))) true h ∙ name-meant (slice (i + 2) e t) (classVariable (slice (p + 3) i t) (slice (i + 2) e t)) true j in
-        let class-named = name-sized t (p + 3) i (top .some-byte) (top .run .high) h in
-        let named = name-sized t (i + 2) e (omega (arith, run .low)) (run .high) j in
+        let class-named = name-sized t (p + 3) i (top .some-byte) (top .run) h in
+        let named = name-sized t (i + 2) e (omega (arith, run .low)) (with-letter t (i + 2) (i + 2 + 1) e refl letter run) j in
         let later : eqb i 0 ≡ false = ne-eqb i 0 (λ z. omega (arith, top .some-byte)) in
         found-token t p l o (top .line-bound) (classToken p l i e) refl refl (omega (arith, top .some-byte, run .low)) (run .high) (omega arith) (omega (arith, top .line-bound, top .some-byte, run .low)) (λ g. omega arith) (λ g. omega arith)
         record {
@@ -206,5 +206,6 @@ module _ (t : List ℕ) (p l i : ℕ) (top : TopRead t p l i) (colons : twoColon
           class-size = λ g z. (class-named, named);
           no-class = λ g. absurd (g refl);
           text-size = λ g. absurd (omega arith);
+          text-spelled = λ g. absurd (omega arith);
         }
         (rw later (rw meant at class-read))

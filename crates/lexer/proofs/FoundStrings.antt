@@ -23,6 +23,7 @@ use Rattle.lexer.specs.Found.{lexFrom, tokensFrom, plainToken, tokenIn, 
 use Rattle.lexer.specs.Strings.{isEscape, escapeAt, pieceSize, StringRun}
 use Rattle.lexer.proofs.Scanning.{stepped, stepped-on, stepped-to}
 use Rattle.lexer.proofs.Ends.{token-closed, begins-behind, begins-token, breaks-off}
+use Rattle.lexer.proofs.Spelling.{quoted-spelled}
 use Rattle.lexer.proofs.FoundTokens.{found-token, found-fault}
 
 -- ---- Bytes
@@ -219,5 +220,6 @@ module _ (t : List ℕ) (p l : ℕ) (o : Bool) (high : p < length t) (bound : l 
         class-size = λ g z. absurd (omega arith);
         no-class = λ g. refl;
         text-size = λ g. omega arith;
+        text-spelled = λ g. quoted-spelled t p quoted;
       }
       (rw meant at (string-begun ∙ run .whole h p l))

@@ -25,6 +25,7 @@ found-behind {t} {a} {b} {o} {r} s f = record {
   line-bound = f .line-bound;
   line-behind-bound = f .line-behind-bound;
   sized = f .sized;
+  same-tokens = s .same-tokens o ∙ f .same-tokens;
   at-end = λ e. s .same-tokens o ∙ f .at-end e;
   at-fault = λ e. let g = f .at-fault e in record { rest = g .rest; begins = s .same-tokens o ∙ g .begins };
   some-byte = f .some-byte;
@@ -44,6 +45,7 @@ nameless t r h class = record {
   class-size = λ e f. no-holder aQualified refl e;
   no-class = λ e. class;
   text-size = λ e. no-holder aText refl e;
+  text-spelled = λ e. no-holder aText refl e;
 }
   where
     no-holder : {A : Type 0} (k : ℕ) → isAmong k holders ≡ true → r .kind ≡ k → A
@@ -67,6 +69,7 @@ module _ (t : List ℕ) (p l : ℕ) (o : Bool) (bound : l ≤ p) where
     line-bound = bound;
     line-behind-bound = bound;
     sized = nameless t (plainToken endOfText p l p) refl refl;
+    same-tokens = refl;
     at-end = λ f. e;
     at-fault = λ f. absurd (omega arith);
     some-byte = λ f g. absurd (f refl);
@@ -84,6 +87,7 @@ module _ (t : List ℕ) (p l : ℕ) (o : Bool) (bound : l ≤ p) where
     line-bound = bound;
     line-behind-bound = bound;
     sized = nameless t (plainToken malformed p l p) refl refl;
+    same-tokens = refl;
     at-end = λ f. absurd (omega arith);
     at-fault = λ f. e;
     some-byte = λ f g. absurd (g refl);
@@ -104,6 +108,7 @@ module _ (t : List ℕ) (p l : ℕ) (o : Bool) (bound : l ≤ p) where
     line-bound = omega arith;
     line-behind-bound = behind;
     sized = sized;
+    same-tokens = rw (start, line);
     at-end = λ f. absurd (no-end f);
     at-fault = λ f. absurd (no-fault f);
     some-byte = λ f g. omega arith;
@@ -126,7 +131,7 @@ module _ (t : List ℕ) (p l : ℕ) (o : Bool) (bound : l ≤ p) where
 
   -- ---- Names
 
-  pub found-word : (e : ℕ) → Named p e → e ≤ length t → Gives t p l o (word (slice p e t)) e l → Found t p l o (plainToken aWord p l e)
+  pub found-word : (e : ℕ) → Named t p e → e ≤ length t → Gives t p l o (word (slice p e t)) e l → Found t p l o (plainToken aWord p l e)
   unfolding tokenIn
   found-word e n high f =
       found-token t p l o bound (plainToken aWord p l e) refl refl (n .some-byte) high (omega arith) (omega (arith, n .some-byte)) (λ g. omega arith) (λ g. omega arith)
@@ -137,10 +142,11 @@ module _ (t : List ℕ) (p l : ℕ) (o : Bool) (bound : l ≤ p) where
         class-size = λ g i. absurd (omega arith);
         no-class = λ g. refl;
         text-size = λ g. absurd (omega arith);
+        text-spelled = λ g. absurd (omega arith);
       }
       f
 
-  pub found-variable : (e : ℕ) → Named (p + 1) e → e ≤ length t → Gives t p l o (variable (slice (p + 1) e t)) e l → Found t p l o (plainToken aVariable p l e)
+  pub found-variable : (e : ℕ) → Named t (p + 1) e → e ≤ length t → Gives t p l o (variable (slice (p + 1) e t)) e l → Found t p l o (plainToken aVariable p l e)
   unfolding tokenIn
   found-variable e n high f =
       found-token t p l o bound (plainToken aVariable p l e) refl refl (omega (arith, n .some-byte)) high (omega arith) (omega (arith, n .some-byte)) (λ g. omega arith) (λ g. omega arith)
@@ -151,10 +157,11 @@ module _ (t : List ℕ) (p l : ℕ) (o : Bool) (bound : l ≤ p) where
         class-size = λ g i. absurd (omega arith);
         no-class = λ g. refl;
         text-size = λ g. absurd (omega arith);
+        text-spelled = λ g. absurd (omega arith);
       }
       f
 
-  pub found-top : (e : ℕ) → Named (p + 3) e → e ≤ length t → Gives t p l o (topVariable (slice (p + 3) e t)) e l → Found t p l o (plainToken aQualified p l e)
+  pub found-top : (e : ℕ) → Named t (p + 3) e → e ≤ length t → Gives t p l o (topVariable (slice (p + 3) e t)) e l → Found t p l o (plainToken aQualified p l e)
   unfolding tokenIn
   found-top e n high f =
       found-token t p l o bound (plainToken aQualified p l e) refl refl (omega (arith, n .some-byte)) high (omega arith) (omega (arith, n .some-byte)) (λ g. omega arith) (λ g. omega arith)
@@ -165,5 +172,6 @@ module _ (t : List ℕ) (p l : ℕ) (o : Bool) (bound : l ≤ p) where
         class-size = λ g i. absurd (i refl);
         no-class = λ g. refl;
         text-size = λ g. absurd (omega arith);
+        text-spelled = λ g. absurd (omega arith);
       }
       f

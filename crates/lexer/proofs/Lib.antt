@@ -1,6 +1,7 @@
 pub mod Scanning
 pub mod WordNumbers
 pub mod FoundTokens
+pub mod Spelling
 pub mod Ends
 pub mod FoundNames
 pub mod FoundQualified

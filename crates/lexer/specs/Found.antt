@@ -11,7 +11,7 @@ use lib.Seq.{slice}
 use Rattle.rules.specs.Bytes.{pick}
 use Rattle.notation.specs.Tokens.{word, number, text, variable, topVariable, classVariable, mark, aWord, aNumber, aText, aVariable, aQualified, endOfText, malformed, operandBehind, Lexeme, lexeme}
 use Rattle.notation.specs.Tokens as tokens
-use Rattle.notation.specs.Quoted.{quotedAt}
+use Rattle.notation.specs.Quoted.{quotedAt, stringFrom}
 use Rattle.notation.specs.Lexing.{Mode, lex, between}
 use Rattle.lexer.specs.declared.Token.{Token}
 
@@ -49,19 +49,21 @@ abbrev pub signToken : Option ℕ → (start line : ℕ) → Token
 signToken none p l = plainToken malformed p l p
 signToken (some k) p l = plainToken k p l (p + 1)
 
--- a name from a to b
-pub record Named (a b : ℕ) : Type 0 where
+-- a name from a to b, as the string that begins at a
+pub record Named (t : List ℕ) (a b : ℕ) : Type 0 where
   pub some-byte : a < b
   pub at-most-255 : b ≤ a + 255
+  pub spelled : stringFrom t a ≡ slice a b t
 
--- the names and strings in a token are not too long, and only $::a::x has a class
+-- the names and strings in a token are not too long, they begin where the code looks for them, and only $::a::x has a class
 pub record Sized (t : List ℕ) (r : Token) : Type 0 where
-  pub word-size : r .kind ≡ aWord → Named (r .start) (r .end)
-  pub variable-size : r .kind ≡ aVariable → Named (r .start + 1) (r .end)
-  pub top-size : r .kind ≡ aQualified → r .«class_end» ≡ 0 → Named (r .start + 3) (r .end)
-  pub class-size : r .kind ≡ aQualified → (r .«class_end» ≡ 0 → ⊥) → Named (r .start + 3) (r .«class_end») × Named (r .«class_end» + 2) (r .end)
+  pub word-size : r .kind ≡ aWord → Named t (r .start) (r .end)
+  pub variable-size : r .kind ≡ aVariable → Named t (r .start + 1) (r .end)
+  pub top-size : r .kind ≡ aQualified → r .«class_end» ≡ 0 → Named t (r .start + 3) (r .end)
+  pub class-size : r .kind ≡ aQualified → (r .«class_end» ≡ 0 → ⊥) → Named t (r .start + 3) (r .«class_end») × Named t (r .«class_end» + 2) (r .end)
   pub no-class : (r .kind ≡ aQualified → ⊥) → r .«class_end» ≡ 0
   pub text-size : r .kind ≡ aText → length (quotedAt t (r .start)) ≤ 255
+  pub text-spelled : r .kind ≡ aText → stringFrom t (r .start) ≡ quotedAt t (r .start)
 
 -- the tokens xs begin with x
 pub record Begins (x : Lexeme) (xs : List Lexeme) : Type 0 where
@@ -78,6 +80,7 @@ pub record Found (t : List ℕ) (at line : ℕ) (o : Bool) (r : Token) : Type 0 
   pub line-bound : r .line ≤ r .start
   pub line-behind-bound : r .«line_behind» ≤ r .end
   pub sized : Sized t r
+  pub same-tokens : tokensFrom t at line o ≡ tokensFrom t (r .start) (r .line) o
   pub at-end : r .kind ≡ endOfText → tokensFrom t at line o ≡ lexeme (r .start) (r .line) (mark endOfText) ∷ []
   pub at-fault : r .kind ≡ malformed → Begins (lexeme (r .start) (r .line) (mark malformed)) (tokensFrom t at line o)
   pub some-byte : (r .kind ≡ endOfText → ⊥) → (r .kind ≡ malformed → ⊥) → r .start < r .end
