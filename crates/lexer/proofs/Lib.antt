@@ -8,3 +8,4 @@ pub mod FoundQualified
 pub mod FoundNumbers
 pub mod FoundStrings
 pub mod FoundSigns
+pub mod LastToken

@@ -38,7 +38,7 @@ IsLine given p l = l ≡ lineAt given p
 -- ---- Bytes
 
 -- P holds of the place and the line of each byte from p on, where l is the line of p, and of the text's end
-abbrev EachByte : (P : ℕ → ℕ → Type 0) → List ℕ → (p l : ℕ) → Type 0
+abbrev pub EachByte : (P : ℕ → ℕ → Type 0) → List ℕ → (p l : ℕ) → Type 0
 EachByte P [] p l = P p l
 EachByte P (c ∷ cs) p l = P p l × EachByte P cs (suc p) (lineBehind c l)
 
@@ -71,7 +71,7 @@ module _ (P : (place line : ℕ) → Type 0) where
   At x = P (placeOf x) (lineOf x)
 
   -- P holds where the piece that is being read began
-  abbrev ModeAt : Mode → Type 0
+  abbrev pub ModeAt : Mode → Type 0
   ModeAt (between o) = Unit {0}
   ModeAt (comment o) = Unit {0}
   ModeAt (inName q m w) = P q m
@@ -187,7 +187,7 @@ module _ (P : (place line : ℕ) → Type 0) where
   at-append (also g gs) all = also g (at-append gs all)
 
   -- some bytes
-  at-lex : (cs : List ℕ) (n : Mode) (p l : ℕ) → EachByte P cs p l → ModeAt n → Each At (lex cs n p l)
+  pub at-lex : (cs : List ℕ) (n : Mode) (p l : ℕ) → EachByte P cs p l → ModeAt n → Each At (lex cs n p l)
   unfolding lex
   at-lex [] n p l e g = at-finish n p l e g
   at-lex (c ∷ cs) n p l e g = go (λ k h. at-lex cs k (suc p) (lineBehind c l) (e .1) h) (stepByte n p l c) (at-step n p l c (e .0) g)
