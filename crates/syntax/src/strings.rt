@@ -104,7 +104,7 @@ pub fn title_number(m: &[u8]) -> Found
 }
 
 // Whether a type is built in, by its name.
-fn is_built_in_text(text: &[u8]) -> bool
+pub fn is_built_in_text(text: &[u8]) -> bool
     ensures { λ r. ⌜ r ≡ isBuiltInText (now (text .entry)) ⌝ }
 {
     if same_bytes(text, b"kiosk") {
