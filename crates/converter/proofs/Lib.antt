@@ -8,3 +8,4 @@ pub mod Entering
 pub mod OtherTable
 pub mod Carrying
 pub mod TokenKinds
+pub mod StepSize
