@@ -9,3 +9,4 @@ pub mod OtherTable
 pub mod Carrying
 pub mod TokenKinds
 pub mod StepSize
+pub mod OutermostHead
