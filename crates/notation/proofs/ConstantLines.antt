@@ -195,7 +195,11 @@ module _ (P : (place line : ℕ) → Type 0) where
       go : ((k : Mode) → ModeAt k → Each At (lex cs k (suc p) (lineBehind c l))) → (r : Read) → ReadAt r → Each At (elim r as (λ r. List Lexeme) [ reads xs k ↦ xs ++ lex cs k (suc p) (lineBehind c l) ])
       go others (reads xs k) h = at-append (h .0) (others k (h .1))
 
+  -- a text
+  pub tokens-at : (given : List ℕ) → EachByte P given 0 0 → Each At (tokens given)
+  unfolding tokens
+  tokens-at given e = at-lex given (between true) 0 0 e tt
+
 -- every token of a text has the line of the byte at its place
 pub tokens-lined : (given : List ℕ) → Each (At (IsLine given)) (tokens given)
-unfolding tokens
-tokens-lined given = at-lex (IsLine given) given (between true) 0 0 (bytes-lined given) tt
+tokens-lined given = tokens-at (IsLine given) given (bytes-lined given)
