@@ -10,3 +10,5 @@ pub mod Carrying
 pub mod TokenKinds
 pub mod StepSize
 pub mod OutermostHead
+pub mod SecondPass
+pub mod LatePlace
