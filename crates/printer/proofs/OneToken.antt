@@ -6,19 +6,20 @@ use mathlib.Core.List.{List, [], _∷_, _++_}
 use native.Mathlib.Omega.{arith}
 use lib.Dec.{ltb, eqb}
 use lib.ListN.{length, drop, length-append, length-take, length-drop}
-use borrow.Author.Tests.{ltb-true, ltb-false, lt-ltb, le-ltb, eqb-true}
+use borrow.Author.Tests.{ltb-true, ltb-false, lt-ltb, le-ltb, eqb-true, ne-eqb}
 use Rattle.rules.specs.Bytes.{pick, two}
 use Rattle.rules.specs.Check.{text, stringPlaces}
 use Rattle.rules.specs.Compile.{stringAt}
 use Rattle.rules.proofs.Within.{false-not-true}
 use Rattle.syntax.specs.Strings.{textsAt, stringTexts}
-use Rattle.notation.specs.Tokens.{Token, word, number, text as quoted, variable, topVariable, classVariable, mark, kind, Lexeme, isAmong, leftBrace, leftRound, leftSquare, rightBrace, rightRound, rightSquare}
+use Rattle.notation.specs.Tokens.{Token, aWord, aText, aVariable, word, number, text as quoted, variable, topVariable, classVariable, mark, kind, Lexeme, isAmong, leftBrace, leftRound, leftSquare, rightBrace, rightRound, rightSquare}
 use Rattle.notation.specs.Layout.{signOf, keywordOf, spelling, markSpelling, bracketsBehind}
 use Rattle.notation.specs.Print.{at, Rest}
 use Rattle.token_writer.specs.declared.Pen.{Pen}
 use Rattle.token_writer.specs.Pens.{gapFor, tokenBytes, textFrom, Ready, Put, Halfway}
 use Rattle.token_writer.proofs.Chains.{one-more}
 use Rattle.printer.specs.Passing.{isFull, Going, writing, full, Passes}
+use Rattle.printer.specs.Holding.{holding}
 
 -- ---- The test
 
@@ -131,3 +132,31 @@ writes t known e h put = token-passes t known (sym e ∙ h) put
 -- the same of a token that is known by another name
 pub writes-as : {t : Token} (t′ : Token) {a b : List ℕ} {pen pen′ : Pen} {w : ℕ} {x : Bool} → kind t′ < 255 → t ≡ t′ → x ≡ isFull pen → x ≡ false → Put a b pen pen′ w t → Passes a b pen pen′ (λ rest. at w t′ ∷ rest w)
 writes-as t′ {a} {b} {pen} {pen′} {w} known same e h put = writes t′ known e h (subst (λ (y : Token). Put a b pen pen′ w y) same put)
+
+-- ---- A token that holds one string
+
+module _ {a b : List ℕ} {pen pen′ : Pen} {w k : ℕ} (s : List ℕ) where
+  pub puts-word : k ≡ aWord → Put a b pen pen′ w (word s) → Put a b pen pen′ w (holding k s)
+  puts-word e put = rw e put
+
+  pub puts-text : k ≡ aText → Put a b pen pen′ w (quoted s) → Put a b pen pen′ w (holding k s)
+  puts-text e put = rw e put
+
+  pub puts-variable : k ≡ aVariable → Put a b pen pen′ w (variable s) → Put a b pen pen′ w (holding k s)
+  puts-variable e put = rw e put
+
+  pub puts-top-variable : (k ≡ aWord → ⊥) → (k ≡ aText → ⊥) → (k ≡ aVariable → ⊥) → Put a b pen pen′ w (topVariable s) → Put a b pen pen′ w (holding k s)
+  puts-top-variable n0 n2 n3 put = rw (ne-eqb k aWord n0, ne-eqb k aText n2, ne-eqb k aVariable n3) put
+
+-- its kind is known
+holding-known : (k : ℕ) (s : List ℕ) → kind (holding k s) < 255
+holding-known k s = go (eqb k aWord) (eqb k aText) (eqb k aVariable)
+  where
+    go : (x y z : Bool) → kind (pick x (word s) (pick y (quoted s) (pick z (variable s) (topVariable s)))) < 255
+    go true y z = omega arith
+    go false true z = omega arith
+    go false false true = omega arith
+    go false false false = omega arith
+
+pub writes-holding : (k : ℕ) {s u : List ℕ} {a b : List ℕ} {pen pen′ : Pen} {w : ℕ} {x : Bool} → s ≡ u → x ≡ isFull pen → x ≡ false → Put a b pen pen′ w (holding k s) → Passes a b pen pen′ (λ rest. at w (holding k u) ∷ rest w)
+writes-holding k {u = u} e = writes-as (holding k u) (holding-known k u) (ap (holding k) e)

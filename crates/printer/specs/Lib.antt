@@ -1,4 +1,5 @@
 pub mod Passing
+pub mod Holding
 pub mod Labels
 pub mod Brackets
 pub mod Forms

@@ -2,11 +2,14 @@
 ghost use mathlib.Core.Path.{_≡_};
 ghost use mathlib.Core.List.{_∷_};
 ghost use Prim.Native.Nat.{_≤_};
+ghost use lib.ListN.{length};
 ghost use Rattle.rules.specs.Compile.{stringAt};
 ghost use Rattle.syntax.specs.Strings.{stringTexts};
 ghost use Rattle.notation.specs.Tokens.{word, number, text, variable, topVariable, classVariable};
 ghost use Rattle.notation.specs.Print.{at, the};
+ghost use Rattle.token_writer.specs.Pens.{Ready, Put};
 ghost use Rattle.printer.specs.Passing.{Source, isFull, Passes};
+ghost use Rattle.printer.specs.Holding.{holding};
 use syntax::strings::string_at;
 use token_writer::Pen;
 use token_writer::put_class_variable;
@@ -48,7 +51,40 @@ pub fn write_number(out: &mut [u8], pen: Pen, line: u8, value: i64) -> Pen
     put_number(out, pen, line, value)
 }
 
-// A name by its number in the table.
+// A token that holds the string given: a name, a string in single quotes, `$x` or `$::x`.
+fn put_string(out: &mut [u8], pen: Pen, line: u8, string: &[u8], kind: u8) -> Pen
+    requires { ⌜ Ready pen × (length (now string) ≤ 65535) ⌝ }
+    ensures { λ r. ⌜ Put (now (out .entry)) (now (out .exit)) pen r line (holding kind (now (string .entry))) ⌝ }
+{
+    match kind {
+        0 => put_word(out, pen, line, string),
+        2 => put_text(out, pen, line, string),
+        3 => put_variable(out, pen, line, string),
+        _ => put_top_variable(out, pen, line, string),
+    }
+}
+
+// A token of this kind that holds a string, by its number in the table.
+fn write_string(
+    m: &[u8],
+    table: &[u8],
+    strings: u16,
+    out: &mut [u8],
+    pen: Pen,
+    line: u8,
+    n: u16,
+    kind: u8,
+) -> Pen
+    requires { ⌜ Source (now m) (now table) strings ⌝ }
+    ensures { λ r. ⌜ Passes (now (out .entry)) (now (out .exit)) pen r (λ rest. at line (holding kind (stringAt (stringTexts (now (m .entry))) n)) ∷ rest line) ⌝ }
+{
+    if is_full(pen) {
+        return pen;
+    }
+    put_string(out, pen, line, string_at(m, table, strings, n), kind)
+}
+
+// A name.
 pub fn write_word(
     m: &[u8],
     table: &[u8],
@@ -61,10 +97,7 @@ pub fn write_word(
     requires { ⌜ Source (now m) (now table) strings ⌝ }
     ensures { λ r. ⌜ Passes (now (out .entry)) (now (out .exit)) pen r (λ rest. at line (word (stringAt (stringTexts (now (m .entry))) n)) ∷ rest line) ⌝ }
 {
-    if is_full(pen) {
-        return pen;
-    }
-    put_word(out, pen, line, string_at(m, table, strings, n))
+    write_string(m, table, strings, out, pen, line, n, 0)
 }
 
 // A string, in single quotes.
@@ -80,10 +113,7 @@ pub fn write_text(
     requires { ⌜ Source (now m) (now table) strings ⌝ }
     ensures { λ r. ⌜ Passes (now (out .entry)) (now (out .exit)) pen r (λ rest. at line (text (stringAt (stringTexts (now (m .entry))) n)) ∷ rest line) ⌝ }
 {
-    if is_full(pen) {
-        return pen;
-    }
-    put_text(out, pen, line, string_at(m, table, strings, n))
+    write_string(m, table, strings, out, pen, line, n, 2)
 }
 
 // `$x`
@@ -99,10 +129,7 @@ pub fn write_variable(
     requires { ⌜ Source (now m) (now table) strings ⌝ }
     ensures { λ r. ⌜ Passes (now (out .entry)) (now (out .exit)) pen r (λ rest. at line (variable (stringAt (stringTexts (now (m .entry))) n)) ∷ rest line) ⌝ }
 {
-    if is_full(pen) {
-        return pen;
-    }
-    put_variable(out, pen, line, string_at(m, table, strings, n))
+    write_string(m, table, strings, out, pen, line, n, 3)
 }
 
 // `$::x`
@@ -118,10 +145,7 @@ pub fn write_top_variable(
     requires { ⌜ Source (now m) (now table) strings ⌝ }
     ensures { λ r. ⌜ Passes (now (out .entry)) (now (out .exit)) pen r (λ rest. at line (topVariable (stringAt (stringTexts (now (m .entry))) n)) ∷ rest line) ⌝ }
 {
-    if is_full(pen) {
-        return pen;
-    }
-    put_top_variable(out, pen, line, string_at(m, table, strings, n))
+    write_string(m, table, strings, out, pen, line, n, 4)
 }
 
 // `$::a::x`
