@@ -1,22 +1,22 @@
 -- Arms: each is written when its parts are, and all are when each is, one after the other. Assumes nothing.
 use Prim.Native.Nat.{ℕ, suc, _+_, _≤_, _<_}
-use mathlib.Core.Path.{_≡_, sym, ap, _∙_, subst}
+use mathlib.Core.Path.{_≡_, refl, sym, ap, _∙_, subst}
 use mathlib.Core.Bool.{Bool, true, false}
-use mathlib.Core.List.{List, [], _∷_}
+use mathlib.Core.List.{List, _∷_}
 use native.Mathlib.Omega.{arith}
 use lib.Dec.{eqb}
-use lib.ListN.{length}
-use borrow.Author.Tests.{eq-eqb, ne-eqb}
 use Rattle.wire.proofs.Fields.{no-fields, field-first}
 use Rattle.rules.specs.Bytes.{pick, byte, endOf, fieldsIn}
 use Rattle.rules.specs.Tree.{Expression, Arms, arm, defaultArm}
 use Rattle.rules.specs.declared.Kind.the-variants.{Arm}
 use Rattle.places.specs.At.{constantAt, expressionAt, armAt, armsAt, StandsAs, Siblings, ended, sibling}
 use Rattle.places.proofs.Expressions.{ArmAt, arm-opens}
-use Rattle.notation.specs.Print.{Rest, the, constantsOf, lineFor, separated, constantLexeme, printed, printedArms}
+use Rattle.notation.specs.Tokens.{Lexeme}
+use Rattle.notation.specs.Print.{Rest, the, separated, constantLexeme, printed, printedArms}
 use Rattle.token_writer.specs.declared.Pen.{Pen}
 use Rattle.printer.specs.Passing.{Going, Passes}
 use Rattle.printer.specs.Labels.{firstLabel}
+use Rattle.printer.specs.Patterns.{printedPattern}
 use Rattle.printer.specs.Forms.{ArmPasses}
 use Rattle.printer.proofs.FirstLabel.{expression-line}
 use Rattle.printer.proofs.PrintedExpressions.{operand-at}
@@ -26,59 +26,39 @@ use Rattle.printer.proofs.PrintedExpressions.{operand-at}
 pub arm-here : {m : List ℕ} {i q : ℕ} → StandsAs m (i + 1) Arm q → ArmAt m (i + 1) i q
 arm-here {i = i} s = let above : i + 1 ≡ suc i = omega arith in arm-opens s above
 
--- a field at a computed place ends within the manifest
-pub ends-within : (m : List ℕ) {p q e : ℕ} → q ≡ p → e ≡ endOf m q → endOf m p ≤ length m → e ≤ length m
-ends-within m {p} {q} {e} eq ee h = let same : e ≡ endOf m p = ee ∙ ap (endOf m) eq in omega (arith, same, h)
-
-module _ (S : ℕ → List ℕ) (m : List ℕ) (i q : ℕ) (later : Bool) {t : ℕ} (s : StandsAs m (i + 1) Arm q) (tag : t ≡ byte m (q + 3)) where
+module _ (S : ℕ → List ℕ) (m : List ℕ) (i q : ℕ) (later : Bool) (s : StandsAs m (i + 1) Arm q) where
   body : Expression
   body = expressionAt m i (endOf m (q + 3))
 
-  constant-tree : (t ≡ 0x1b → ⊥) → (after : Arms) → armAt m (i + 1) q after ≡ arm (constantAt m (q + 3)) body after
-  unfolding body
-  constant-tree other after = arm-here s .tree after ∙ ap (λ (b : Bool). pick b (defaultArm body after) (arm (constantAt m (q + 3)) body after)) (ap (λ (x : ℕ). eqb x 0x1b) (sym tag) ∙ ne-eqb t 0x1b other)
+  -- a default stands on the line of the first constant in its expression
+  pattern-first : (after : Arms) (v : ℕ) (k : Rest) → printedArms S (armAt m (i + 1) q after) later v k ≡ separated later v (printedPattern S m (q + 3) v (λ u. the u 15 ∷ printed S body 1 u (λ x. printedArms S after true x k)))
+  unfolding printedArms printedPattern constantAt body
+  pattern-first after v k = ap (λ (x : Arms). printedArms S x later v k) (arm-here s .tree after) ∙ go (eqb (byte m (q + 3)) 0x1b)
+    where
+      follows : Rest
+      follows u = the u 15 ∷ printed S body 1 u (λ x. printedArms S after true x k)
 
-  default-tree : t ≡ 0x1b → (after : Arms) → armAt m (i + 1) q after ≡ defaultArm body after
-  unfolding body
-  default-tree is after = arm-here s .tree after ∙ ap (λ (b : Bool). pick b (defaultArm body after) (arm (constantAt m (q + 3)) body after)) (ap (λ (x : ℕ). eqb x 0x1b) (sym tag) ∙ eq-eqb t 0x1b is)
+      first : ℕ
+      first = firstLabel m (endOf m (q + 3)) (endOf m (endOf m (q + 3))) v
 
-  -- a pattern that is a constant
-  pub constant-arm-passes : {a b c d e : List ℕ} {pen u v x pen′ : Pen} {z : ℕ}
-      → (t ≡ 0x1b → ⊥) → z ≡ endOf m (q + 3) → Passes a b pen u (λ rest. separated later (pen .line) (rest (pen .line)))
-      → Passes b c u v (λ rest. constantLexeme S (constantAt m (q + 3)) ∷ rest (byte m (q + 3 + 3))) → Passes c d v x (λ rest. the (v .line) 15 ∷ rest (v .line)) → Passes d e x pen′ (printed S (expressionAt m i z) 1 (x .line))
+      go : (x : Bool) → printedArms S (pick x (defaultArm body after) (arm (constantAt m (q + 3)) body after)) later v k ≡ separated later v (pick x (the first 28 ∷ follows first) (constantLexeme S (constantAt m (q + 3)) ∷ follows (byte m (q + 3 + 3))))
+      go true = ap (λ (u : ℕ). separated later v (the u 28 ∷ follows u)) (sym (expression-line m i (endOf m (q + 3)) v (arm-here s .expression)))
+      go false = refl
+
+  pub arm-passes : {a b c d e : List ℕ} {pen u v x pen′ : Pen} {z : ℕ}
+      → z ≡ endOf m (q + 3) → Passes a b pen u (λ rest. separated later (pen .line) (rest (pen .line)))
+      → Passes b c u v (printedPattern S m (q + 3) (u .line)) → Passes c d v x (λ rest. the (v .line) 15 ∷ rest (v .line)) → Passes d e x pen′ (printed S (expressionAt m i z) 1 (x .line))
       → ArmPasses S m (i + 1) q later a e pen pen′
-  unfolding printedArms constantAt body
-  constant-arm-passes {a} {pen = pen} {x = x} other ez comma pattern sign expression = record {
+  unfolding body
+  arm-passes {a} {pen = pen} {x = x} ez comma pattern sign expression = record {
     goes = λ after o w k g.
         let follows : Rest = (λ n. printedArms S after true n k) in
-        let label : ℕ = byte m (q + 3 + 3) in
         operand-at S m i 1 (x .line) ez expression .goes o w follows
         (sign .goes o w (λ n. printed S body 1 n follows)
         (pattern .goes o w (λ n. the n 15 ∷ printed S body 1 n follows)
-        (comma .goes o w (λ n. constantLexeme S (constantAt m (q + 3)) ∷ the label 15 ∷ printed S body 1 label follows)
-        (subst (λ (y : Arms). Going o a pen w (printedArms S y later (pen .line) k)) (constant-tree other after) g))));
+        (comma .goes o w (λ n. printedPattern S m (q + 3) n (λ j. the j 15 ∷ printed S body 1 j follows))
+        (subst (λ (r : List Lexeme). Going o a pen w r) (pattern-first after (pen .line) k) g))));
   }
-
-  -- a default, on the line of the first constant in its expression
-  pub default-arm-passes : {a b c d e : List ℕ} {pen u v x pen′ : Pen} {z f line : ℕ}
-      → t ≡ 0x1b → z ≡ endOf m (q + 3) → f ≡ endOf m z → line ≡ firstLabel m z f (pen .line) → Passes a b pen u (λ rest. separated later (pen .line) (rest (pen .line)))
-      → Passes b c u v (λ rest. the line 28 ∷ rest line) → Passes c d v x (λ rest. the (v .line) 15 ∷ rest (v .line)) → Passes d e x pen′ (printed S (expressionAt m i z) 1 (x .line))
-      → ArmPasses S m (i + 1) q later a e pen pen′
-  unfolding printedArms body
-  default-arm-passes {a} {b} {c} {pen = pen} {u = u} {v = v} {x = x} {z = z} {f = f} {line = line} is ez ef eline comma word sign expression =
-      let first : line ≡ lineFor (constantsOf body) (pen .line) =
-      eline ∙ (λ j. firstLabel m (ez j) ((ef ∙ ap (endOf m) ez) j) (pen .line)) ∙ expression-line m i (endOf m (q + 3)) (pen .line) (arm-here s .expression) in
-      let begun : Passes b c u v (λ rest. the (lineFor (constantsOf body) (pen .line)) 28 ∷ rest (lineFor (constantsOf body) (pen .line))) = subst (λ (n : ℕ). Passes b c u v (λ rest. the n 28 ∷ rest n)) first word in
-      record {
-        goes = λ after o w k g.
-            let follows : Rest = (λ n. printedArms S after true n k) in
-            let here : ℕ = lineFor (constantsOf body) (pen .line) in
-            operand-at S m i 1 (x .line) ez expression .goes o w follows
-            (sign .goes o w (λ n. printed S body 1 n follows)
-            (begun .goes o w (λ n. the n 15 ∷ printed S body 1 n follows)
-            (comma .goes o w (λ n. the here 28 ∷ the here 15 ∷ printed S body 1 here follows)
-            (subst (λ (y : Arms). Going o a pen w (printedArms S y later (pen .line) k)) (default-tree is after) g))));
-      }
 
 -- ---- One arm after the other
 

@@ -1,9 +1,11 @@
 -- A pattern is written when its constant is, or the word for default.
-use Prim.Native.Nat.{ℕ, _+_}
+use Prim.Native.Nat.{ℕ, _+_, _≤_}
 use mathlib.Core.Path.{_≡_, sym, ap, _∙_, subst}
 use mathlib.Core.Bool.{Bool}
 use mathlib.Core.List.{List, _∷_}
+use native.Mathlib.Omega.{arith}
 use lib.Dec.{eqb}
+use lib.ListN.{length}
 use borrow.Author.Tests.{eq-eqb, ne-eqb}
 use Rattle.rules.specs.Bytes.{pick, byte, endOf}
 use Rattle.places.specs.At.{constantAt}
@@ -12,6 +14,10 @@ use Rattle.token_writer.specs.declared.Pen.{Pen}
 use Rattle.printer.specs.Passing.{Passes}
 use Rattle.printer.specs.Labels.{firstLabel}
 use Rattle.printer.specs.Patterns.{printedPattern}
+
+-- a field at a computed place ends within the manifest
+pub ends-within : (m : List ℕ) {p q e : ℕ} → q ≡ p → e ≡ endOf m q → endOf m p ≤ length m → e ≤ length m
+ends-within m {p} {q} {e} eq ee h = let same : e ≡ endOf m p = ee ∙ ap (endOf m) eq in omega (arith, same, h)
 
 module _ (S : ℕ → List ℕ) (m : List ℕ) (p : ℕ) {t : ℕ} {a b : List ℕ} {pen pen′ : Pen} (tag : t ≡ byte m p) where
   -- the pattern by the test of its tag

@@ -1,5 +1,4 @@
 // Expressions and their arms.
-ghost use mathlib.Core.Path.{_≡_};
 ghost use Prim.Native.Nat.{_+_, _≤_};
 ghost use Rattle.wire.specs.Bytes.{fieldsIn};
 ghost use Rattle.rules.specs.Compile.{stringAt};
@@ -10,8 +9,8 @@ ghost use mathlib.Core.Bool.{false};
 ghost use Rattle.notation.specs.Print.{printed, printedArms};
 ghost use Rattle.printer.specs.Passing.{Source, Passes};
 ghost use Rattle.printer.specs.Forms.{Here, ArmPasses};
-use crate::constants::first_label;
 use crate::constants::write_constant;
+use crate::constants::write_pattern;
 use crate::signs::close_bracket;
 use crate::signs::level_of;
 use crate::signs::open_bracket;
@@ -112,16 +111,9 @@ fn arm(
     ensures { λ r. ⌜ ArmPasses (stringAt (stringTexts (now (m .entry)))) (now (m .entry)) (inner + 1) q later (now (out .entry)) (now (out .exit)) pen r ⌝ }
 {
     let begun = separate(out, pen, later);
-    let body = end_of(m, q + 3);
-    if byte_at(m, q + 3) == 0x1b {
-        let line = first_label(m, body, end_of(m, body), pen.line);
-        let word = write_mark(out, begun, line, 28);
-        let sign = write_mark(out, word, word.line, 15);
-        return expression(m, table, strings, inner, body, 1, out, sign);
-    }
-    let pattern = write_constant(m, table, strings, q + 3, out, begun);
+    let pattern = write_pattern(m, table, strings, q + 3, out, begun);
     let sign = write_mark(out, pattern, pattern.line, 15);
-    expression(m, table, strings, inner, body, 1, out, sign)
+    expression(m, table, strings, inner, end_of(m, q + 3), 1, out, sign)
 }
 
 // The arms from `first` to `end`; an arm has one level more than what is in it.

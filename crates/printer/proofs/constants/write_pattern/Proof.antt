@@ -1,6 +1,5 @@
 -- `write_pattern`: a constant, or default.
-use Rattle.printer.proofs.PrintedPatterns.{constant-pattern-passes, default-pattern-passes}
-use Rattle.printer.proofs.PrintedArms.{ends-within}
+use Rattle.printer.proofs.PrintedPatterns.{ends-within, constant-pattern-passes, default-pattern-passes}
 use borrow.Author.Needs.{needs}
 use Rattle.printer.proofs.constants.write_pattern.Statement.{statement}
 use Rattle.printer.proofs.constants.write_pattern.Tie as tie

@@ -7,6 +7,7 @@ mod Expression
 mod Negation
 mod Operation
 mod Selector
+use native.Mathlib.Omega.{arith}
 use borrow.Author.Needs.{needs}
 use Rattle.printer.proofs.expressions.+arm+arms+attribute_read+expression+negation+operation+selector.{statement}
 use Rattle.printer.proofs.expressions.+arm+arms+attribute_read+expression+negation+operation+selector.Tie.{close}
@@ -38,23 +39,14 @@ pub +arm+arms+attribute-read+expression+negation+operation+selector-spec : {M : 
     close μ-arm μ-arms μ-attribute-read μ-expression μ-negation μ-operation μ-selector
     (λ t. arm-lts.spec (arm-calls t) (arm-at t) arm.Post
     (λ c κs. tt)
+    (arm-answers.add-write-pattern t)
+    (arm-answers.write-pattern-requires t)
+    (λ c κs. (omega arith, omega arith))
     (arm-answers.add-end-of t)
     (arm-answers.end-of-requires t)
-    (arm-answers.add-byte-at t)
-    (λ c κs. tt)
-    (arm-answers.end-of-requires-2 t)
-    (arm-answers.first-label-requires t)
-    (arm-answers.write-mark-requires t)
-    (arm-answers.write-mark-requires-2 t)
     (arm-answers.expression-requires t)
     (arm-answers.same-length t)
-    (arm-answers.returns t)
-    (arm-answers.add-write-constant t)
-    (arm-answers.write-constant-requires t)
-    (arm-answers.write-mark-requires-3 t)
-    (arm-answers.expression-requires-2 t)
-    (arm-answers.same-length-2 t)
-    (arm-answers.returns-2 t))
+    (arm-answers.returns t))
     (λ t. arms-lts.spec (arms-calls t) (arms-at t) arms.Post
     arms-answers.Inv-loop
     arms-answers.μ-loop
@@ -69,15 +61,15 @@ pub +arm+arms+attribute-read+expression+negation+operation+selector-spec : {M : 
     (attribute-read-answers.add-two-at t)
     (λ c κs. tt)
     (attribute-read-answers.write-word-requires t)
-    (attribute-read-answers.write-mark-requires t)
+    (λ c κs. (omega arith, omega arith))
     (attribute-read-answers.add-expression t)
     (attribute-read-answers.expression-requires t)
-    (attribute-read-answers.write-mark-requires-2 t)
-    (attribute-read-answers.write-mark-requires-3 t)
+    (λ c κs. (omega arith, omega arith))
+    (λ c κs. (omega arith, omega arith))
     (attribute-read-answers.add-two-at-2 t)
     (λ c κs. tt)
     (attribute-read-answers.write-word-requires-2 t)
-    (attribute-read-answers.write-mark-requires-4 t)
+    (λ c κs. (omega arith, omega arith))
     (attribute-read-answers.same-length t)
     (attribute-read-answers.returns t))
     (λ t. expression-lts.spec (expression-calls t) (expression-at t) expression.Post
@@ -102,7 +94,7 @@ pub +arm+arms+attribute-read+expression+negation+operation+selector-spec : {M : 
     (λ c. search needs)
     (expression-answers.returns-6 t))
     (λ t. negation-lts.spec (negation-calls t) (negation-at t) negation.Post
-    (negation-answers.write-mark-requires t)
+    (λ c κs. (omega arith, omega arith))
     (negation-answers.add-expression t)
     (negation-answers.expression-requires t)
     (negation-answers.same-length t)
@@ -127,14 +119,14 @@ pub +arm+arms+attribute-read+expression+negation+operation+selector-spec : {M : 
     (λ c κs. tt)
     (selector-answers.add-expression t)
     (selector-answers.expression-requires t)
-    (selector-answers.write-mark-requires t)
-    (selector-answers.write-mark-requires-2 t)
+    (λ c κs. (omega arith, omega arith))
+    (λ c κs. (omega arith, omega arith))
     (selector-answers.sub-arms t)
     (selector-answers.add-end-of t)
     (selector-answers.end-of-requires t)
     (selector-answers.end-of-requires-2 t)
     (selector-answers.arms-requires t)
-    (selector-answers.write-mark-requires-3 t)
+    (λ c κs. (omega arith, omega arith))
     (λ c κs. tt)
     (selector-answers.same-length t)
     (selector-answers.returns t))

@@ -13,29 +13,17 @@ add-two-at t c = let o = attribute-read-here (c .before .before .before .before 
 pub write-word-requires : (t : ℕ) → attribute-read-lts.Need-write-word-requires (attribute-read-calls t) (attribute-read-at t) attribute-read.Post
 write-word-requires t c κs = c .before .before .before .before .before .pre .1 .source
 
-pub write-mark-requires : (t : ℕ) → attribute-read-lts.Need-write-mark-requires (attribute-read-calls t) (attribute-read-at t) attribute-read.Post
-write-mark-requires t c κs = (omega arith, omega arith)
-
 pub add-expression : (t : ℕ) → attribute-read-lts.Need-add-expression (attribute-read-calls t) (attribute-read-at t) attribute-read.Post
 add-expression t c = let o = attribute-read-here (c .before .before .before .before .before .before .before .before .before .before .before .before .pre .1) in omega (arith, o .title .stands .ends, c .before .before .before .before .before .before .before .before .before .before .before .before .pre .1 .source .short)
 
 pub expression-requires : (t : ℕ) → attribute-read-lts.Need-expression-requires (attribute-read-calls t) (attribute-read-at t) attribute-read.Post
 expression-requires t c κs = let o = attribute-read-here (c .before .before .before .before .before .before .before .before .before .before .before .before .before .pre .1) in (omega (arith, c .before .before .before .before .before .before .before .before .before .before .before .before .before .pre .0), (c .before .before .before .before .before .before .before .before .before .before .before .before .before .pre .1 .source, o .title))
 
-pub write-mark-requires-2 : (t : ℕ) → attribute-read-lts.Need-write-mark-requires-2 (attribute-read-calls t) (attribute-read-at t) attribute-read.Post
-write-mark-requires-2 t c κs = (omega arith, omega arith)
-
-pub write-mark-requires-3 : (t : ℕ) → attribute-read-lts.Need-write-mark-requires-3 (attribute-read-calls t) (attribute-read-at t) attribute-read.Post
-write-mark-requires-3 t c κs = (omega arith, omega arith)
-
 pub add-two-at-2 : (t : ℕ) → attribute-read-lts.Need-add-two-at-2 (attribute-read-calls t) (attribute-read-at t) attribute-read.Post
 add-two-at-2 t c = let o = attribute-read-here (c .before .before .before .before .before .before .before .before .before .before .before .before .before .before .before .before .before .before .before .before .before .before .before .before .before .pre .1) in omega (arith, o .title .stands .ends, c .before .before .before .before .before .before .before .before .before .before .before .before .before .before .before .before .before .before .before .before .before .before .before .before .before .pre .1 .source .short)
 
 pub write-word-requires-2 : (t : ℕ) → attribute-read-lts.Need-write-word-requires-2 (attribute-read-calls t) (attribute-read-at t) attribute-read.Post
 write-word-requires-2 t c κs = c .before .before .before .before .before .before .before .before .before .before .before .before .before .before .before .before .before .before .before .before .before .before .before .before .before .before .pre .1 .source
-
-pub write-mark-requires-4 : (t : ℕ) → attribute-read-lts.Need-write-mark-requires-4 (attribute-read-calls t) (attribute-read-at t) attribute-read.Post
-write-mark-requires-4 t c κs = (omega arith, omega arith)
 
 pub same-length : (t : ℕ) → attribute-read-lts.Need-same-length (attribute-read-calls t) (attribute-read-at t) attribute-read.Post
 same-length t c = c .before .before .write-mark4 .kept .0 ∙ c .before .before .before .before .before .before .write-word2 .kept .1 .1 .1 .0 ∙ c .before .before .before .before .before .before .before .before .before .before .before .write-mark3 .kept .0 ∙ c .before .before .before .before .before .before .before .before .before .before .before .before .before .before .before .write-mark2 .kept .0 ∙ c .before .before .before .before .before .before .before .before .before .before .before .before .before .before .before .before .before .before .before .expression .kept .1 .1 .1 .1 .1 .1 .0 ∙ c .before .before .before .before .before .before .before .before .before .before .before .before .before .before .before .before .before .before .before .before .before .before .before .write-mark .kept .0 ∙ c .before .before .before .before .before .before .before .before .before .before .before .before .before .before .before .before .before .before .before .before .before .before .before .before .before .before .before .write-word .kept .1 .1 .1 .0

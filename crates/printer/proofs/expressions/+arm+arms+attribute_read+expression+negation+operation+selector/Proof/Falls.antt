@@ -23,8 +23,8 @@ use Rattle.printer.proofs.expressions.+arm+arms+attribute_read+expressi
 use Rattle.printer.proofs.expressions.selector.Reads as selector
 use Rattle.printer.proofs.expressions.selector.Kinds as selector-kinds
 use Rattle.printer.proofs.expressions.+arm+arms+attribute_read+expression+negation+operation+selector.Lts-selector as selector-lts
-use Rattle.printer.proofs.constants.first_label.Reads as first-label-reads
 use Rattle.printer.proofs.constants.write_constant.Reads as write-constant-reads
+use Rattle.printer.proofs.constants.write_pattern.Reads as write-pattern-reads
 use Rattle.printer.proofs.signs.close_bracket.Reads as close-bracket-reads
 use Rattle.printer.proofs.signs.level_of.Reads as level-of-reads
 use Rattle.printer.proofs.signs.open_bracket.Reads as open-bracket-reads
@@ -102,7 +102,7 @@ selector-below t = and 3 selector-kinds.ps (falls 3 selector-kinds.ps _<_ μ-sel
 
 -- what arm knows of its callees
 abbrev pub arm-calls : ℕ → arm-lts.Claims
-arm-calls t = (separate-reads.Asked, separate-reads.Learnt, end-of-reads.Asked, end-of-reads.Learnt, byte-at-reads.Asked, byte-at-reads.Learnt, first-label-reads.Asked, first-label-reads.Learnt, write-mark-reads.Asked, write-mark-reads.Learnt, expression-below t, expression.Post, write-constant-reads.Asked, write-constant-reads.Learnt)
+arm-calls t = (separate-reads.Asked, separate-reads.Learnt, write-pattern-reads.Asked, write-pattern-reads.Learnt, write-mark-reads.Asked, write-mark-reads.Learnt, end-of-reads.Asked, end-of-reads.Learnt, expression-below t, expression.Post)
 
 -- what arms knows of its callees
 abbrev pub arms-calls : ℕ → arms-lts.Claims

@@ -7,9 +7,6 @@ use Rattle.printer.proofs.expressions.negation.Reads as negation
 use Rattle.printer.proofs.expressions.+arm+arms+attribute_read+expression+negation+operation+selector.Lts-negation as negation-lts
 use Rattle.printer.proofs.expressions.+arm+arms+attribute_read+expression+negation+operation+selector.Proof.Falls.{negation-calls, negation-at}
 
-pub write-mark-requires : (t : ℕ) → negation-lts.Need-write-mark-requires (negation-calls t) (negation-at t) negation.Post
-write-mark-requires t c κs = (omega arith, omega arith)
-
 pub add-expression : (t : ℕ) → negation-lts.Need-add-expression (negation-calls t) (negation-at t) negation.Post
 add-expression t c = let o = negation-here (c .before .before .before .before .before .before .before .pre .1) in omega (arith, o .operand .stands .ends, c .before .before .before .before .before .before .before .pre .1 .source .short)
 

@@ -14,12 +14,6 @@ add-expression t c = let o = selector-here (c .before .before .before .before .b
 pub expression-requires : (t : ℕ) → selector-lts.Need-expression-requires (selector-calls t) (selector-at t) selector.Post
 expression-requires t c κs = let o = selector-here (c .before .before .before .before .before .before .before .before .pre .1) in (omega (arith, c .before .before .before .before .before .before .before .before .pre .0), (c .before .before .before .before .before .before .before .before .pre .1 .source, o .scrutinee))
 
-pub write-mark-requires : (t : ℕ) → selector-lts.Need-write-mark-requires (selector-calls t) (selector-at t) selector.Post
-write-mark-requires t c κs = (omega arith, omega arith)
-
-pub write-mark-requires-2 : (t : ℕ) → selector-lts.Need-write-mark-requires-2 (selector-calls t) (selector-at t) selector.Post
-write-mark-requires-2 t c κs = (omega arith, omega arith)
-
 pub sub-arms : (t : ℕ) → selector-lts.Need-sub-arms (selector-calls t) (selector-at t) selector.Post
 sub-arms t c = let o = selector-here (c .before .before .before .before .before .before .before .before .before .before .before .before .before .before .before .before .before .before .before .pre .1) in omega (arith, level (o .scrutinee .stands))
 
@@ -34,9 +28,6 @@ end-of-requires-2 t c κs = let o = selector-here (c .before .before .before .be
 
 pub arms-requires : (t : ℕ) → selector-lts.Need-arms-requires (selector-calls t) (selector-at t) selector.Post
 arms-requires t c κs = let o = selector-here (c .before .before .before .before .before .before .before .before .before .before .before .before .before .before .before .before .before .before .before .before .before .before .pre .1) in (omega (arith, c .before .before .before .before .before .before .before .before .before .before .before .before .before .before .before .before .before .before .before .before .before .before .pre .0, level (o .scrutinee .stands)), (c .before .before .before .before .before .before .before .before .before .before .before .before .before .before .before .before .before .before .before .before .before .before .pre .1 .source, siblings-at (levels (o .scrutinee .stands)) (c .before .before .end-of .ensures) (c .before .end-of2 .ensures) (o .arms), omega (arith, c .before .end-of2 .ensures, c .before .before .before .before .before .before .before .before .before .before .before .before .before .before .before .before .before .before .before .before .before .before .pre .1 .stands .stands .ends, c .before .before .before .before .before .before .before .before .before .before .before .before .before .before .before .before .before .before .before .before .before .before .pre .1 .source .short)))
-
-pub write-mark-requires-3 : (t : ℕ) → selector-lts.Need-write-mark-requires-3 (selector-calls t) (selector-at t) selector.Post
-write-mark-requires-3 t c κs = (omega arith, omega arith)
 
 pub same-length : (t : ℕ) → selector-lts.Need-same-length (selector-calls t) (selector-at t) selector.Post
 same-length t c = c .before .before .close-bracket .kept .0 ∙ c .before .before .before .before .before .before .write-mark3 .kept .0 ∙ c .before .before .before .before .before .before .before .before .before .before .arms .kept .1 .1 .1 .1 .1 .1 .0 ∙ c .before .before .before .before .before .before .before .before .before .before .before .before .before .before .before .before .write-mark2 .kept .0 ∙ c .before .before .before .before .before .before .before .before .before .before .before .before .before .before .before .before .before .before .before .before .write-mark .kept .0 ∙ c .before .before .before .before .before .before .before .before .before .before .before .before .before .before .before .before .before .before .before .before .before .before .before .before .expression .kept .1 .1 .1 .1 .1 .1 .0 ∙ c .before .before .before .before .before .before .before .before .before .before .before .before .before .before .before .before .before .before .before .before .before .before .before .before .before .before .before .before .open-bracket .kept .0
