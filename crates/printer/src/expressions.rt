@@ -1,5 +1,5 @@
 // Expressions and their arms.
-ghost use Prim.Native.Nat.{_+_, _≤_};
+ghost use Prim.Native.Nat.{ℕ, _+_, _≤_};
 ghost use Rattle.wire.specs.Bytes.{fieldsIn};
 ghost use Rattle.rules.specs.Compile.{stringAt};
 ghost use Rattle.rules.specs.declared.Kind.the-variants.{Expression, Arm};
@@ -57,35 +57,35 @@ fn operation(
     close_bracket(out, right, tight)
 }
 
+// Never in brackets, whatever the level.
 fn negation(
     m: &[u8],
     table: &[u8],
     strings: u16,
     below: u8,
     p: usize,
-    level: u8,
     out: &mut [u8],
     pen: Pen,
 ) -> Pen
     requires { ⌜ Here (now m) (now table) strings (below + 1) p 0x17 ⌝ }
-    ensures { λ r. ⌜ Passes (now (out .entry)) (now (out .exit)) pen r (printed (stringAt (stringTexts (now (m .entry)))) (expressionAt (now (m .entry)) (below + 1) p) level (pen .line)) ⌝ }
+    ensures { λ r. ⌜ ((l : ℕ) → Passes (now (out .entry)) (now (out .exit)) pen r (printed (stringAt (stringTexts (now (m .entry)))) (expressionAt (now (m .entry)) (below + 1) p) l (pen .line))) ⌝ }
 {
     let sign = write_mark(out, pen, pen.line, 17);
     expression(m, table, strings, below, p + 3, 8, out, sign)
 }
 
+// Never in brackets, whatever the level.
 fn attribute_read(
     m: &[u8],
     table: &[u8],
     strings: u16,
     below: u8,
     p: usize,
-    level: u8,
     out: &mut [u8],
     pen: Pen,
 ) -> Pen
     requires { ⌜ Here (now m) (now table) strings (below + 1) p 0x18 ⌝ }
-    ensures { λ r. ⌜ Passes (now (out .entry)) (now (out .exit)) pen r (printed (stringAt (stringTexts (now (m .entry)))) (expressionAt (now (m .entry)) (below + 1) p) level (pen .line)) ⌝ }
+    ensures { λ r. ⌜ ((l : ℕ) → Passes (now (out .entry)) (now (out .exit)) pen r (printed (stringAt (stringTexts (now (m .entry)))) (expressionAt (now (m .entry)) (below + 1) p) l (pen .line))) ⌝ }
 {
     let kind = write_word(m, table, strings, out, pen, pen.line, two_at(m, p + 3));
     let open = write_mark(out, kind, kind.line, 11);
@@ -197,8 +197,8 @@ pub fn expression(
     }
     match tag {
         0x16 => operation(m, table, strings, below, p, level, out, pen),
-        0x17 => negation(m, table, strings, below, p, level, out, pen),
-        0x18 => attribute_read(m, table, strings, below, p, level, out, pen),
+        0x17 => negation(m, table, strings, below, p, out, pen),
+        0x18 => attribute_read(m, table, strings, below, p, out, pen),
         _ => selector(m, table, strings, below, p, level, out, pen),
     }
 }

@@ -29,4 +29,4 @@ pub same-length : (t : ℕ) → attribute-read-lts.Need-same-length (attribute-r
 same-length t c = c .before .before .write-mark4 .kept .0 ∙ c .before .before .before .before .before .before .write-word2 .kept .1 .1 .1 .0 ∙ c .before .before .before .before .before .before .before .before .before .before .before .write-mark3 .kept .0 ∙ c .before .before .before .before .before .before .before .before .before .before .before .before .before .before .before .write-mark2 .kept .0 ∙ c .before .before .before .before .before .before .before .before .before .before .before .before .before .before .before .before .before .before .before .expression .kept .1 .1 .1 .1 .1 .1 .0 ∙ c .before .before .before .before .before .before .before .before .before .before .before .before .before .before .before .before .before .before .before .before .before .before .before .write-mark .kept .0 ∙ c .before .before .before .before .before .before .before .before .before .before .before .before .before .before .before .before .before .before .before .before .before .before .before .before .before .before .before .write-word .kept .1 .1 .1 .0
 
 pub returns : (t : ℕ) → attribute-read-lts.Need-returns (attribute-read-calls t) (attribute-read-at t) attribute-read.Post
-returns t c = attribute-read-passes _ _ _ (attribute-read-here (c .before .before .before .before .before .before .before .before .before .before .before .before .before .before .before .before .before .before .before .before .before .before .before .before .before .before .before .before .before .before .before .before .before .pre .1)) (c .before .before .before .before .before .before .before .before .before .before .before .before .before .before .before .before .before .before .before .before .before .before .before .before .before .before .before .before .two-at .ensures) (c .before .before .before .before .before .before .before .two-at2 .ensures) (c .before .before .before .before .before .before .before .before .before .before .before .before .before .before .before .before .before .before .before .before .before .before .before .before .before .before .before .write-word .ensures) (c .before .before .before .before .before .before .before .before .before .before .before .before .before .before .before .before .before .before .before .before .before .before .before .write-mark .ensures) (c .before .before .before .before .before .before .before .before .before .before .before .before .before .before .before .before .before .before .before .expression .ensures) (c .before .before .before .before .before .before .before .before .before .before .before .before .before .before .before .write-mark2 .ensures) (c .before .before .before .before .before .before .before .before .before .before .before .write-mark3 .ensures) (c .before .before .before .before .before .before .write-word2 .ensures) (c .before .before .write-mark4 .ensures)
+returns t c l = attribute-read-passes _ _ l (attribute-read-here (c .before .before .before .before .before .before .before .before .before .before .before .before .before .before .before .before .before .before .before .before .before .before .before .before .before .before .before .before .before .before .before .before .before .pre .1)) (c .before .before .before .before .before .before .before .before .before .before .before .before .before .before .before .before .before .before .before .before .before .before .before .before .before .before .before .before .two-at .ensures) (c .before .before .before .before .before .before .before .two-at2 .ensures) (c .before .before .before .before .before .before .before .before .before .before .before .before .before .before .before .before .before .before .before .before .before .before .before .before .before .before .before .write-word .ensures) (c .before .before .before .before .before .before .before .before .before .before .before .before .before .before .before .before .before .before .before .before .before .before .before .write-mark .ensures) (c .before .before .before .before .before .before .before .before .before .before .before .before .before .before .before .before .before .before .before .expression .ensures) (c .before .before .before .before .before .before .before .before .before .before .before .before .before .before .before .write-mark2 .ensures) (c .before .before .before .before .before .before .before .before .before .before .before .write-mark3 .ensures) (c .before .before .before .before .before .before .write-word2 .ensures) (c .before .before .write-mark4 .ensures)

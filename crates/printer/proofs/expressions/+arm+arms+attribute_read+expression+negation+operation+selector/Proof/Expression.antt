@@ -38,10 +38,10 @@ pub returns-3 : (t : ℕ) → expression-lts.Need-returns-3 (expression-calls t)
 returns-3 t c = passes-below _ _ _ _ _ (c .before .before .before .before .before .before .before .before .before .before .before .pre .1 .1) (c .before .before .operation .ensures)
 
 pub returns-4 : (t : ℕ) → expression-lts.Need-returns-4 (expression-calls t) (expression-at t) expression.Post
-returns-4 t c = passes-below _ _ _ _ _ (c .before .before .before .before .before .before .before .before .before .before .before .pre .1 .1) (c .before .before .negation .ensures)
+returns-4 t c = passes-below _ _ _ _ _ (c .before .before .before .before .before .before .before .before .before .before .before .pre .1 .1) (c .before .before .negation .ensures _)
 
 pub returns-5 : (t : ℕ) → expression-lts.Need-returns-5 (expression-calls t) (expression-at t) expression.Post
-returns-5 t c = passes-below _ _ _ _ _ (c .before .before .before .before .before .before .before .before .before .before .before .pre .1 .1) (c .before .before .attribute-read .ensures)
+returns-5 t c = passes-below _ _ _ _ _ (c .before .before .before .before .before .before .before .before .before .before .before .pre .1 .1) (c .before .before .attribute-read .ensures _)
 
 pub returns-6 : (t : ℕ) → expression-lts.Need-returns-6 (expression-calls t) (expression-at t) expression.Post
 returns-6 t c = passes-below _ _ _ _ _ (c .before .before .before .before .before .before .before .before .before .before .before .pre .1 .1) (c .before .before .selector .ensures)

@@ -17,4 +17,4 @@ pub same-length : (t : ℕ) → negation-lts.Need-same-length (negation-calls t)
 same-length t c = c .before .before .expression .kept .1 .1 .1 .1 .1 .1 .0 ∙ c .before .before .before .before .before .before .write-mark .kept .0
 
 pub returns : (t : ℕ) → negation-lts.Need-returns (negation-calls t) (negation-at t) negation.Post
-returns t c = negation-passes _ _ _ (negation-here (c .before .before .before .before .before .before .before .before .before .before .before .pre .1)) (c .before .before .before .before .before .before .write-mark .ensures) (c .before .before .expression .ensures)
+returns t c l = negation-passes _ _ l (negation-here (c .before .before .before .before .before .before .before .before .before .before .before .pre .1)) (c .before .before .before .before .before .before .write-mark .ensures) (c .before .before .expression .ensures)
