@@ -1,7 +1,7 @@
 // Constants, patterns, and the line on which a form begins.
 ghost use mathlib.Core.Path.{_≡_};
 ghost use mathlib.Core.List.{_∷_};
-ghost use Prim.Native.Nat.{_+_, _≤_, _<_};
+ghost use Prim.Native.Nat.{_+_, _≤_};
 ghost use lib.ListN.{length};
 ghost use Rattle.wire.specs.Bytes.{byte, endOf};
 ghost use Rattle.rules.specs.Format.{isConstant};

@@ -1,6 +1,5 @@
 // Operators, brackets, commas and variables.
 ghost use mathlib.Core.Path.{_≡_};
-ghost use mathlib.Core.List.{_∷_};
 ghost use Prim.Native.Nat.{ℕ, _≤_, _<_};
 ghost use Rattle.wire.specs.Bytes.{byte};
 ghost use Rattle.rules.specs.Read.{operatorFrom};
