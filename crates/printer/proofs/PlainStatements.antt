@@ -110,7 +110,7 @@ module _ {m : List ℕ} {d p t : ℕ} (s : StandsAs m d StatementKind p) (tag : 
   either-passes S line (inr is) h = statement-as S m line (defined-opens (s .stands) (level (s .stands)) (sym tag ∙ is) .tree) h
 
 -- the last tag is that of an include
-pub last-statement : {t : ℕ} → IsStatementTag t → (t ≡ 0x21 → ⊥) → (t ≡ 0x22 → ⊥) → (t ≡ 0x23 → ⊥) → ((t ≡ 0x25) ⊎ (t ≡ 0x27) → ⊥) → (t ≡ 0x28 → ⊥) → t ≡ 0x29
+last-statement : {t : ℕ} → IsStatementTag t → (t ≡ 0x21 → ⊥) → (t ≡ 0x22 → ⊥) → (t ≡ 0x23 → ⊥) → ((t ≡ 0x25) ⊎ (t ≡ 0x27) → ⊥) → (t ≡ 0x28 → ⊥) → t ≡ 0x29
 last-statement assignmentTag n1 n2 n3 n4 n5 = absurd (n1 refl)
 last-statement conditionalTag n1 n2 n3 n4 n5 = absurd (n2 refl)
 last-statement choiceTag n1 n2 n3 n4 n5 = absurd (n3 refl)
