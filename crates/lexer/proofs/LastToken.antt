@@ -15,7 +15,7 @@ use Rattle.rules.specs.Ranges.{Each}
 use Rattle.rules.proofs.Lists.{both-left, both-right}
 use Rattle.rules.proofs.Within.{false-not-true}
 use Rattle.notation.specs.Tokens.{Token, number, text, variable, topVariable, classVariable, mark, endOfText, malformed, Lexeme, lexeme, kind, tokenOf, placeOf, operandBehind, colon, minusSign, equals}
-use Rattle.notation.specs.Lexing.{find, isSpace, isLetter, isDigit, inWord, isQuote, signs, escapes, keywords, keywordIn, wordOr, upTo255, wordToken, ifNoKeyword, nameToken, signedToken, textToken, Mode, between, comment, inName, behindDollar, inVariable, behindDollarColon, behindTop, inTop, behindTopColon, behindClass, inClassVariable, behindMinus, inNumber, inString, inEscape, behindEquals, broken, Read, reads, with, orElse, ends, fails, begins, ended, stepByte, finish, lex, lineBehind}
+use Rattle.notation.specs.Lexing.{find, isSpace, isLetter, isDigit, inWord, isQuote, signs, escapes, keywords, keywordIn, wordOr, wordToken, ifNoKeyword, nameToken, signedToken, textToken, Mode, between, comment, inName, behindDollar, inVariable, behindDollarColon, behindTop, inTop, behindTopColon, behindClass, inClassVariable, behindMinus, inNumber, inString, inEscape, behindEquals, broken, Read, reads, with, orElse, ends, fails, begins, ended, stepByte, finish, lex, lineBehind}
 use Rattle.notation.proofs.ConstantLines.{EachByte, at-lex}
 use Rattle.lexer.specs.Found.{tokensFrom}
 use Rattle.lexer.proofs.WordNumbers.{kind-bound}
