@@ -12,3 +12,4 @@ pub mod StepSize
 pub mod OutermostHead
 pub mod SecondPass
 pub mod LatePlace
+pub mod StackEnd

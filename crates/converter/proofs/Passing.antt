@@ -28,11 +28,11 @@ use Rattle.converter.specs.Stepping.{withoutIt, leftBehind, Leavable, Le
 use Rattle.converter.proofs.Taking.{words-after}
 
 -- what follows where a symbol is left out
-abbrev onward : List Symbol → Lexeme → Option Build → Stepped
+abbrev pub onward : List Symbol → Lexeme → Option Build → Stepped
 onward k x none = stuck
 onward k x (some g) = step k x g
 
-step-left : (y : Symbol) (k : List Symbol) (x : Lexeme) (f : Build) → rowOf y (kind (tokenOf x)) ≡ none → step (y ∷ k) x f ≡ onward k x (leftBehind y x f)
+pub step-left : (y : Symbol) (k : List Symbol) (x : Lexeme) (f : Build) → rowOf y (kind (tokenOf x)) ≡ none → step (y ∷ k) x f ≡ onward k x (leftBehind y x f)
 unfolding step leftBehind acts
 step-left y k x f e = rw (step, e) (go (leftOut y))
   where

@@ -52,6 +52,40 @@ wordFirst k ds (y ∷ ys) = (not (isReadOrWord y) || (onlyConstant ds && eqb k a
 abbrev pub rowFits : Symbol → ℕ → Row → Bool
 rowFits s k (row ds ss) = allFit k ds && (insteadFirst s ds && wordFirst k ds ss)
 
+-- no row asks for the end of the text or for a malformed piece
+abbrev pub isPlain : Symbol → Bool
+isPlain (sign k) = leb 7 k
+isPlain aName = true
+isPlain (expression l) = true
+isPlain (operators l m) = true
+isPlain readOrWord = true
+isPlain closeBracket = true
+isPlain (one e) = true
+isPlain (maybe e) = true
+isPlain (further e) = true
+isPlain statements = true
+isPlain block = true
+isPlain otherwise = true
+isPlain branches = true
+isPlain items = true
+isPlain classRest = true
+isPlain parameters = true
+isPlain defaultValue = true
+isPlain aConstant = true
+isPlain inherits = true
+isPlain parent = true
+isPlain devices = true
+isPlain device = true
+isPlain moreDevices = true
+isPlain ends = true
+
+abbrev pub allPlain : List Symbol → Bool
+allPlain [] = true
+allPlain (s ∷ ss) = isPlain s && allPlain ss
+
+abbrev rowSound : Symbol → ℕ → Row → Bool
+rowSound s k (row ds ss) = rowFits s k (row ds ss) && allPlain ss
+
 -- ---- Every row
 
 abbrev allKeyed : (ℕ → Row → Bool) → List (ℕ × Row) → Bool
@@ -68,52 +102,58 @@ found-keyed test (x ∷ xs) k v a e = go (eqb k (x .0)) refl (λ e. found-keyed 
     go false i others e = others e
 
 -- operators of any level
-operator-fits : (l m q n : ℕ) → rowFits (operators l m) q (operatorRow l q n) ≡ true
-operator-fits l m q n = go (eqb q question)
+operator-sound : (l m q n : ℕ) → rowSound (operators l m) q (operatorRow l q n) ≡ true
+operator-sound l m q n = go (eqb q question)
   where
-    go : (b : Bool) → rowFits (operators l m) q (pick b (row (around 0x19 [] ∷ []) (sign leftBrace ∷ one arm ∷ sign rightBrace ∷ ends ∷ operators l n ∷ [])) (row (around 0x16 (byte (operatorByte q) ∷ []) ∷ []) (expression (suc n) ∷ ends ∷ operators l n ∷ []))) ≡ true
+    go : (b : Bool) → rowSound (operators l m) q (pick b (row (around 0x19 [] ∷ []) (sign leftBrace ∷ one arm ∷ sign rightBrace ∷ ends ∷ operators l n ∷ [])) (row (around 0x16 (byte (operatorByte q) ∷ []) ∷ []) (expression (suc n) ∷ ends ∷ operators l n ∷ []))) ≡ true
     go true = refl
     go false = refl
 
-operators-fit : (l m q : ℕ) (o : Option ℕ) (r : Row) → operatorIn l m q o ≡ some r → rowFits (operators l m) q r ≡ true
-operators-fit l m q none r h = none-not-some h
-operators-fit l m q (some n) r h = go (leb l n && leb n m) h
+operators-sound : (l m q : ℕ) (o : Option ℕ) (r : Row) → operatorIn l m q o ≡ some r → rowSound (operators l m) q r ≡ true
+operators-sound l m q none r h = none-not-some h
+operators-sound l m q (some n) r h = go (leb l n && leb n m) h
   where
-    go : (b : Bool) → _≡_ {A = Option Row} (pick b (some (operatorRow l q n)) none) (some r) → rowFits (operators l m) q r ≡ true
-    go true i = subst (λ (r : Row). rowFits (operators l m) q r ≡ true) (same-result (operatorRow l q n) r i) (operator-fits l m q n)
+    go : (b : Bool) → _≡_ {A = Option Row} (pick b (some (operatorRow l q n)) none) (some r) → rowSound (operators l m) q r ≡ true
+    go true i = subst (λ (r : Row). rowSound (operators l m) q r ≡ true) (same-result (operatorRow l q n) r i) (operator-sound l m q n)
     go false i = none-not-some i
 
-entry-fits : (e : Entry) → (allKeyed (rowFits (one e)) (rowsOf (one e)) ≡ true) × (allKeyed (rowFits (maybe e)) (rowsOf (maybe e)) ≡ true)
-entry-fits arm = (refl, refl)
-entry-fits attribute = (refl, refl)
-entry-fits parameter = (refl, refl)
+entry-sound : (e : Entry) → (allKeyed (rowSound (one e)) (rowsOf (one e)) ≡ true) × (allKeyed (rowSound (maybe e)) (rowsOf (maybe e)) ≡ true)
+entry-sound arm = (refl, refl)
+entry-sound attribute = (refl, refl)
+entry-sound parameter = (refl, refl)
+
+row-sound : (s : Symbol) (q : ℕ) (r : Row) → rowOf s q ≡ some r → rowSound s q r ≡ true
+unfolding rowOf
+row-sound (sign k) q r h = found-keyed (rowSound (sign k)) (rowsOf (sign k)) q r refl h
+row-sound aName q r h = found-keyed (rowSound aName) (rowsOf aName) q r refl h
+row-sound (expression l) q r h = found-keyed (rowSound (expression l)) (rowsOf (expression l)) q r refl h
+row-sound (operators l m) q r h = operators-sound l m q (binds q) r h
+row-sound readOrWord q r h = found-keyed (rowSound readOrWord) (rowsOf readOrWord) q r refl h
+row-sound closeBracket q r h = found-keyed (rowSound closeBracket) (rowsOf closeBracket) q r refl h
+row-sound (one e) q r h = found-keyed (rowSound (one e)) (rowsOf (one e)) q r (entry-sound e .0) h
+row-sound (maybe e) q r h = found-keyed (rowSound (maybe e)) (rowsOf (maybe e)) q r (entry-sound e .1) h
+row-sound (further e) q r h = found-keyed (rowSound (further e)) (rowsOf (further e)) q r refl h
+row-sound statements q r h = found-keyed (rowSound statements) (rowsOf statements) q r refl h
+row-sound block q r h = found-keyed (rowSound block) (rowsOf block) q r refl h
+row-sound otherwise q r h = found-keyed (rowSound otherwise) (rowsOf otherwise) q r refl h
+row-sound branches q r h = found-keyed (rowSound branches) (rowsOf branches) q r refl h
+row-sound items q r h = found-keyed (rowSound items) (rowsOf items) q r refl h
+row-sound classRest q r h = found-keyed (rowSound classRest) (rowsOf classRest) q r refl h
+row-sound parameters q r h = found-keyed (rowSound parameters) (rowsOf parameters) q r refl h
+row-sound defaultValue q r h = found-keyed (rowSound defaultValue) (rowsOf defaultValue) q r refl h
+row-sound aConstant q r h = found-keyed (rowSound aConstant) (rowsOf aConstant) q r refl h
+row-sound inherits q r h = found-keyed (rowSound inherits) (rowsOf inherits) q r refl h
+row-sound parent q r h = found-keyed (rowSound parent) (rowsOf parent) q r refl h
+row-sound devices q r h = found-keyed (rowSound devices) (rowsOf devices) q r refl h
+row-sound device q r h = found-keyed (rowSound device) (rowsOf device) q r refl h
+row-sound moreDevices q r h = found-keyed (rowSound moreDevices) (rowsOf moreDevices) q r refl h
+row-sound ends q r h = none-not-some h
 
 pub row-fits : (s : Symbol) (q : ℕ) (r : Row) → rowOf s q ≡ some r → rowFits s q r ≡ true
-unfolding rowOf
-row-fits (sign k) q r h = found-keyed (rowFits (sign k)) (rowsOf (sign k)) q r refl h
-row-fits aName q r h = found-keyed (rowFits aName) (rowsOf aName) q r refl h
-row-fits (expression l) q r h = found-keyed (rowFits (expression l)) (rowsOf (expression l)) q r refl h
-row-fits (operators l m) q r h = operators-fit l m q (binds q) r h
-row-fits readOrWord q r h = found-keyed (rowFits readOrWord) (rowsOf readOrWord) q r refl h
-row-fits closeBracket q r h = found-keyed (rowFits closeBracket) (rowsOf closeBracket) q r refl h
-row-fits (one e) q r h = found-keyed (rowFits (one e)) (rowsOf (one e)) q r (entry-fits e .0) h
-row-fits (maybe e) q r h = found-keyed (rowFits (maybe e)) (rowsOf (maybe e)) q r (entry-fits e .1) h
-row-fits (further e) q r h = found-keyed (rowFits (further e)) (rowsOf (further e)) q r refl h
-row-fits statements q r h = found-keyed (rowFits statements) (rowsOf statements) q r refl h
-row-fits block q r h = found-keyed (rowFits block) (rowsOf block) q r refl h
-row-fits otherwise q r h = found-keyed (rowFits otherwise) (rowsOf otherwise) q r refl h
-row-fits branches q r h = found-keyed (rowFits branches) (rowsOf branches) q r refl h
-row-fits items q r h = found-keyed (rowFits items) (rowsOf items) q r refl h
-row-fits classRest q r h = found-keyed (rowFits classRest) (rowsOf classRest) q r refl h
-row-fits parameters q r h = found-keyed (rowFits parameters) (rowsOf parameters) q r refl h
-row-fits defaultValue q r h = found-keyed (rowFits defaultValue) (rowsOf defaultValue) q r refl h
-row-fits aConstant q r h = found-keyed (rowFits aConstant) (rowsOf aConstant) q r refl h
-row-fits inherits q r h = found-keyed (rowFits inherits) (rowsOf inherits) q r refl h
-row-fits parent q r h = found-keyed (rowFits parent) (rowsOf parent) q r refl h
-row-fits devices q r h = found-keyed (rowFits devices) (rowsOf devices) q r refl h
-row-fits device q r h = found-keyed (rowFits device) (rowsOf device) q r refl h
-row-fits moreDevices q r h = found-keyed (rowFits moreDevices) (rowsOf moreDevices) q r refl h
-row-fits ends q r h = none-not-some h
+row-fits s q (row ds ss) h = both-left (rowFits s q (row ds ss)) (allPlain ss) (row-sound s q (row ds ss) h)
+
+pub row-plain : (s : Symbol) (q : ℕ) (ds : List Action) (ss : List Symbol) → rowOf s q ≡ some (row ds ss) → allPlain ss ≡ true
+row-plain s q ds ss h = both-right (rowFits s q (row ds ss)) (allPlain ss) (row-sound s q (row ds ss) h)
 
 -- ---- What a token in hand is for its row's actions
 

@@ -77,7 +77,7 @@ instead-kind k n small h nine =
     go false e i = false-not-true i
 
 -- a step by a row
-step-taken : (y : Symbol) (k : List Symbol) (x : Lexeme) (f : Build) (ds : List Action) (ss : List Symbol) → rowOf y (kind (tokenOf x)) ≡ some (row ds ss) → step (y ∷ k) x f ≡ toward (ss ++ k) (acts ds x f)
+pub step-taken : (y : Symbol) (k : List Symbol) (x : Lexeme) (f : Build) (ds : List Action) (ss : List Symbol) → rowOf y (kind (tokenOf x)) ≡ some (row ds ss) → step (y ∷ k) x f ≡ toward (ss ++ k) (acts ds x f)
 unfolding step acts
 step-taken y k x f ds ss e = rw (step, e)
 
