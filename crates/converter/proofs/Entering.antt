@@ -68,7 +68,7 @@ no-shorter s (u ∷ table) = go (ascends s u) (ascends u s) (no-shorter s table)
     go false true h = omega arith
     go false false h = omega arith
 
-first-of : {A : Type 0} (P : A → Type 0) (x : A) (xs : List A) → Each P (x ∷ xs) → P x
+pub first-of : {A : Type 0} (P : A → Type 0) (x : A) (xs : List A) → Each P (x ∷ xs) → P x
 first-of P x xs (also p ps) = p
 
 -- the class is still there behind the name

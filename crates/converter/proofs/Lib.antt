@@ -13,3 +13,5 @@ pub mod OutermostHead
 pub mod SecondPass
 pub mod LatePlace
 pub mod StackEnd
+pub mod TokenStrings
+pub mod TokenRead

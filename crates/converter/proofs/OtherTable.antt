@@ -17,6 +17,7 @@ use Rattle.tree_builder.specs.declared.Building.{Building}
 use Rattle.tree_builder.specs.Open.{low, Holds, opening, partsBytes, aroundBytes, headEnd, openBytes}
 use Rattle.tree_builder.specs.State.{slotNumber}
 use Rattle.tree_builder.specs.Shows.{Around, LastPart, Shows}
+use Rattle.converter.specs.Reading.{withoutWord}
 
 -- a field written has its header, its head and its fields
 field-length : (p t : ℕ) (h : List ℕ) (ks : Fields) → length (write (field p t h ks)) ≡ 3 + length h + length (writeAll ks)
@@ -60,7 +61,7 @@ module _ (T U : List (List ℕ)) where
   unfolding headEnd
   end-same t h fs = omega (arith, around-same fs, head-same h, length-append (aroundBytes T fs ++ opening t fs) (headBytes T h), length-append (aroundBytes T fs) (opening t fs), length-append (aroundBytes U fs ++ opening t fs) (headBytes U h), length-append (aroundBytes U fs) (opening t fs))
 
-  open-same : (t : ℕ) (h : List Piece) (ks : Nodes) (fs : List Frame) → length (openBytes T t h ks fs) ≡ length (openBytes U t h ks fs)
+  pub open-same : (t : ℕ) (h : List Piece) (ks : Nodes) (fs : List Frame) → length (openBytes T t h ks fs) ≡ length (openBytes U t h ks fs)
   unfolding openBytes
   open-same t h ks fs = omega (arith, end-same t h fs, parts-same ks, length-append (headEnd T t h fs) (partsBytes T ks), length-append (headEnd U t h fs) (partsBytes U ks))
 
@@ -115,10 +116,6 @@ module _ (T U : List (List ℕ)) where
       }
 
 -- ---- A word that no longer counts
-
-abbrev pub withoutWord : Building → Building
-withoutWord s =
-    record { brackets = s .brackets; depth = s .depth; fill = s .fill; start = s .start; body = s .body; tallest = s .tallest; last = s .last; height = s .height; late = s .late; word = false; name = s .name; before = s .before }
 
 last-kept : (T : List (List ℕ)) (s : Building) (t : ℕ) (h : List Piece) (ks : Nodes) (fs : List Frame) → LastPart T s t h ks fs → LastPart T (withoutWord s) t h ks fs
 unfolding LastPart

@@ -3,11 +3,17 @@ use Prim.Native.Nat.{ℕ, _≤_, _<_}
 use mathlib.Core.Path.{_≡_}
 use mathlib.Core.List.{List, [], _∷_}
 use lib.ListN.{length}
-use Rattle.notation.specs.Convert.{enteredAll}
+use lib.Seq.{slice}
+use Rattle.lexer.specs.declared.Token.{Token}
+use Rattle.lexer.specs.Found.{tokenIn, Sized}
+use Rattle.notation.specs.Tokens.{lexeme, aWord}
+use Rattle.notation.specs.Building.{resourceTag}
+use Rattle.notation.specs.Convert.{stringsOf, enteredAll}
 use Rattle.notation.proofs.WrittenNames.{Rising}
 use Rattle.interner.specs.Table.{strings}
 use Rattle.tree_builder.specs.Shows.{numberIn}
 use Rattle.converter.specs.declared.strings.Numbered.{Numbered}
+use Rattle.converter.specs.Stepping.{Carried}
 
 -- what it asks for: a table of strings that rise, with room for all that are allowed and one more
 pub record Enterable (t m : List ℕ) (count : ℕ) : Type 0 where
@@ -32,3 +38,21 @@ pub record EnteredOne (t m₀ : List ℕ) (count₀ : ℕ) (n : List ℕ) (m : L
   pub rising : Rising (strings t m (r .count))
   pub table : strings t m (r .count) ≡ enteredAll (n ∷ []) (strings t m₀ count₀)
   pub name-number : r .name ≡ numberIn (strings t m (r .count)) n
+
+-- what entering the strings of a token asks for: the token is as the lexer finds it
+pub record Spelled (t m : List ℕ) (count : ℕ) (r : Token) : Type 0 where
+  pub enterable : Enterable t m count
+  pub sized : Sized t r
+  pub forward : r .start ≤ r .end
+  pub high : r .end ≤ length t
+  pub short : length t ≤ 65535
+
+-- the strings of the token r are entered, and what is then known of it is what the grammar's actions look at; the tag is that of a resource of its type
+pub record EnteredFor (t m₀ : List ℕ) (count₀ : ℕ) (r : Token) (m : List ℕ) (n : Numbered) : Type 0 where
+  pub size : length m ≡ length m₀
+  pub few : n .count ≤ 1025
+  pub rising : Rising (strings t m (n .count))
+  pub crowded : 1024 < n .count → 1024 < length (enteredAll (stringsOf (tokenIn t r)) (strings t m₀ count₀))
+  pub table : n .count ≤ 1024 → strings t m (n .count) ≡ enteredAll (stringsOf (tokenIn t r)) (strings t m₀ count₀)
+  pub carried : n .count ≤ 1024 → (tag : ℕ) → (r .kind ≡ aWord → tag ≡ resourceTag (slice (r .start) (r .end) t))
+      → Carried r (record { class = n .class; name = n .name; resource = tag }) (strings t m (n .count)) (lexeme (r .start) (r .line) (tokenIn t r))

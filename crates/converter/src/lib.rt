@@ -1,4 +1,5 @@
 // The converter: from a text in the notation to a manifest.
 pub mod actions; // actions.rt: the grammar's actions, done to the tree
-mod steps; // steps.rt: one token
+pub mod steps; // steps.rt: one token
 pub mod strings; // strings.rt: a token's strings in the table
+pub mod text; // text.rt: the tokens of a text

@@ -1,0 +1,103 @@
+-- What reading a token does: steps of the grammar's machine, and strings that are entered in the table.
+use Prim.Native.Nat.{ℕ, _+_, _*_, _≤_, _<_}
+use mathlib.Core.Path.{_≡_}
+use mathlib.Core.Bool.{false}
+use mathlib.Core.List.{List, [], _∷_}
+use lib.Dec.{eqb}
+use lib.ListN.{length}
+use Rattle.rules.specs.Bytes.{pick}
+use Rattle.notation.specs.Tokens.{Lexeme, kind, tokenOf, placeOf, leftSquare, endOfText, malformed}
+use Rattle.notation.specs.Building.{Build}
+use Rattle.notation.specs.Grammar.{Symbol, stuck, to, step}
+use Rattle.notation.specs.Convert.{stringsOf, enteredAll, tableBehind}
+use Rattle.lexer.specs.Found.{tokensFrom}
+use Rattle.interner.specs.Table.{strings}
+use Rattle.parse_table.specs.Stack.{stackOf}
+use Rattle.parse_table.proofs.Bound.{Kept}
+use Rattle.tree_builder.specs.declared.Building.{Building}
+use Rattle.tree_builder.specs.Shows.{Shows}
+use Rattle.converter.specs.declared.text.Pass.{Pass}
+use Rattle.converter.specs.declared.text.Read.{Read}
+use Rattle.converter.specs.declared.text.Read.the-variants.{On, Done, Fault}
+use Rattle.converter.specs.Entering.{Enterable}
+use Rattle.converter.specs.Stepping.{WordOnTop}
+
+-- ---- One token
+
+-- the state without the word just read
+abbrev pub withoutWord : Building → Building
+withoutWord s =
+    record { brackets = s .brackets; depth = s .depth; fill = s .fill; start = s .start; body = s .body; tallest = s .tallest; last = s .last; height = s .height; late = s .late; word = false; name = s .name; before = s .before }
+
+-- it counts only where an attribute read begins
+unfoldable pub wordFor : (kind : ℕ) → Building → Building
+wordFor k s = pick (eqb k leftSquare) s (withoutWord s)
+
+-- the tokens that are left, and the symbols and strings so far
+abbrev pub tokensLeft : List ℕ → Pass → List Lexeme
+tokensLeft t p = tokensFrom t (p .at) (p .line) (p .operand)
+
+abbrev pub symbolsOf : (stack : List ℕ) → Pass → List Symbol
+symbolsOf st p = stackOf st (p .machine .top)
+
+abbrev pub stringsSoFar : (t table : List ℕ) → Pass → List (List ℕ)
+stringsSoFar t tb p = strings t tb (p .count)
+
+-- the pass stands at a state of the grammar's machine with this tree; where something is written, the table has every string that is left
+pub record Stage (t out frames stack table : List ℕ) (p : Pass) (tree : Build) : Type 0 where
+  pub shows : Shows (stringsSoFar t table p) (p .machine .building) frames out tree
+  pub kept : Kept (symbolsOf stack p) tree
+  pub words : WordOnTop (symbolsOf stack p) (p .machine .building)
+  pub low : p .machine .building .fill + 12 * p .machine .top ≤ 1000000
+  pub known : 0 < length out → tableBehind (tokensLeft t p) (stringsSoFar t table p) ≡ stringsSoFar t table p
+
+-- what reading a token asks for
+pub record Passable (t out frames stack table : List ℕ) (p : Pass) : Type 0 where
+  pub tree : Build
+  pub stage : Stage t out frames stack table p tree
+  pub short : length t ≤ 65535
+  pub slots : 256 ≤ length frames
+  pub room : 468 ≤ length stack
+  pub enterable : Enterable t table (p .count)
+  pub within : p .at ≤ length t
+  pub line-bound : p .line ≤ p .at
+
+-- the first token left is taken: a step of the machine, and its strings are in the table
+pub record TokenTaken (t stack₀ table₀ : List ℕ) (p : Pass) (tree₀ : Build) (next : Pass) (out frames stack table : List ℕ) (rest : List Lexeme) : Type 0 where
+  pub token : Lexeme
+  pub first : tokensLeft t p ≡ token ∷ rest
+  pub tree : Build
+  pub stepped : step (symbolsOf stack₀ p) token tree₀ ≡ to (symbolsOf stack next) tree
+  pub shows : Shows (stringsSoFar t table next) (next .machine .building) frames out tree
+  pub words : WordOnTop (symbolsOf stack next) (next .machine .building)
+  pub entered : stringsSoFar t table next ≡ enteredAll (stringsOf (tokenOf token)) (stringsSoFar t table₀ p)
+  pub enterable : Enterable t table (next .count)
+  pub at-end : kind (tokenOf token) ≡ endOfText → rest ≡ []
+  pub within : next .at ≤ length t
+  pub line-bound : next .line ≤ next .at
+
+-- why a token may not stand there, or brings one string too many
+pub data Barred (symbols : List Symbol) (x : Lexeme) (tree : Build) (table : List (List ℕ)) : Type 0 where
+  isMalformed : kind (tokenOf x) ≡ malformed → Barred symbols x tree table
+  isStuck : step symbols x tree ≡ stuck → Barred symbols x tree table
+  isCrowded : 1024 < length (enteredAll (stringsOf (tokenOf x)) table) → Barred symbols x tree table
+
+-- the first token left is refused; it stands at this place, and nothing but white space and comments comes before it
+pub record TokenRefused (t stack₀ table₀ : List ℕ) (p : Pass) (tree₀ : Build) (place : ℕ) : Type 0 where
+  pub token : Lexeme
+  pub rest : List Lexeme
+  pub first : tokensLeft t p ≡ token ∷ rest
+  pub line : ℕ
+  pub same-tokens : tokensLeft t p ≡ tokensFrom t place line (p .operand)
+  pub place-of : placeOf token ≡ place
+  pub barred : Barred (symbolsOf stack₀ p) token tree₀ (stringsSoFar t table₀ p)
+  pub small : place < 65536
+
+unfoldable pub ReadSo : (t stack₀ table₀ : List ℕ) (p : Pass) (tree₀ : Build) → Read → (out frames stack table : List ℕ) → Type 0
+ReadSo t st₀ tb₀ p f (On next) out m st tb = TokenTaken t st₀ tb₀ p f next out m st tb (tokensLeft t next) × (p .at < next .at)
+ReadSo t st₀ tb₀ p f (Done last) out m st tb = TokenTaken t st₀ tb₀ p f last out m st tb []
+ReadSo t st₀ tb₀ p f (Fault q) out m st tb = TokenRefused t st₀ tb₀ p f q
+
+-- what reading a token does, with whatever tree the pass stands at
+abbrev pub ReadsToken : (t out₀ frames₀ stack₀ table₀ : List ℕ) (p : Pass) → Read → (out frames stack table : List ℕ) → Type 0
+ReadsToken t out₀ m₀ st₀ tb₀ p r out m st tb = (tree : Build) → Stage t out₀ m₀ st₀ tb₀ p tree → ReadSo t st₀ tb₀ p tree r out m st tb
