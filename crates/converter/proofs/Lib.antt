@@ -15,3 +15,4 @@ pub mod LatePlace
 pub mod StackEnd
 pub mod TokenStrings
 pub mod TokenRead
+pub mod TextRead

@@ -1,24 +1,33 @@
--- What reading a token does: steps of the grammar's machine, and strings that are entered in the table.
+-- What reading a token, and all tokens of a text, does: steps of the grammar's machine, and strings that are entered in the table.
 use Prim.Native.Nat.{ℕ, _+_, _*_, _≤_, _<_}
 use mathlib.Core.Path.{_≡_}
 use mathlib.Core.Bool.{false}
 use mathlib.Core.List.{List, [], _∷_}
 use lib.Dec.{eqb}
-use lib.ListN.{length}
+use lib.ListN.{length, take}
+use Rattle.values.specs.declared.Reason.the-variants.{OutsideNotation}
 use Rattle.rules.specs.Bytes.{pick}
+use Rattle.rules.specs.EditRule.{IsBytes}
+use Rattle.rules.specs.Fields.{none as noFields, writeAll}
+use Rattle.rules.specs.Outcome.{refused, done}
 use Rattle.notation.specs.Tokens.{Lexeme, kind, tokenOf, placeOf, leftSquare, endOfText, malformed}
-use Rattle.notation.specs.Building.{Build}
-use Rattle.notation.specs.Grammar.{Symbol, stuck, to, step}
-use Rattle.notation.specs.Convert.{stringsOf, enteredAll, tableBehind}
+use Rattle.notation.specs.Lexing.{tokens}
+use Rattle.notation.specs.Building.{Nodes, Build}
+use Rattle.notation.specs.Grammar.{Symbol, stuck, to, step, reading}
+use Rattle.notation.specs.Convert.{stringsOf, enteredAll, tableBehind, crowdedAt, numberedOnto, readText, lateAmong}
+use Rattle.notation.proofs.WrittenNames.{Rising}
 use Rattle.lexer.specs.Found.{tokensFrom}
 use Rattle.interner.specs.Table.{strings}
 use Rattle.parse_table.specs.Stack.{stackOf}
 use Rattle.parse_table.proofs.Bound.{Kept}
 use Rattle.tree_builder.specs.declared.Building.{Building}
+use Rattle.tree_builder.specs.Open.{lateNumber}
 use Rattle.tree_builder.specs.Shows.{Shows}
 use Rattle.converter.specs.declared.text.Pass.{Pass}
 use Rattle.converter.specs.declared.text.Read.{Read}
 use Rattle.converter.specs.declared.text.Read.the-variants.{On, Done, Fault}
+use Rattle.converter.specs.declared.text.ReadText.{ReadText}
+use Rattle.converter.specs.declared.text.ReadText.the-variants.{Whole, Fault as TextFault}
 use Rattle.converter.specs.Entering.{Enterable}
 use Rattle.converter.specs.Stepping.{WordOnTop}
 
@@ -101,3 +110,34 @@ ReadSo t st₀ tb₀ p f (Fault q) out m st tb = TokenRefused t st₀ tb₀ p f 
 -- what reading a token does, with whatever tree the pass stands at
 abbrev pub ReadsToken : (t out₀ frames₀ stack₀ table₀ : List ℕ) (p : Pass) → Read → (out frames stack table : List ℕ) → Type 0
 ReadsToken t out₀ m₀ st₀ tb₀ p r out m st tb = (tree : Build) → Stage t out₀ m₀ st₀ tb₀ p tree → ReadSo t st₀ tb₀ p tree r out m st tb
+
+-- ---- All tokens
+
+-- what reading a text asks for: room for what is open, a table of strings that rise, and where something is written, a table that has all strings of the text
+pub record Readable (t out frames stack table : List ℕ) (count : ℕ) : Type 0 where
+  pub short : length t ≤ 65535
+  pub slots : 256 ≤ length frames
+  pub room : 468 ≤ length stack
+  pub enterable : Enterable t table count
+  pub known : 0 < length out → tableBehind (tokens t) (strings t table count) ≡ strings t table count
+
+-- the whole text is read
+pub record ReadWhole (t : List ℕ) (before : List (List ℕ)) (out table : List ℕ) (count late fill : ℕ) : Type 0 where
+  pub items : Nodes
+  pub read : readText (reading (tokens t)) (crowdedAt (tokens t) before) ≡ done items
+  pub table-is : strings t table count ≡ tableBehind (tokens t) before
+  pub rising : Rising (strings t table count)
+  pub few : count ≤ 1024
+  pub late-is : late ≡ lateNumber (lateAmong items)
+  pub fill-is : fill ≡ length (writeAll (numberedOnto (strings t table count) items noFields))
+  pub low : fill ≤ 1000000
+  pub written : fill ≤ length out → IsBytes (writeAll (numberedOnto (strings t table count) items noFields)) → take fill out ≡ writeAll (numberedOnto (strings t table count) items noFields)
+
+-- it is refused at a place
+pub record ReadFault (t : List ℕ) (before : List (List ℕ)) (place : ℕ) : Type 0 where
+  pub read : readText (reading (tokens t)) (crowdedAt (tokens t) before) ≡ refused OutsideNotation place
+  pub low : place < 65536
+
+unfoldable pub TextRead : (t : List ℕ) → (before : List (List ℕ)) → ReadText → (out table : List ℕ) → Type 0
+TextRead t before (Whole count late fill) out table = ReadWhole t before out table count late fill
+TextRead t before (TextFault place) out table = ReadFault t before place

@@ -2,4 +2,4 @@
 pub mod actions; // actions.rt: the grammar's actions, done to the tree
 pub mod steps; // steps.rt: one token
 pub mod strings; // strings.rt: a token's strings in the table
-pub mod text; // text.rt: the tokens of a text
+pub mod text; // text.rt: all tokens of a text

@@ -5,8 +5,9 @@ ghost use lib.ListN.{length};
 ghost use lib.Seq.{slice};
 ghost use Rattle.notation.specs.Tokens.{aWord, operandBehind};
 ghost use Rattle.notation.specs.Building.{resourceTag};
+ghost use Rattle.interner.specs.Table.{strings};
 ghost use Rattle.converter.specs.Entering.{Spelled, EnteredFor};
-ghost use Rattle.converter.specs.Reading.{wordFor, Passable, ReadsToken};
+ghost use Rattle.converter.specs.Reading.{wordFor, Passable, ReadsToken, Readable, TextRead};
 use crate::actions::Names;
 use crate::steps::Machine;
 use crate::steps::Taken;
@@ -28,8 +29,11 @@ use notation::kinds::MALFORMED;
 use notation::kinds::RIGHT_ROUND;
 use notation::kinds::RIGHT_SQUARE;
 use notation::kinds::TRUE_WORD;
+use parse_table::stack::MANIFEST;
+use parse_table::stack::push;
 use syntax::strings::is_built_in_text;
 use tree_builder::Building;
+use tree_builder::nothing;
 
 // The strings of a token. A token without strings leaves the table as it is.
 fn enter_strings(text: &[u8], table: &mut [u8], count: usize, token: Token) -> Numbered
@@ -154,6 +158,56 @@ pub fn read_token(
                 return Read::Done(next);
             }
             Read::On(next)
+        }
+    }
+}
+
+// What comes of a text: it is read whole, or the place of the first token that may not stand there or brings the 1,025th string.
+pub enum ReadText {
+    Whole {
+        count: usize,
+        late: usize,
+        fill: usize,
+    },
+    Fault(usize),
+}
+
+// All tokens of a text.
+pub fn read_text(
+    text: &[u8],
+    out: &mut [u8],
+    frames: &mut [u8],
+    stack: &mut [u8],
+    table: &mut [u8],
+    count: usize,
+) -> ReadText
+    requires { ⌜ Readable (now text) (now out) (now frames) (now stack) (now table) count ⌝ }
+    ensures { λ r. ⌜ TextRead (now (text .entry)) (strings (now (text .entry)) (now (table .entry)) count) r (now (out .exit)) (now (table .exit)) ⌝ }
+{
+    let top = push(stack, 1, MANIFEST);
+    let mut pass = Pass {
+        at: 0,
+        line: 0,
+        operand: true,
+        machine: Machine {
+            top: top,
+            building: nothing(),
+        },
+        count: count,
+    };
+    loop {
+        match read_token(text, out, frames, stack, table, pass) {
+            Read::On(next) => pass = next,
+            Read::Done(last) => {
+                let machine = last.machine;
+                let building = machine.building;
+                return ReadText::Whole {
+                    count: last.count,
+                    late: building.late,
+                    fill: building.fill,
+                };
+            }
+            Read::Fault(place) => return ReadText::Fault(place),
         }
     }
 }
