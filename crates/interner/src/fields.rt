@@ -1,6 +1,6 @@
 // The table of strings as a manifest has it: a field with a field for each string.
 ghost use mathlib.Core.Path.{_≡_};
-ghost use Prim.Native.Nat.{_+_, _≤_};
+ghost use Prim.Native.Nat.{_+_, _≤_, _<_};
 ghost use lib.ListN.{length};
 ghost use Rattle.rules.specs.Fields.{wrap, writeAll};
 ghost use Rattle.notation.specs.Quoted.{stringFrom};
@@ -32,10 +32,10 @@ fn string_size(text: &[u8], at: usize) -> usize
     }
 }
 
-// The length of the whole field.
+// The length of the whole field, which leaves room for sums.
 pub fn table_size(text: &[u8], table: &[u8], count: usize) -> usize
     requires { ⌜ Measurable (now text) (now table) count ⌝ }
-    ensures { λ r. ⌜ r ≡ length (tableBytes (now (text .entry)) (now (table .entry)) count) ⌝ }
+    ensures { λ r. ⌜ (r ≡ length (tableBytes (now (text .entry)) (now (table .entry)) count)) × (r < 4294967296) ⌝ }
 {
     let mut size = HEADER;
     let mut i: usize = 0;

@@ -56,7 +56,7 @@ returns : tie.Need-returns Inv-loop μ-loop
 returns c =
     let a = c .before .before .before .before .args in
     let l = c .before .loop in
-    omega (arith, l .inv .0, ap length (no-field (a .text .now) (a .table .now) (a .count) (l .i) (c .loop-test .left)))
+    (omega (arith, l .inv .0, ap length (no-field (a .text .now) (a .table .now) (a .count) (l .i) (c .loop-test .left))), omega (arith, l .inv .1, l .inv .2, c .before .before .before .before .pre .small))
 
 pub table-size-spec : {M : Type 1} → statement M
 table-size-spec =
