@@ -1,13 +1,13 @@
 -- A table that has all strings of a text stays as it is when they are entered again, and none of them is one too many. Assumes nothing.
 use mathlib.Core.Path.{_≡_, refl, ap, _∙_}
-use mathlib.Core.List.{List, [], _∷_}
+use mathlib.Core.List.{List, []}
 use mathlib.Core.Option.{none}
 use lib.ListN.{length}
 use borrow.Author.Tests.{le-ltb}
 use Prim.Native.Nat.{ℕ, _≤_}
 use Rattle.rules.specs.Ranges.{Each, noneLeft, also}
-use Rattle.notation.specs.Tokens.{Lexeme, tokenOf}
-use Rattle.notation.specs.Convert.{stringsOf, enteredAll, tableBehind, crowdedAt}
+use Rattle.notation.specs.Tokens.{Lexeme}
+use Rattle.notation.specs.Convert.{enteredAll, tableBehind, crowdedAt}
 use Rattle.notation.proofs.WrittenNames.{Rising, noString}
 use Rattle.notation.proofs.StringTable.{Among, StringsIn, table-has, table-rising}
 use Rattle.converter.proofs.Entering.{known-again}
