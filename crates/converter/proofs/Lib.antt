@@ -16,3 +16,4 @@ pub mod StackEnd
 pub mod TokenStrings
 pub mod TokenRead
 pub mod TextRead
+pub mod Converting

@@ -2,3 +2,4 @@ pub mod Doing
 pub mod Stepping
 pub mod Entering
 pub mod Reading
+pub mod Converting

@@ -1,0 +1,199 @@
+-- One law for each way through `convert`. Assumes nothing.
+use mathlib.Core.Path.{_≡_, sym, ap, _∙_}
+use mathlib.Core.Bool.{true, false}
+use mathlib.Core.List.{List, [], _++_}
+use mathlib.Core.Option.{Option, none, some}
+use native.Mathlib.Omega.{arith}
+use lib.Dec.{ltb}
+use lib.ListN.{length, length-append, take, drop, replicate}
+use lib.Seq.{take-at, drop-at, take-append-add}
+use borrow.Author.Tests.{lt-ltb, le-ltb, ltb-false}
+use Prim.Native.Nat.{ℕ, _+_, _-_, _<_, _≤_}
+use Rattle.values.specs.declared.Reason.{Reason}
+use Rattle.values.specs.declared.Reason.the-variants.{MemoryTooShort, OutsideNotation, PastLine255}
+use Rattle.rules.specs.EditRule.{IsBytes}
+use Rattle.rules.specs.Fields.{none as noFields, write, writeAll}
+use Rattle.rules.specs.Outcome.{Outcome, refused, done, _>>=_, refuseIf}
+use Rattle.rules.proofs.Lists.{either-left, either-right}
+use Rattle.catalog.specs.Making.{clearedFrom}
+use Rattle.catalog.proofs.Growing.{cleared-after, cleared-all}
+use Rattle.notation.specs.declared.Answer.{Answer}
+use Rattle.notation.specs.declared.Answer.the-variants.{Written}
+use Rattle.notation.specs.Lexing.{tokens}
+use Rattle.notation.specs.Building.{Nodes, frame, build}
+use Rattle.notation.specs.Grammar.{Ended, built, fault, reading}
+use Rattle.notation.specs.Convert.{tableBehind, crowdedAt, numberedOnto, manifestFields, readText, lateAmong, refuseAt, tooLong, textItems, manifestBytes, converted, answerOf, outputOf, effectOf, convert}
+use Rattle.notation.proofs.Outcomes.{refused-not-done}
+use Rattle.notation.proofs.TableStrings.{later-bytes}
+use Rattle.notation.proofs.ConvertedSound.{converted-manifest}
+use Rattle.interner.specs.Table.{strings}
+use Rattle.interner.specs.TableField.{tableBytes, atStart, Measurable, Writable}
+use Rattle.interner.proofs.Keeping.{strings-counted}
+use Rattle.converter.specs.Converting.{Converts, Refuses, Passable, Measured, Fitting, Begins}
+use Rattle.converter.proofs.SecondPass.{table-again, none-more}
+
+-- ---- The outcome, by what is found on the way
+
+module _ (t : List ℕ) (output memory : ℕ) where
+  pub short-memory : memory < 65536 → converted t output memory ≡ refused MemoryTooShort 0
+  unfolding converted _>>=_ refuseIf
+  short-memory h = rw (converted, lt-ltb memory 65536 h)
+
+  module _ (enough : 65536 ≤ memory) where
+    pub long-text : 65535 < length t → converted t output memory ≡ refused OutsideNotation 0
+    unfolding converted _>>=_ refuseIf
+    long-text h = rw (converted, le-ltb memory 65536 enough, lt-ltb 65535 (length t) h)
+
+    module _ (short : length t ≤ 65535) where
+      pub not-read : {r : Reason} {p : ℕ} → textItems (tokens t) ≡ refused r p → converted t output memory ≡ refused r p
+      unfolding converted _>>=_ refuseIf
+      not-read h = rw (converted, le-ltb memory 65536 enough, le-ltb 65535 (length t) short, h)
+
+      module _ (items : Nodes) (read : textItems (tokens t) ≡ done items) where
+        pub late-constant : {p : ℕ} → lateAmong items ≡ some p → converted t output memory ≡ refused PastLine255 p
+        unfolding converted _>>=_ refuseIf refuseAt
+        late-constant h = rw (converted, le-ltb memory 65536 enough, le-ltb 65535 (length t) short, read, h)
+
+        module _ (early : lateAmong items ≡ none) where
+          pub too-long : tooLong (manifestBytes (tokens t) items) output ≡ true → converted t output memory ≡ refused OutsideNotation 0
+          unfolding converted _>>=_ refuseIf refuseAt
+          too-long h = rw (converted, le-ltb memory 65536 enough, le-ltb 65535 (length t) short, read, early, h)
+
+          pub all-fits : tooLong (manifestBytes (tokens t) items) output ≡ false → converted t output memory ≡ done (manifestBytes (tokens t) items)
+          unfolding converted _>>=_ refuseIf refuseAt
+          all-fits h = rw (converted, le-ltb memory 65536 enough, le-ltb 65535 (length t) short, read, early, h)
+
+-- ---- What a call leaves
+
+module _ (t out work : List ℕ) {out′ work′ : List ℕ} {a : Answer} where
+  all-three : (o : Outcome (List ℕ)) → converted t (length out) (length work) ≡ o → a ≡ answerOf o → out′ ≡ outputOf (length out) o → work′ ≡ replicate (length work) 0 → Converts t out out′ work work′ a
+  unfolding convert effectOf
+  all-three o e answer output memory =
+      let answer′ : a ≡ answerOf (converted t (length out) (length work)) = answer ∙ ap answerOf (sym e) in
+      let output′ : out′ ≡ outputOf (length out) (converted t (length out) (length work)) = output ∙ ap (outputOf (length out)) (sym e) in
+      record { effect = λ i. record { answer = answer′ i; outputAfter = output′ i; memoryAfter = memory i } }
+
+  -- a refusal, of bytes lent that are as long as they were
+  pub refuses : (out₁ work₁ : List ℕ) {r : Reason} {p : ℕ} → length out₁ ≡ length out → length work₁ ≡ length work → converted t (length out) (length work) ≡ refused r p → Refuses r p out₁ out′ work₁ work′ a → Converts t out out′ work work′ a
+  unfolding answerOf outputOf
+  refuses out₁ work₁ {r} {p} same-out same-work e x =
+      all-three (refused r p) e (x .told) (x .output ∙ ap (λ (n : ℕ). replicate n 0) same-out) (x .memory ∙ ap (λ (n : ℕ). replicate n 0) same-work)
+
+-- bytes lent count by how many they are
+pub converts-from : (t out₁ work₁ : List ℕ) {out out′ work work′ : List ℕ} {a : Answer} → length out₁ ≡ length out → length work₁ ≡ length work → Converts t out₁ out′ work₁ work′ a → Converts t out out′ work work′ a
+converts-from t out₁ work₁ {out} same-out same-work x = record { effect = x .effect ∙ ap (λ (n : ℕ). convert t n (length work₁)) same-out ∙ ap (convert t (length out)) same-work }
+
+-- ---- A text that was read whole
+
+module _ {t table : List ℕ} {count fill : ℕ} (x : Measured t table count fill) where
+  abbrev pub itemBytes : List ℕ
+  itemBytes = writeAll (numberedOnto (strings t table count) (x .items) noFields)
+
+  abbrev manifest : List ℕ
+  manifest = manifestBytes (tokens t) (x .items)
+
+  manifest-parts : manifest ≡ tableBytes t table count ++ itemBytes
+  unfolding manifestBytes manifestFields write
+  manifest-parts = ap (λ (T : List (List ℕ)). writeAll (manifestFields T (x .items))) (sym (x .table-is))
+
+  pub measurable : Measurable t table count
+  measurable = record { room = omega (arith, x .enterable .small, x .enterable .room); small = omega (arith, x .enterable .small); short = x .short }
+
+  module _ {before : ℕ} (table-size : before ≡ length (tableBytes t table count)) where
+    manifest-size : length manifest ≡ before + fill
+    manifest-size = omega (arith, table-size, ap length manifest-parts, length-append (tableBytes t table count) itemBytes, x .fill-is)
+
+    module _ (output : ℕ) where
+      pub over-65535 : 65535 < before + fill → tooLong manifest output ≡ true
+      unfolding tooLong
+      over-65535 h = rw (tooLong, lt-ltb 65535 (length manifest) (omega (arith, manifest-size)))
+
+      pub over-output : before + fill ≤ 65535 → output < before + fill → tooLong manifest output ≡ true
+      unfolding tooLong
+      over-output l h = rw (tooLong, le-ltb 65535 (length manifest) (omega (arith, manifest-size)), lt-ltb output (length manifest) (omega (arith, manifest-size)))
+
+      pub within-both : before + fill ≤ 65535 → before + fill ≤ output → tooLong manifest output ≡ false
+      unfolding tooLong
+      within-both l h = rw (tooLong, le-ltb 65535 (length manifest) (omega (arith, manifest-size)), le-ltb output (length manifest) (omega (arith, manifest-size)))
+
+      -- the manifest is written, and the rest is cleared
+      pub accepts : (out out₂ work work₁ : List ℕ) {out′ work′ : List ℕ} → output ≡ length out → length out₂ ≡ length out → length work₁ ≡ length work → 65536 ≤ length work → before + fill ≤ 65535 → before + fill ≤ output → Begins t out₂ → out′ ≡ clearedFrom (before + fill) out₂ → work′ ≡ clearedFrom 0 work₁ → Converts t out out′ work work′ (Written (before + fill))
+      unfolding answerOf outputOf
+      accepts out out₂ work work₁ {out′} {work′} here same-out same-work enough short room begins rest zero =
+          let first : take (before + fill) out₂ ≡ manifest = ap (λ (n : ℕ). take n out₂) (sym manifest-size) ∙ begins .manifest (x .items) (x .read) in
+          let output-is : out′ ≡ manifest ++ replicate (length out - length manifest) 0 = rest ∙ cleared-after out₂ manifest (before + fill) (omega (arith, same-out, here)) first ∙ ap (λ (n : ℕ). manifest ++ replicate (n - length manifest) 0) same-out in
+          all-three t out work (done manifest)
+          (all-fits t (length out) (length work) enough (x .short) (x .items) (x .read) (x .early) (rw here at (within-both short room)))
+          (ap Written (sym manifest-size))
+          output-is
+          (zero ∙ cleared-all work₁ ∙ ap (λ (n : ℕ). replicate n 0) same-work)
+
+      -- what writing it asks for
+      pub fitting : (out : List ℕ) → IsBytes t → output ≡ length out → before + fill ≤ 65535 → before + fill ≤ output → Fitting t table count before out
+      fitting out bytes here short room =
+          let fits : tooLong manifest (length out) ≡ false = rw here at (within-both short room) in
+          record {
+            fill = fill;
+            measured = x;
+            table-size = table-size;
+            fits = fits;
+            bytes = converted-manifest t manifest (length out) 65536 bytes (all-fits t (length out) 65536 (omega arith) (x .short) (x .items) (x .read) (x .early) fits) .bytes;
+          }
+
+-- ---- The table, and the items behind it
+
+module _ {t table : List ℕ} {count before : ℕ} {out : List ℕ} (f : Fitting t table count before out) where
+  abbrev measured : Measured t table count (f .fill)
+  measured = f .measured
+
+  -- it is short and fits
+  size-low : (before + f .fill ≤ 65535) × (before + f .fill ≤ length out)
+  unfolding tooLong
+  size-low =
+      let size = manifest-size measured (f .table-size) in
+      let n : ℕ = length (manifest measured) in
+      (omega (arith, size, ltb-false 65535 n (either-left (ltb 65535 n) (ltb (length out) n) (f .fits))), omega (arith, size, ltb-false (length out) n (either-right (ltb 65535 n) (ltb (length out) n) (f .fits))))
+
+  pub writable : Writable t table count out
+  writable = record { measurable = measurable measured; fits = omega (arith, size-low .1, f .table-size); short = omega (arith, size-low .0, f .table-size) }
+
+  pub items-fit : before + f .fill ≤ length out
+  items-fit = size-low .1
+
+  pub table-stays : tableBehind (tokens t) (strings t table count) ≡ strings t table count
+  table-stays = ap (tableBehind (tokens t)) (measured .table-is) ∙ table-again (tokens t) ∙ sym (measured .table-is)
+
+  pub passable : (part : List ℕ) → Passable t part table count
+  passable part = record { short = measured .short; enterable = measured .enterable; known = λ h. table-stays }
+
+  -- the second pass finds the same items
+  pub items-again : readText (reading (tokens t)) (crowdedAt (tokens t) (strings t table count)) ≡ done (measured .items)
+  unfolding textItems readText
+  items-again =
+      let few : length (tableBehind (tokens t) []) ≤ 1024 = omega (arith, ap length (measured .table-is), strings-counted t table count, measured .enterable .small) in
+      ap (readText (reading (tokens t))) (ap (crowdedAt (tokens t)) (measured .table-is) ∙ none-more (tokens t) few) ∙ none-crowded (reading (tokens t)) (crowdedAt (tokens t) []) (measured .read)
+    where
+      none-crowded : (y : Ended) (o : Option ℕ) → readText y o ≡ done (measured .items) → readText y none ≡ done (measured .items)
+      none-crowded (built (build b (frame p u h ks) fs)) none e = e
+      none-crowded (built g) (some q) e = refused-not-done e
+      none-crowded (fault p) none e = e
+      none-crowded (fault p) (some q) e = refused-not-done e
+
+  -- their numbers are bytes
+  pub items-bytes : IsBytes (itemBytes measured)
+  items-bytes =
+      let behind : drop before (manifest measured) ≡ itemBytes measured = ap (drop before) (manifest-parts measured) ∙ drop-at (tableBytes t table count) (itemBytes measured) before (sym (f .table-size)) in
+      rw behind at (later-bytes before (manifest measured) (f .bytes))
+
+  -- the items stand behind the table
+  pub begins-so : {out₁ : List ℕ} (part : List ℕ) → out₁ ≡ atStart (tableBytes t table count) out → take (f .fill) part ≡ itemBytes measured → Begins t (take before out₁ ++ part)
+  begins-so {out₁} part e items-stand =
+      let tb : List ℕ = tableBytes t table count in
+      let first : take before out₁ ≡ tb = ap (take before) e ∙ take-at tb (drop (length tb) out) before (sym (f .table-size)) in
+      let size : length (manifest measured) ≡ length tb + f .fill = omega (arith, manifest-size measured (f .table-size), f .table-size) in
+      let whole : take (length (manifest measured)) (take before out₁ ++ part) ≡ manifest measured =
+      ap (λ (l : List ℕ). take (length (manifest measured)) (l ++ part)) first ∙ ap (λ (n : ℕ). take n (tb ++ part)) size ∙ take-append-add tb part (f .fill) ∙ ap (λ (l : List ℕ). tb ++ l) items-stand ∙ sym (manifest-parts measured) in
+      record { manifest = λ items e. let same : measured .items ≡ items = done-same (sym (measured .read) ∙ e) in rw same at whole }
+    where
+      done-same : {a b : Nodes} → _≡_ {A = Outcome Nodes} (done a) (done b) → a ≡ b
+      done-same e = cc

@@ -1,0 +1,58 @@
+-- What `convert` promises, and what its parts ask for and do.
+use Prim.Native.Nat.{ℕ, _≤_, _<_}
+use mathlib.Core.Path.{_≡_}
+use mathlib.Core.List.{List, []}
+use mathlib.Core.Bool.{false}
+use mathlib.Core.Option.{none}
+use lib.ListN.{length, take, replicate}
+use Rattle.values.specs.declared.Reason.{Reason}
+use Rattle.rules.specs.EditRule.{IsBytes}
+use Rattle.rules.specs.Fields.{none as noFields, writeAll}
+use Rattle.rules.specs.Outcome.{done}
+use Rattle.notation.specs.declared.Answer.{Answer}
+use Rattle.notation.specs.declared.Answer.the-variants.{Refused}
+use Rattle.notation.specs.Lexing.{tokens}
+use Rattle.notation.specs.Building.{Nodes}
+use Rattle.notation.specs.Convert.{tableBehind, numberedOnto, lateAmong, tooLong, textItems, manifestBytes, convert}
+use Rattle.interner.specs.Table.{strings}
+use Rattle.interner.specs.TableField.{tableBytes}
+use Rattle.converter.specs.Entering.{Enterable}
+
+-- the answer and all bytes lent are those of the definition
+pub record Converts (text outputBefore outputAfter memoryBefore memoryAfter : List ℕ) (answer : Answer) : Type 0 where
+  pub effect : record { answer = answer; outputAfter = outputAfter; memoryAfter = memoryAfter } ≡ convert text (length outputBefore) (length memoryBefore)
+
+-- the answer is this refusal, and all bytes lent are zero
+pub record Refuses (reason : Reason) (place : ℕ) (outputBefore outputAfter memoryBefore memoryAfter : List ℕ) (answer : Answer) : Type 0 where
+  pub told : answer ≡ Refused reason place
+  pub output : outputAfter ≡ replicate (length outputBefore) 0
+  pub memory : memoryAfter ≡ replicate (length memoryBefore) 0
+
+-- what one pass over a text asks for: where bytes are written, the table has all strings of the text
+pub record Passable (t out table : List ℕ) (count : ℕ) : Type 0 where
+  pub short : length t ≤ 65535
+  pub enterable : Enterable t table count
+  pub known : 0 < length out → tableBehind (tokens t) (strings t table count) ≡ strings t table count
+
+-- a text was read whole, and no constant is late: its items, the table of its strings, and how many bytes the items take
+pub record Measured (t table : List ℕ) (count fill : ℕ) : Type 0 where
+  pub short : length t ≤ 65535
+  pub items : Nodes
+  pub read : textItems (tokens t) ≡ done items
+  pub early : lateAmong items ≡ none
+  pub table-is : strings t table count ≡ tableBehind (tokens t) []
+  pub enterable : Enterable t table count
+  pub fill-is : fill ≡ length (writeAll (numberedOnto (strings t table count) items noFields))
+  pub low : fill ≤ 1000000
+
+-- its manifest fits, and its numbers are bytes; the items come behind the table
+pub record Fitting (t table : List ℕ) (count before : ℕ) (out : List ℕ) : Type 0 where
+  pub fill : ℕ
+  pub measured : Measured t table count fill
+  pub table-size : before ≡ length (tableBytes t table count)
+  pub fits : tooLong (manifestBytes (tokens t) (measured .items)) (length out) ≡ false
+  pub bytes : IsBytes (manifestBytes (tokens t) (measured .items))
+
+-- the output begins with the manifest of the text
+pub record Begins (t out : List ℕ) : Type 0 where
+  pub manifest : (items : Nodes) → textItems (tokens t) ≡ done items → take (length (manifestBytes (tokens t) items)) out ≡ manifestBytes (tokens t) items
