@@ -17,3 +17,4 @@ pub mod TokenStrings
 pub mod TokenRead
 pub mod TextRead
 pub mod Converting
+pub mod TwoPasses
