@@ -1,4 +1,3 @@
-pub mod Faults
 pub mod Items
 pub mod Whole
 pub mod EditRule

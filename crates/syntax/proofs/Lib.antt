@@ -2,6 +2,7 @@ pub mod Walk
 pub mod Rise
 pub mod Reading
 pub mod Whole
+pub mod Faults
 pub mod Texts
 pub mod Index
 pub mod Chosen

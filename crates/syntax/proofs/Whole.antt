@@ -46,15 +46,20 @@ module _ (m : List ℕ) where
   unfolding before
   right-length z h e = rw (ne-eqb _ _ z, le-ltb _ _ h) e
 
--- ---- In the definition of a whole compile, `before` stands between the memory's length and the run
+-- ---- In the definitions of a whole compile and a whole print, `before` stands behind the memory's length
 
 refused-first : {A : Type 0} (b : Bool) (r : Reason) (p : ℕ) (v : Verdict) (run : Unit {0} → Outcome A) → (refuseIf b r p >>= λ _. checked v >>= run) ≡ (checked (pick b (Fault r p) v) >>= run)
 unfolding _>>=_ refuseIf checked
 refused-first true r p v run = refl
 refused-first false r p v run = refl
 
+-- the manifest's length and its check, one after the other, are `before`
+pub before-both : {A : Type 0} (m : List ℕ) (run : Unit {0} → Outcome A) → (refuseIf (eqb (length m) 0 || ltb 65535 (length m)) ManifestLength 0 >>= λ _. checked (check m) >>= run) ≡ (checked (before m) >>= run)
+unfolding before
+before-both m run = refused-first (eqb (length m) 0 || ltb 65535 (length m)) ManifestLength 0 (check m) run
+
 pub before-the-run : (m device : List ℕ) (limit output memory : ℕ) → finalState m device limit output memory ≡ (refuseIf (ltb memory 65536) MemoryTooShort 0 >>= λ _. checked (before m) >>= λ _. runManifest (manifestOf m) device limit output)
-unfolding finalState before
+unfolding finalState
 before-the-run m device limit output memory =
     ap (λ (o : Outcome State). refuseIf (ltb memory 65536) MemoryTooShort 0 >>= λ _. o)
-    (refused-first (eqb (length m) 0 || ltb 65535 (length m)) ManifestLength 0 (check m) (λ _. runManifest (manifestOf m) device limit output))
+    (before-both m (λ _. runManifest (manifestOf m) device limit output))

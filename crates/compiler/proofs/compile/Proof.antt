@@ -1,6 +1,6 @@
 -- `compile`: 1, then 2 to 5, then the run.
 use Rattle.compiler.proofs.Whole.{short-memory, fault-first, refuses}
-use Rattle.compiler.proofs.Faults.{fault-fits}
+use Rattle.syntax.proofs.Faults.{fault-fits}
 use native.Mathlib.Omega.{arith}
 use Rattle.evaluator.specs.Answers.{refusedBy}
 use mathlib.Core.Path.{ap, _∙_, refl, sym}

@@ -1,6 +1,6 @@
 -- `run_checked`: a refusal of the run, or its catalog.
 use Rattle.compiler.proofs.Whole.{sound-first, refuses, accepts, run-done, run-refused}
-use Rattle.compiler.proofs.Faults.{before-sound}
+use Rattle.syntax.proofs.Faults.{before-sound}
 use native.Mathlib.Omega.{arith}
 use mathlib.Core.Path.{_∙_}
 use borrow.Author.Needs.{needs}
