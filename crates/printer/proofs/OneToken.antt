@@ -52,15 +52,16 @@ module _ (pen : Pen) where
       go false ea true eb h = omega (arith, ltb-true 65535 (pen .brackets) eb)
       go false ea false eb h = absurd (false-not-true h)
 
--- a full pen stays as it is, whatever is to come
+-- where the pen is full, the text is too long, whatever is to come
+pub too-long : {out₀ out : List ℕ} {pen : Pen} {whole : List ℕ} {xs : List Lexeme} → isFull pen ≡ true → Going out₀ out pen whole xs → 65535 < length whole
+too-long e (full f l) = l
+too-long {pen = pen} {whole = whole} {xs = xs} e (writing b h) =
+    let size : length (h .done ++ textFrom pen xs) ≡ length whole = ap length (h .rest) in
+    omega (arith, full-long pen e b, h .wrote .filled, size, length-append (h .done) (textFrom pen xs))
+
+-- so a full pen stays as it is
 pub stays-full : {out : List ℕ} {pen : Pen} {form : Rest → List Lexeme} → isFull pen ≡ true → Passes out out pen pen form
-stays-full {out} {pen} {form} e = record { goes = λ o w r g. go o w r g }
-  where
-    go : (out₀ whole : List ℕ) (rest : Rest) → Going out₀ out pen whole (form rest) → Going out₀ out pen whole (rest (pen .line))
-    go o w r (full f l) = full f l
-    go o w r (writing b h) =
-        let size : length (h .done ++ textFrom pen (form r)) ≡ length w = ap length (h .rest) in
-        full e (omega (arith, full-long pen e b, h .wrote .filled, size, length-append (h .done) (textFrom pen (form r))))
+stays-full e = record { goes = λ o w r g. full e (too-long e g) }
 
 -- ---- A token
 

@@ -21,7 +21,7 @@ use token_writer::put_variable;
 use token_writer::put_word;
 
 // There are never more brackets than bytes; the second test saves every caller to show it.
-fn is_full(pen: Pen) -> bool
+pub fn is_full(pen: Pen) -> bool
     ensures { λ r. ⌜ r ≡ isFull pen ⌝ }
 {
     if 65535 < pen.fill {
