@@ -1,0 +1,3 @@
+pub mod ItemLabels
+pub mod PrintedItems
+pub mod WholeText

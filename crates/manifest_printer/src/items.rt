@@ -1,0 +1,178 @@
+// Parts of nodes and of definitions.
+ghost use mathlib.Core.Path.{_≡_};
+ghost use mathlib.Core.Bool.{false};
+ghost use Prim.Native.Nat.{ℕ, _+_, _≤_};
+ghost use Rattle.wire.specs.Bytes.{two, fieldsIn};
+ghost use Rattle.rules.specs.Compile.{stringAt};
+ghost use Rattle.rules.specs.declared.Kind.{Kind};
+ghost use Rattle.rules.specs.declared.Kind.the-variants.{Parameter, Device};
+ghost use Rattle.places.specs.At.{parameterAt, parametersAt, parentAt, afterParentAt, namesAt, StandsAs, Siblings};
+ghost use Rattle.places.specs.Parts.{BlockEnds};
+ghost use Rattle.syntax.specs.Strings.{stringTexts};
+ghost use Rattle.notation.specs.Print.{printedEntries, printedParameter, printedParameters, printedParent, printedDevice};
+ghost use Rattle.printer.specs.Passing.{Source, Passes};
+ghost use Rattle.printer.specs.Forms.{EntryPasses};
+use printer::constants::first_label;
+use printer::constants::write_constant;
+use printer::signs::separate;
+use printer::tokens::write_mark;
+use printer::tokens::write_text;
+use printer::tokens::write_variable;
+use printer::tokens::write_word;
+use token_writer::Pen;
+use wire::byte_at;
+use wire::end_of;
+use wire::two_at;
+
+// ---- Parameters
+
+// The parameter at q, with a comma before it unless it is the first.
+fn parameter(
+    m: &[u8],
+    table: &[u8],
+    strings: u16,
+    q: usize,
+    later: bool,
+    out: &mut [u8],
+    pen: Pen,
+) -> Pen
+    requires { ⌜ (Source (now m) (now table) strings) × (StandsAs (now m) 31 Parameter q) ⌝ }
+    ensures { λ r. ⌜ EntryPasses (printedParameter (stringAt (stringTexts (now (m .entry))))) (parameterAt (now (m .entry)) q) later (now (out .entry)) (now (out .exit)) pen r ⌝ }
+{
+    let begun = separate(out, pen, later);
+    let end = end_of(m, q);
+    let line = first_label(m, q + 5, end, pen.line);
+    let name = write_variable(m, table, strings, out, begun, line, two_at(m, q + 3));
+    if end <= q + 5 {
+        return name;
+    }
+    let sign = write_mark(out, name, name.line, 23);
+    write_constant(m, table, strings, q + 5, out, sign)
+}
+
+fn parameters_in_order(
+    m: &[u8],
+    table: &[u8],
+    strings: u16,
+    first: usize,
+    end: usize,
+    out: &mut [u8],
+    pen: Pen,
+) -> Pen
+    requires { ⌜ (Source (now m) (now table) strings) × (Siblings (now m) 31 Parameter first end) × (end ≤ 65535) ⌝ }
+    ensures { λ r. ⌜ Passes (now (out .entry)) (now (out .exit)) pen r (printedEntries (printedParameter (stringAt (stringTexts (now (m .entry))))) (parametersAt (now (m .entry)) (fieldsIn (now (m .entry)) first end)) false (pen .line)) ⌝ }
+{
+    let mut q = first;
+    let mut at = pen;
+    let mut later = false;
+    while q < end {
+        at = parameter(m, table, strings, q, later, out, at);
+        later = true;
+        q = end_of(m, q);
+    }
+    at
+}
+
+// The parameters from `first` to `end`, in brackets if there are any.
+fn parameters(
+    m: &[u8],
+    table: &[u8],
+    strings: u16,
+    first: usize,
+    end: usize,
+    out: &mut [u8],
+    pen: Pen,
+) -> Pen
+    requires { ⌜ (Source (now m) (now table) strings) × (Siblings (now m) 31 Parameter first end) × (end ≤ 65535) ⌝ }
+    ensures { λ r. ⌜ Passes (now (out .entry)) (now (out .exit)) pen r (printedParameters (stringAt (stringTexts (now (m .entry)))) (parametersAt (now (m .entry)) (fieldsIn (now (m .entry)) first end)) (pen .line)) ⌝ }
+{
+    if end <= first {
+        return pen;
+    }
+    let open = write_mark(out, pen, pen.line, 9);
+    let all = parameters_in_order(m, table, strings, first, end, out, open);
+    write_mark(out, all, all.line, 10)
+}
+
+// ---- Blocks
+
+// The block that ends a node or a definition: the last field of those from `from` to `end`.
+fn last_field(m: &[u8], from: usize, end: usize) -> usize
+    requires { ⌜ (from ≤ 65535) × (end ≤ 65535) ⌝ }
+    ensures { λ r. ⌜ ((k : Kind) (to : ℕ) → Siblings (now (m .entry)) 31 k from to → BlockEnds (now (m .entry)) 31 to end → r ≡ to) ⌝ }
+{
+    let mut q = from;
+    let mut next = end_of(m, from);
+    while next < end {
+        q = next;
+        next = end_of(m, q);
+    }
+    q
+}
+
+// ---- Nodes
+
+// The device's name at q, with a comma before it unless it is the first.
+fn device(
+    m: &[u8],
+    table: &[u8],
+    strings: u16,
+    q: usize,
+    later: bool,
+    out: &mut [u8],
+    pen: Pen,
+) -> Pen
+    requires { ⌜ (Source (now m) (now table) strings) × (q ≤ 65535) ⌝ }
+    ensures { λ r. ⌜ EntryPasses (printedDevice (stringAt (stringTexts (now (m .entry))))) (two (now (m .entry)) (q + 3)) later (now (out .entry)) (now (out .exit)) pen r ⌝ }
+{
+    let begun = separate(out, pen, later);
+    write_text(m, table, strings, out, begun, pen.line, two_at(m, q + 3))
+}
+
+fn devices(
+    m: &[u8],
+    table: &[u8],
+    strings: u16,
+    first: usize,
+    end: usize,
+    out: &mut [u8],
+    pen: Pen,
+) -> Pen
+    requires { ⌜ (Source (now m) (now table) strings) × (Siblings (now m) 31 Device first end) × (end ≤ 65535) ⌝ }
+    ensures { λ r. ⌜ Passes (now (out .entry)) (now (out .exit)) pen r (printedEntries (printedDevice (stringAt (stringTexts (now (m .entry))))) (namesAt (now (m .entry)) (fieldsIn (now (m .entry)) first end)) false (pen .line)) ⌝ }
+{
+    let mut q = first;
+    let mut at = pen;
+    let mut later = false;
+    while q < end {
+        at = device(m, table, strings, q, later, out, at);
+        later = true;
+        q = end_of(m, q);
+    }
+    at
+}
+
+// ---- Definitions
+
+// Where the parameters of a class begin, if what follows its name is at q.
+fn after_parent(m: &[u8], q: usize) -> usize
+    requires { ⌜ q ≤ 65535 ⌝ }
+    ensures { λ r. ⌜ r ≡ afterParentAt (now (m .entry)) q ⌝ }
+{
+    if byte_at(m, q) == 0x35 {
+        return end_of(m, q);
+    }
+    q
+}
+
+// The parent of a class, if it has one.
+fn parent(m: &[u8], table: &[u8], strings: u16, q: usize, out: &mut [u8], pen: Pen) -> Pen
+    requires { ⌜ (Source (now m) (now table) strings) × (q ≤ 65535) ⌝ }
+    ensures { λ r. ⌜ Passes (now (out .entry)) (now (out .exit)) pen r (printedParent (stringAt (stringTexts (now (m .entry)))) (parentAt (now (m .entry)) q) (pen .line)) ⌝ }
+{
+    if byte_at(m, q) != 0x35 {
+        return pen;
+    }
+    let word = write_mark(out, pen, pen.line, 36);
+    write_word(m, table, strings, out, word, word.line, two_at(m, q + 3))
+}
