@@ -5,4 +5,4 @@ pub mod signs; // signs.rt: operators, brackets, commas and variables
 mod expressions; // expressions.rt: expressions and their arms
 mod attributes; // attributes.rt: attributes of a resource or a class
 mod plain; // plain.rt: statements without blocks
-mod statements; // statements.rt: statements with blocks
+pub mod statements; // statements.rt: statements with blocks
