@@ -14,13 +14,13 @@ use Rattle.rules.specs.Bytes.{pick}
 use Rattle.rules.specs.Fields.{none as noFields, wrap, write, writeAll}
 use Rattle.notation.specs.Tokens.{word, number, text, variable, topVariable, classVariable, mark, Lexeme, lexeme, kind, tokenOf, placeOf, question, leftBrace, rightBrace}
 use Rattle.notation.specs.Building.{Piece, byte, name, Node, node, Nodes, empty, _▸_, height, leaf, spelled, resourceTag, constantNode, variableNode, behindLabel, inFront, Frame, frame, Build, build, Action, begin, beginResource, around, instead, close, constant, read, named, parentFirst, void, enter, leave, added, addedFirst, begun, act, acts}
-use Rattle.notation.specs.Grammar.{Entry, arm, attribute, parameter, Symbol, sign, aName, expression, operators, readOrWord, closeBracket, one, maybe, further, statements, block, otherwise, branches, items, classRest, parameters, defaultValue, aConstant, inherits, parent, devices, device, moreDevices, ends, Row, row, operatorByte, operatorRow, operatorIn, binds, rowOf, leftOut, manifest, Stepped, stuck, to, toward, step}
+use Rattle.notation.specs.Grammar.{Entry, arm, attribute, parameter, Symbol, sign, aName, expression, operators, readOrWord, closeBracket, one, maybe, further, statements, block, otherwise, branches, items, classRest, parameters, defaultValue, aConstant, inherits, parent, devices, device, moreDevices, ends, Row, row, operatorByte, operatorRow, operatorIn, binds, rowOf, leftOut, manifest, to, step}
 use Rattle.notation.specs.Convert.{pieceBytes, headBytes, numbered, numberedOnto}
 use Rattle.notation.proofs.NeedsKept.{none-not-some, same-result}
 use Rattle.notation.proofs.TableRows.{allPass, found-passes, rowsOf}
 use Rattle.parse_table.specs.Stack.{stackOf}
 use Rattle.parse_table.proofs.Answers.{stack-length}
-use Rattle.parse_table.proofs.Bound.{Kept, stack-bound}
+use Rattle.parse_table.proofs.Bound.{Kept, step-through, stack-bound}
 use Rattle.tree_builder.specs.declared.Building.{Building}
 use Rattle.tree_builder.specs.Open.{opening, partsBytes, aroundBytes, headEnd, openBytes}
 use Rattle.tree_builder.specs.Shows.{Shows}
@@ -268,41 +268,22 @@ row-small ends q r h = none-not-some h
 
 -- ---- A step
 
-stuck-not-to : {A : Type 0} {k : List Symbol} {g : Build} → stuck ≡ to k g → A
-stuck-not-to e = let z : _≡_ {A = ℕ} 0 1 = cc in absurd (omega arith)
-
 module _ (table : List (List ℕ)) where
-  abbrev Grows : List Symbol → Build → List Symbol → Build → Type 0
-  Grows k f k′ g = size table g + debt k′ ≤ size table f + debt k + 15
+  -- no more than so many bytes, with those that are owed
+  abbrev UpTo : ℕ → List Symbol → Build → Type 0
+  UpTo n k f = size table f + debt k ≤ n
+
+  module _ (n : ℕ) (x : Lexeme) (s : Symbol) (k : List Symbol) (f g : Build) (ds : List Action) where
+    out-up-to : leftOut s ≡ some ds → acts ds x f ≡ some g → UpTo n (s ∷ k) f → UpTo n k g
+    out-up-to l i h = omega (arith, h, ap owed l, acts-size table x ds f g i)
+
+    row-up-to : (ss : List Symbol) → rowOf s (kind (tokenOf x)) ≡ some (row ds ss) → acts ds x f ≡ some g → UpTo n (s ∷ k) f → UpTo (n + 15) (ss ++ k) g
+    row-up-to ss r i h = omega (arith, h, debt-append ss k, leb-true (costs ds + debt ss) 15 (row-small s (kind (tokenOf x)) (row ds ss) r), acts-size table x ds f g i)
 
   pub step-size : (k : List Symbol) (x : Lexeme) (f : Build) (k′ : List Symbol) (g : Build) → step k x f ≡ to k′ g → size table g + debt k′ ≤ size table f + debt k + 15
-  unfolding step
-  step-size [] x f k′ g e = stuck-not-to e
-  step-size (s ∷ k) x f k′ g e = by-row (λ i. step-size k x i k′ g) (rowOf s (kind (tokenOf x))) refl e
-    where
-      by-taken : (ds : List Action) (ss : List Symbol) → rowOf s (kind (tokenOf x)) ≡ some (row ds ss) → (o : Option Build) → acts ds x f ≡ o → toward (ss ++ k) o ≡ to k′ g → Grows (s ∷ k) f k′ g
-      by-taken ds ss r none j q = stuck-not-to q
-      by-taken ds ss r (some i) j q =
-          let same-symbols : k′ ≡ ss ++ k = cc in
-          let same-build : i ≡ g = cc in
-          let whole : debt k′ ≡ debt ss + debt k = ap debt same-symbols ∙ debt-append ss k in
-          let few = leb-true (costs ds + debt ss) 15 (row-small s (kind (tokenOf x)) (row ds ss) r) in
-          omega (arith, whole, few, subst (λ (h : Build). size table h ≤ size table f + costs ds) same-build (acts-size table x ds f i j))
-
-      by-left : ((i : Build) → step k x i ≡ to k′ g → Grows k i k′ g) → (ds : List Action) → leftOut s ≡ some ds → (o : Option Build) → acts ds x f ≡ o → _≡_ {A = Stepped} (elim o as (λ o. Stepped) [ none ↦ stuck | some i ↦ step k x i ]) (to k′ g) → Grows (s ∷ k) f k′ g
-      by-left later ds l none j q = stuck-not-to q
-      by-left later ds l (some i) j q = omega (arith, later i q, ap owed l, acts-size table x ds f i j)
-
-      by-out : ((i : Build) → step k x i ≡ to k′ g → Grows k i k′ g) → (o : Option (List Action)) → leftOut s ≡ o → _≡_ {A = Stepped} (elim o as (λ o. Stepped) [ none ↦ stuck | some ds ↦ elim (acts ds x f) as (λ o. Stepped) [ none ↦ stuck | some i ↦ step k x i ] ]) (to k′ g) → Grows (s ∷ k) f k′ g
-      by-out later none l q = stuck-not-to q
-      by-out later (some ds) l q = by-left later ds l (acts ds x f) refl q
-
-      by-row : ((i : Build) → step k x i ≡ to k′ g → Grows k i k′ g) → (o : Option Row) → rowOf s (kind (tokenOf x)) ≡ o → _≡_ {A = Stepped} (elim o as (λ o. Stepped) [
-        | some r ↦ elim r as (λ o. Stepped) [ row ds ss ↦ toward (ss ++ k) (acts ds x f) ]
-        | none ↦ elim (leftOut s) as (λ o. Stepped) [ none ↦ stuck | some ds ↦ elim (acts ds x f) as (λ o. Stepped) [ none ↦ stuck | some i ↦ step k x i ] ]
-      ]) (to k′ g) → Grows (s ∷ k) f k′ g
-      by-row later none r q = by-out later (leftOut s) refl q
-      by-row later (some (row ds ss)) r q = by-taken ds ss r (acts ds x f) refl q
+  step-size k x f k′ g e =
+      let n : ℕ = size table f + debt k in
+      step-through (UpTo n) (UpTo (n + 15)) x (λ s k f g ds l i h. out-up-to n x s k f g ds l i h) (λ s k f g ds ss r i h. row-up-to n x s k f g ds ss r i h) k f k′ g e (omega arith)
 
   -- a state that shows a tree is filled so far
   pub filled-so : (s : Building) (m out : List ℕ) (f : Build) → Shows table s m out f → s .fill ≡ size table f

@@ -212,33 +212,41 @@ module _ (s : Symbol) (k : List Symbol) (x : Lexeme) (f g : Build) where
 stuck-not-to : {A : Type 0} {k : List Symbol} {g : Build} → stuck ≡ to k g → A
 stuck-not-to e = let z : _≡_ {A = ℕ} 0 1 = cc in absurd (omega arith)
 
--- a step
+-- a step: what holds of the symbols and the tree while symbols are left out, and then of what a row makes of them
+module _ (Before After : List Symbol → Build → Type 0) (x : Lexeme)
+    (out : (s : Symbol) (k : List Symbol) (f g : Build) (ds : List Action) → leftOut s ≡ some ds → acts ds x f ≡ some g → Before (s ∷ k) f → Before k g)
+    (taken : (s : Symbol) (k : List Symbol) (f g : Build) (ds : List Action) (ss : List Symbol) → rowOf s (kind (tokenOf x)) ≡ some (row ds ss) → acts ds x f ≡ some g → Before (s ∷ k) f → After (ss ++ k) g) where
+  pub step-through : (k : List Symbol) (f : Build) (k′ : List Symbol) (g : Build) → step k x f ≡ to k′ g → Before k f → After k′ g
+  unfolding step
+  step-through [] f k′ g e h = stuck-not-to e
+  step-through (s ∷ k) f k′ g e h = by-row (λ i. step-through k i k′ g) (rowOf s (kind (tokenOf x))) refl e
+    where
+      by-taken : (ds : List Action) (ss : List Symbol) → rowOf s (kind (tokenOf x)) ≡ some (row ds ss) → (o : Option Build) → acts ds x f ≡ o → toward (ss ++ k) o ≡ to k′ g → After k′ g
+      by-taken ds ss r none j q = stuck-not-to q
+      by-taken ds ss r (some i) j q =
+          let same-symbols : ss ++ k ≡ k′ = cc in
+          let same-build : i ≡ g = cc in
+          subst (λ (j : List Symbol). After j g) same-symbols (subst (After (ss ++ k)) same-build (taken s k f i ds ss r j h))
+
+      by-left : ((i : Build) → step k x i ≡ to k′ g → Before k i → After k′ g) → (ds : List Action) → leftOut s ≡ some ds → (o : Option Build) → acts ds x f ≡ o → _≡_ {A = Stepped} (elim o as (λ o. Stepped) [ none ↦ stuck | some i ↦ step k x i ]) (to k′ g) → After k′ g
+      by-left later ds l none j q = stuck-not-to q
+      by-left later ds l (some i) j q = later i q (out s k f i ds l j h)
+
+      by-out : ((i : Build) → step k x i ≡ to k′ g → Before k i → After k′ g) → (o : Option (List Action)) → leftOut s ≡ o → _≡_ {A = Stepped} (elim o as (λ o. Stepped) [ none ↦ stuck | some ds ↦ elim (acts ds x f) as (λ o. Stepped) [ none ↦ stuck | some i ↦ step k x i ] ]) (to k′ g) → After k′ g
+      by-out later none l q = stuck-not-to q
+      by-out later (some ds) l q = by-left later ds l (acts ds x f) refl q
+
+      by-row : ((i : Build) → step k x i ≡ to k′ g → Before k i → After k′ g) → (o : Option Row) → rowOf s (kind (tokenOf x)) ≡ o → _≡_ {A = Stepped} (elim o as (λ o. Stepped) [
+        | some r ↦ elim r as (λ o. Stepped) [ row ds ss ↦ toward (ss ++ k) (acts ds x f) ]
+        | none ↦ elim (leftOut s) as (λ o. Stepped) [ none ↦ stuck | some ds ↦ elim (acts ds x f) as (λ o. Stepped) [ none ↦ stuck | some i ↦ step k x i ] ]
+      ]) (to k′ g) → After k′ g
+      by-row later none r q = by-out later (leftOut s) refl q
+      by-row later (some (row ds ss)) r q = by-taken ds ss r (acts ds x f) refl q
+
+-- so a step keeps the bound
 pub step-kept : (k : List Symbol) (x : Lexeme) (f : Build) (k′ : List Symbol) (g : Build) → step k x f ≡ to k′ g → Kept k f → Kept k′ g
-unfolding step
-step-kept [] x f k′ g e h = stuck-not-to e
-step-kept (s ∷ k) x f k′ g e h = by-row (λ i. step-kept k x i k′ g) (rowOf s (kind (tokenOf x))) refl e
-  where
-    by-taken : (ds : List Action) (ss : List Symbol) → rowOf s (kind (tokenOf x)) ≡ some (row ds ss) → (o : Option Build) → acts ds x f ≡ o → toward (ss ++ k) o ≡ to k′ g → Kept k′ g
-    by-taken ds ss r none j q = stuck-not-to q
-    by-taken ds ss r (some i) j q =
-        let same-symbols : ss ++ k ≡ k′ = cc in
-        let same-build : i ≡ g = cc in
-        subst (λ (j : List Symbol). Kept j g) same-symbols (subst (Kept (ss ++ k)) same-build (row-kept s k x f i (kind (tokenOf x)) r j h))
-
-    by-left : ((i : Build) → step k x i ≡ to k′ g → Kept k i → Kept k′ g) → (ds : List Action) → leftOut s ≡ some ds → (o : Option Build) → acts ds x f ≡ o → _≡_ {A = Stepped} (elim o as (λ o. Stepped) [ none ↦ stuck | some i ↦ step k x i ]) (to k′ g) → Kept k′ g
-    by-left later ds l none j q = stuck-not-to q
-    by-left later ds l (some i) j q = later i q (out-kept s k x f i l j h)
-
-    by-out : ((i : Build) → step k x i ≡ to k′ g → Kept k i → Kept k′ g) → (o : Option (List Action)) → leftOut s ≡ o → _≡_ {A = Stepped} (elim o as (λ o. Stepped) [ none ↦ stuck | some ds ↦ elim (acts ds x f) as (λ o. Stepped) [ none ↦ stuck | some i ↦ step k x i ] ]) (to k′ g) → Kept k′ g
-    by-out later none l q = stuck-not-to q
-    by-out later (some ds) l q = by-left later ds l (acts ds x f) refl q
-
-    by-row : ((i : Build) → step k x i ≡ to k′ g → Kept k i → Kept k′ g) → (o : Option Row) → rowOf s (kind (tokenOf x)) ≡ o → _≡_ {A = Stepped} (elim o as (λ o. Stepped) [
-      | some r ↦ elim r as (λ o. Stepped) [ row ds ss ↦ toward (ss ++ k) (acts ds x f) ]
-      | none ↦ elim (leftOut s) as (λ o. Stepped) [ none ↦ stuck | some ds ↦ elim (acts ds x f) as (λ o. Stepped) [ none ↦ stuck | some i ↦ step k x i ] ]
-    ]) (to k′ g) → Kept k′ g
-    by-row later none r q = by-out later (leftOut s) refl q
-    by-row later (some (row ds ss)) r q = by-taken ds ss r (acts ds x f) refl q
+step-kept k x f k′ g e h =
+    step-through Kept Kept x (λ s k f g ds l i h. out-kept s k x f g l i h) (λ s k f g ds ss r i h. row-kept s k x f g (kind (tokenOf x)) r i h) k f k′ g e h
 
 -- ---- The height
 
