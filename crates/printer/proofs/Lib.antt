@@ -1,12 +1,3 @@
-pub mod OneToken
-pub mod FirstLabel
-pub mod ConstantTokens
-pub mod PrintedPatterns
-pub mod OperatorSigns
-pub mod PrintedExpressions
-pub mod PrintedArms
-pub mod PrintedEntries
-pub mod PlainStatements
-pub mod StatementLabels
-pub mod PrintedStatements
-pub mod PrintedBranches
+pub mod ItemLabels
+pub mod PrintedItems
+pub mod WholeText

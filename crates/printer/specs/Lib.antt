@@ -1,6 +1,1 @@
-pub mod Passing
-pub mod Holding
-pub mod Labels
-pub mod Brackets
-pub mod Forms
-pub mod Patterns
+pub mod Whole

@@ -1,3 +1,0 @@
-pub mod ItemLabels
-pub mod PrintedItems
-pub mod WholeText

@@ -1,0 +1,169 @@
+-- One law for each way through `write_whole`, `refuse`, `print_fitting`, `print_sound` and `print`. Assumes nothing.
+use Prim.Native.Nat.{ℕ, _+_, _-_, _≤_, _<_}
+use mathlib.Core.Path.{_≡_, refl, sym, ap, _∙_, subst}
+use mathlib.Core.Bool.{Bool, true, false}
+use mathlib.Core.List.{List, [], _++_}
+use mathlib.Core.Option.{Option, none, some}
+use native.Mathlib.Omega.{arith}
+use borrow.Author.Tests.{lt-ltb, le-ltb}
+use lib.Dec.{ltb}
+use lib.ListN.{length, replicate, length-append}
+use Rattle.values.specs.declared.Reason.{Reason}
+use Rattle.values.specs.declared.Reason.the-variants.{MemoryTooShort, Unprintable}
+use Rattle.wire.specs.Runs.{over, zeros}
+use Rattle.wire.proofs.Laws.{over-whole, then-store, zeros-length}
+use Rattle.rules.specs.Bytes.{endOf, fieldsIn}
+use Rattle.rules.specs.Check.{stringPlaces, check}
+use Rattle.rules.specs.Compile.{stringAt, checked}
+use Rattle.rules.specs.Outcome.{Outcome, refused, done, _>>=_, refuseIf}
+use Rattle.rules.specs.Read.{manifestOf}
+use Rattle.rules.specs.declared.Verdict.{Verdict}
+use Rattle.rules.specs.declared.Verdict.the-variants.{Sound, Fault}
+use Rattle.rules.proofs.Within.{false-not-true}
+use Rattle.places.specs.At.{itemsAt}
+use Rattle.places.proofs.Items.{manifest-opens}
+use Rattle.syntax.specs.Before.{before}
+use Rattle.syntax.specs.Strings.{stringTexts, indexed, Indexed, foundOf}
+use Rattle.syntax.specs.declared.Found.{Found}
+use Rattle.syntax.specs.declared.Found.the-variants.{At, Nothing}
+use Rattle.syntax.proofs.StringsRead.{strings-read, table-holds}
+use Rattle.syntax.proofs.Whole.{before-both}
+use Rattle.notation.specs.Tokens.{Lexeme}
+use Rattle.notation.specs.Print.{printedItems}
+use Rattle.notation.specs.Layout.{laidOut}
+use Rattle.notation.specs.Convert.{refuseAt, tooLong, answerOf, outputOf, effectOf}
+use Rattle.notation.specs.Printer.{unprintableAt, tokensOf, textOf, printedText, print}
+use Rattle.notation.specs.declared.Answer.{Answer}
+use Rattle.notation.specs.declared.Answer.the-variants.{Written, Refused}
+use Rattle.token_writer.specs.declared.Pen.{Pen}
+use Rattle.token_writer.specs.Writing.{Wrote}
+use Rattle.token_writer.specs.Pens.{textFrom}
+use Rattle.token_writer.proofs.Chains.{at-start, at-end}
+use Rattle.statement_printer.specs.Passing.{isFull, Going, writing, full, Passes}
+use Rattle.printer.specs.Whole.{fittingText, printableText, Counted, Leaves, Prints}
+use Rattle.statement_printer.proofs.OneToken.{too-long}
+
+-- ---- write_whole
+
+-- the tokens of a sound manifest, by the places of its items
+text-at : (m : List ℕ) {f : ℕ} → check m ≡ Sound → f ≡ endOf m 0 → laidOut (printedItems (stringAt (stringTexts m)) (itemsAt m (fieldsIn m f (length m))) 0 (λ v. [])) none 0 0 ≡ textOf (manifestOf m)
+unfolding textOf tokensOf
+text-at m w e = rw (e, ← strings-read m w, ← manifest-opens m w .items) refl
+
+-- behind the items nothing but the end is to come
+pub items-end : (m : List ℕ) {f : ℕ} {out out′ : List ℕ} {pen : Pen} → check m ≡ Sound → f ≡ endOf m 0
+    → Passes out out′ (record { fill = 0; before = 255; brackets = 0; line = 0 }) pen (printedItems (stringAt (stringTexts m)) (itemsAt m (fieldsIn m f (length m))) 0) → Going out out′ pen (textOf (manifestOf m)) []
+items-end m {f} {out} {out′} {pen} w e p =
+    let xs : List Lexeme = printedItems (stringAt (stringTexts m)) (itemsAt m (fieldsIn m f (length m))) 0 (λ v. []) in
+    subst (λ (t : List ℕ). Going out out′ pen t []) (text-at m w e) (p .goes out (laidOut xs none 0 0) (λ v. []) (writing (omega arith) (at-start out xs)))
+
+module _ {whole out out′ : List ℕ} {pen : Pen} {b : Bool} (so : Going out out′ pen whole []) (told : b ≡ isFull pen) where
+  pub counts-too-many : b ≡ true → Counted whole out out′ 65536
+  counts-too-many h = record { long = λ l. too-long (sym told ∙ h) so; wrote = λ l. absurd (omega arith) }
+
+  pub counts-all : {out″ : List ℕ} {n : ℕ} → b ≡ false → Wrote out′ out″ (pen .fill) n (textFrom pen []) → Counted whole out out″ n
+  counts-all {out″} {n} h last = go so
+    where
+      all : Wrote out out″ 0 n whole → Counted whole out out″ n
+      all w = record { long = λ l. omega (arith, w .filled, l); wrote = λ l. w }
+
+      go : Going out out′ pen whole [] → Counted whole out out″ n
+      go (full f l) = absurd (false-not-true (sym h ∙ told ∙ f))
+      go (writing l i) = all (at-end i last)
+
+-- ---- refuse
+
+all-zero : (m : List ℕ) {m′ : List ℕ} → m′ ≡ over m 0 (zeros (length m - 0)) → m′ ≡ replicate (length m) 0
+unfolding zeros
+all-zero m e = let all : length m - 0 ≡ length m = omega arith in e ∙ over-whole m (zeros (length m - 0)) (zeros-length (length m - 0) ∙ all) ∙ ap (λ (n : ℕ). replicate n 0) all
+
+pub refuses : {out out′ work work′ : List ℕ} (r : Reason) (p : ℕ) → out′ ≡ over out 0 (zeros (length out - 0)) → work′ ≡ over work 0 (zeros (length work - 0)) → Leaves (refused r p) out out′ work work′ (Refused r p)
+unfolding effectOf answerOf outputOf
+refuses {out} {out′} {work} {work′} r p eo ew = record { effect = λ i. record { answer = Refused r p; outputAfter = all-zero out eo i; memoryAfter = all-zero work ew i } }
+
+-- ---- Outcomes by other names, and bytes lent that keep their length
+
+pub leaves-as : {o o′ : Outcome (List ℕ)} {out out₁ out₂ work work₁ work₂ : List ℕ} {a : Answer} → o′ ≡ o → length out₁ ≡ length out → length work₁ ≡ length work → Leaves o out₁ out₂ work₁ work₂ a → Leaves o′ out out₂ work work₂ a
+leaves-as {o} same lo lw x = record { effect = x .effect ∙ λ i. effectOf (lo i) (lw i) (sym same i) }
+
+-- ---- print_fitting
+
+module _ (m : List ℕ) (room : ℕ) where
+  by-length : (b : Bool) → tooLong (textOf (manifestOf m)) room ≡ b → fittingText m room ≡ (refuseIf b Unprintable 0 >>= λ _. done (textOf (manifestOf m)))
+  unfolding fittingText
+  by-length b e = ap (λ (x : Bool). refuseIf x Unprintable 0 >>= λ _. done (textOf (manifestOf m))) e
+
+  pub over-limit : {out out′ : List ℕ} {n : ℕ} → Counted (textOf (manifestOf m)) out out′ n → 65535 < n → fittingText m room ≡ refused Unprintable 0
+  unfolding tooLong refuseIf _>>=_
+  over-limit c l = by-length true (rw (lt-ltb 65535 (length (textOf (manifestOf m))) (c .long l)) refl)
+
+  pub over-room : {out out′ : List ℕ} {n : ℕ} → Counted (textOf (manifestOf m)) out out′ n → n ≤ 65535 → room < n → fittingText m room ≡ refused Unprintable 0
+  unfolding tooLong refuseIf _>>=_
+  over-room {n = n} c l h =
+      let size : n ≡ 0 + length (textOf (manifestOf m)) = c .wrote l .filled in
+      by-length true (rw (le-ltb 65535 (length (textOf (manifestOf m))) (omega arith), lt-ltb room (length (textOf (manifestOf m))) (omega arith)) refl)
+
+  fits : length (textOf (manifestOf m)) ≤ 65535 → length (textOf (manifestOf m)) ≤ room → fittingText m room ≡ done (textOf (manifestOf m))
+  unfolding tooLong refuseIf _>>=_
+  fits l h = by-length false (rw (le-ltb 65535 (length (textOf (manifestOf m))) l, le-ltb room (length (textOf (manifestOf m))) h) refl)
+
+-- the text, and zeros behind it
+pub writes-all : (m : List ℕ) {out out₁ out₂ work work₂ : List ℕ} {n : ℕ} → Counted (textOf (manifestOf m)) out out₁ n → n ≤ 65535 → n ≤ length out → out₂ ≡ over out₁ n (zeros (length out - n)) → work₂ ≡ over work 0 (zeros (length work - 0)) → Leaves (fittingText m (length out)) out out₂ work work₂ (Written n)
+unfolding effectOf answerOf outputOf zeros
+writes-all m {out} {out₁} {out₂} {work} {work₂} {n} c l h eo ew =
+    let whole : List ℕ = textOf (manifestOf m) in
+    let size : n ≡ 0 + length whole = c .wrote l .filled in
+    let length-is : n ≡ length whole = omega arith in
+    let behind : List ℕ = zeros (length out - n) in
+    let joined : length (whole ++ behind) ≡ length out = omega (arith, length-append whole behind, zeros-length (length out - n)) in
+    let bytes = then-store out 0 whole n behind (c .wrote l .stored) eo size ∙ over-whole out (whole ++ behind) joined ∙ ap (λ (k : ℕ). whole ++ replicate (length out - k) 0) length-is in
+    let outcome = fits m (length out) (omega arith) (omega arith) in
+    let left : Leaves (done whole) out out₂ work work₂ (Written n) = record { effect = λ i. record { answer = Written (length-is i); outputAfter = bytes i; memoryAfter = all-zero work ew i } } in
+    leaves-as outcome refl refl left
+
+-- ---- print_sound
+
+pub index-holds : (m table : List ℕ) {n : ℕ} {t : List ℕ} → check m ≡ Sound → length m ≤ 65535 → 2048 ≤ length table → n ≡ length (stringPlaces m) → t ≡ indexed m table → Indexed m t n
+index-holds m table w short room en et = rw (en, et) (table-holds m table w short room)
+
+module _ (m : List ℕ) (room : ℕ) {x : Found} (told : x ≡ foundOf (unprintableAt m)) where
+  pub unprintable : {p : ℕ} → x ≡ At p → printableText m room ≡ refused Unprintable p
+  unfolding printableText refuseAt _>>=_ foundOf
+  unprintable {p} h = go (unprintableAt m) (sym told ∙ h)
+    where
+      go : (o : Option ℕ) → foundOf o ≡ At p → (refuseAt o Unprintable >>= λ _. fittingText m room) ≡ refused Unprintable p
+      go none e = absurd (let z : _≡_ {A = ℕ} 0 1 = cc in omega arith)
+      go (some q) e = let same : q ≡ p = cc in ap (refused Unprintable) same
+
+  pub all-printable : x ≡ Nothing → printableText m room ≡ fittingText m room
+  unfolding printableText refuseAt _>>=_ foundOf
+  all-printable h = go (unprintableAt m) (sym told ∙ h)
+    where
+      go : (o : Option ℕ) → foundOf o ≡ Nothing → (refuseAt o Unprintable >>= λ _. fittingText m room) ≡ fittingText m room
+      go none e = refl
+      go (some q) e = absurd (let z : _≡_ {A = ℕ} 0 1 = cc in omega arith)
+
+-- ---- print
+
+module _ (m : List ℕ) (room memory : ℕ) where
+  in-order : printedText m room memory ≡ (refuseIf (ltb memory 65536) MemoryTooShort 0 >>= λ _. checked (before m) >>= λ _. printableText m room)
+  unfolding printedText printableText fittingText
+  in-order = ap (λ (o : Outcome (List ℕ)). refuseIf (ltb memory 65536) MemoryTooShort 0 >>= λ _. o) (before-both m (λ _. printableText m room))
+
+  pub short-memory : memory < 65536 → printedText m room memory ≡ refused MemoryTooShort 0
+  unfolding refuseIf _>>=_
+  short-memory h = in-order ∙ rw (lt-ltb memory 65536 h) refl
+
+  pub fault-first : {v : Verdict} {r : Reason} {p : ℕ} → 65536 ≤ memory → v ≡ before m → v ≡ Fault r p → printedText m room memory ≡ refused r p
+  unfolding refuseIf _>>=_ checked
+  fault-first h e f = in-order ∙ rw (le-ltb memory 65536 h, sym e, f) refl
+
+  pub sound-first : {v : Verdict} → 65536 ≤ memory → v ≡ before m → v ≡ Sound → printedText m room memory ≡ printableText m room
+  unfolding refuseIf _>>=_ checked
+  sound-first h e f = in-order ∙ rw (le-ltb memory 65536 h, sym e, f) refl
+
+pub prints : (m : List ℕ) {o : Outcome (List ℕ)} {out out′ work work′ : List ℕ} {a : Answer} → printedText m (length out) (length work) ≡ o → Leaves o out out′ work work′ a → Prints m out out′ work work′ a
+unfolding print
+prints m {out = out} {out′ = out′} {work = work} {work′ = work′} {a = a} e x =
+    let left : Leaves (printedText m (length out) (length work)) out out′ work work′ a = leaves-as e refl refl x in
+    record { effect = left .effect }

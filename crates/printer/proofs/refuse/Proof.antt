@@ -1,0 +1,30 @@
+-- `refuse`: zeros throughout.
+use Rattle.printer.proofs.WholeText.{refuses}
+use borrow.Author.Needs.{needs}
+use Rattle.printer.proofs.refuse.Statement.{statement}
+use Rattle.printer.proofs.refuse.Tie as tie
+
+clear-requires : tie.Need-clear-requires
+clear-requires c κs = search needs
+
+clear-requires-2 : tie.Need-clear-requires-2
+clear-requires-2 c κs = search needs
+
+same-length : tie.Need-same-length
+same-length c = search needs
+
+same-length-2 : tie.Need-same-length-2
+same-length-2 c = search needs
+
+returns : tie.Need-returns
+returns c = refuses _ _ (c .before .before .before .before .before .before .clear .ensures) (c .before .before .clear2 .ensures)
+
+pub refuse-spec : {M : Type 1} → statement M
+refuse-spec =
+    tie.close
+    (tie.spec
+    clear-requires
+    clear-requires-2
+    same-length
+    same-length-2
+    returns)

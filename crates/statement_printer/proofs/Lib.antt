@@ -1,0 +1,12 @@
+pub mod OneToken
+pub mod FirstLabel
+pub mod ConstantTokens
+pub mod PrintedPatterns
+pub mod OperatorSigns
+pub mod PrintedExpressions
+pub mod PrintedArms
+pub mod PrintedEntries
+pub mod PlainStatements
+pub mod StatementLabels
+pub mod PrintedStatements
+pub mod PrintedBranches

@@ -1,0 +1,20 @@
+-- `close_bracket`: by the test.
+use Rattle.statement_printer.proofs.OperatorSigns.{none-closed, one-closed}
+use borrow.Author.Needs.{needs}
+use Rattle.statement_printer.proofs.signs.close_bracket.Statement.{statement}
+use Rattle.statement_printer.proofs.signs.close_bracket.Tie as tie
+
+returns : tie.Need-returns
+returns c = none-closed _ (c .if1 .taken)
+
+write-mark-requires : tie.Need-write-mark-requires
+write-mark-requires c κs = search needs
+
+same-length : tie.Need-same-length
+same-length c = search needs
+
+returns-2 : tie.Need-returns-2
+returns-2 c = one-closed _ (c .before .before .before .before .if1 .left) (c .before .before .write-mark .ensures)
+
+pub close-bracket-spec : {M : Type 1} → statement M
+close-bracket-spec = tie.close (tie.spec returns write-mark-requires same-length returns-2)
