@@ -1,21 +1,38 @@
 -- One law for each way through `word_of`, and what a word tells. Assumes nothing.
 use Prim.Native.Nat.{ℕ, _+_, _*_, _≤_, _<_}
 use mathlib.Core.Path.{_≡_, sym, ap, _∙_}
+use mathlib.Core.List.{List}
 use native.Mathlib.Omega.{arith}
 use Rattle.values.specs.declared.Reason.{Reason}
 use Rattle.values.specs.declared.Answer.{Answer}
 use Rattle.values.specs.declared.Answer.the-variants.{Catalog, Refused}
 use Rattle.values.specs.Numbers.{numberOf, accepted, refused, said}
 use Rattle.values.proofs.Reasons.{number-range}
-use Rattle.library.specs.Called.{wordOf}
+use Rattle.notation.specs.declared.Answer.{Answer as TextAnswer}
+use Rattle.notation.specs.declared.Answer.the-variants.{Written, Refused as RefusedText}
+use Rattle.notation.specs.Convert.{Effect, accepted as written, refusal, said as saidOfText}
+use Rattle.library.specs.Called.{wordOf, textWord, Tells}
 
 pub word-accepted : {a : Answer} {n s : ℕ} → a ≡ Catalog n s → s * 65536 + n ≡ wordOf (said a)
 unfolding wordOf said
 word-accepted e = sym (ap (λ (a : Answer). wordOf (said a)) e)
 
-pub word-refused : {a : Answer} {r : Reason} {p k : ℕ} → a ≡ Refused r p → k ≡ numberOf r → k * 4294967296 + p ≡ wordOf (said a)
+pub word-refused : {a : Answer} {r : Reason} {p k : ℕ} → a ≡ Refused r p → k ≡ numberOf r * 4294967296 + p → k ≡ wordOf (said a)
 unfolding wordOf said
-word-refused {p = p} e h = ap (λ (k : ℕ). k * 4294967296 + p) h ∙ sym (ap (λ (a : Answer). wordOf (said a)) e)
+word-refused e h = h ∙ sym (ap (λ (a : Answer). wordOf (said a)) e)
+
+-- the same of the text tools
+pub word-written : {a : TextAnswer} {n : ℕ} → a ≡ Written n → n ≡ textWord (saidOfText a)
+unfolding textWord saidOfText
+word-written e = sym (ap (λ (a : TextAnswer). textWord (saidOfText a)) e)
+
+pub word-text-refused : {a : TextAnswer} {r : Reason} {p k : ℕ} → a ≡ RefusedText r p → k ≡ numberOf r * 4294967296 + p → k ≡ textWord (saidOfText a)
+unfolding textWord saidOfText
+word-text-refused e h = h ∙ sym (ap (λ (a : TextAnswer). textWord (saidOfText a)) e)
+
+-- what a call leaves, told with a word
+pub tells : {wanted : Effect} {answer : TextAnswer} {out work : List ℕ} {word : ℕ} → record { answer = answer; outputAfter = out; memoryAfter = work } ≡ wanted → word ≡ textWord (saidOfText answer) → Tells wanted out work word
+tells e told = record { told = told ∙ ap (λ (w : Effect). textWord (saidOfText (w .answer))) e; output = ap (λ (w : Effect). w .outputAfter) e; memory = ap (λ (w : Effect). w .memoryAfter) e }
 
 -- ---- Which sort a word is of
 
@@ -27,3 +44,11 @@ accepted-below n s h i = omega arith
 pub refused-above : (r : Reason) (p : ℕ) → 4294967296 ≤ wordOf (refused (numberOf r) p)
 unfolding wordOf
 refused-above r p = omega (arith, number-range r)
+
+pub written-below : (n : ℕ) → n < 65536 → textWord (written n) < 4294967296
+unfolding textWord
+written-below n h = omega arith
+
+pub text-refused-above : (r : Reason) (p : ℕ) → 4294967296 ≤ textWord (refusal (numberOf r) p)
+unfolding textWord
+text-refused-above r p = omega (arith, number-range r)

@@ -5,6 +5,8 @@ use mathlib.Core.List.{List}
 use Rattle.values.specs.declared.Answer.{Answer}
 use Rattle.values.specs.Numbers.{Said, accepted, refused, said}
 use Rattle.compiler.specs.Compiled.{Compiles}
+use Rattle.notation.specs.Convert.{Effect, accepted as written, refusal, said as saidOfText}
+use Rattle.notation.specs.Convert as texts
 
 -- accepted: the steps in the bits from 16 on, the catalog's length in the lowest 16; refused: the number in the bits from 32 on, the place
 -- in the lowest 16. A word below 2^32 is of the first sort, since a refusal's number is at least 1.
@@ -17,3 +19,16 @@ pub record Calls (manifest device : List ℕ) (limit : ℕ) (outputBefore output
   pub answer : Answer
   pub compiles : Compiles manifest device limit outputBefore outputAfter memoryBefore memoryAfter answer
   pub told : word ≡ wordOf (said answer)
+
+-- ---- The text tools
+
+-- the length written; refused: as above. A word below 2^32 is of the first sort.
+unfoldable pub textWord : texts.Said → ℕ
+textWord (written n) = n
+textWord (refusal k p) = k * 4294967296 + p
+
+-- the word is that of the answer, and the bytes lent are as they are after it
+pub record Tells (effect : Effect) (outputAfter memoryAfter : List ℕ) (word : ℕ) : Type 0 where
+  pub told : word ≡ textWord (saidOfText (effect .answer))
+  pub output : outputAfter ≡ effect .outputAfter
+  pub memory : memoryAfter ≡ effect .memoryAfter

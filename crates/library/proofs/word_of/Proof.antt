@@ -22,26 +22,14 @@ add-result c = search needs
 enum-known-answer-2 : tie.Need-enum-known-answer-2
 enum-known-answer-2 c = search needs
 
-number-of-requires : tie.Need-number-of-requires
-number-of-requires c κs = search needs
-
-cast-result-3 : tie.Need-cast-result-3
-cast-result-3 c = search needs
-
-mul-result-2 : tie.Need-mul-result-2
-mul-result-2 c = search needs
-
-cast-result-4 : tie.Need-cast-result-4
-cast-result-4 c = search needs
-
-add-result-2 : tie.Need-add-result-2
-add-result-2 c = search needs
+refusal-word-requires : tie.Need-refusal-word-requires
+refusal-word-requires c κs = search needs
 
 returns : tie.Need-returns
 returns c = word-accepted (c .before .answer .given .1)
 
 returns-2 : tie.Need-returns-2
-returns-2 c = word-refused (c .before .before .answer2 .given .1) (c .number-of .ensures)
+returns-2 c = word-refused (c .before .before .answer2 .given .1) (c .refusal-word .ensures)
 
 pub word-of-spec : {M : Type 1} → statement M
 word-of-spec =
@@ -53,10 +41,6 @@ word-of-spec =
     cast-result-2
     add-result
     enum-known-answer-2
-    number-of-requires
-    cast-result-3
-    mul-result-2
-    cast-result-4
-    add-result-2
+    refusal-word-requires
     returns
     returns-2)
