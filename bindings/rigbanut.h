@@ -45,7 +45,7 @@ static inline uint16_t rigbanut_steps(uint64_t answer) { return (uint16_t)(answe
 static inline unsigned rigbanut_number(uint64_t answer) { return (unsigned)(answer >> 32); }
 static inline uint16_t rigbanut_place(uint64_t answer) { return (uint16_t)(answer & 0xFFFF); }
 
-/* The reason of that number in words. */
+/* The reason of that number in words. 24 to 26 are those of the text notation, which a compile never gives. */
 static inline const char *rigbanut_reason(unsigned number)
 {
     static const char *const reasons[] = {
@@ -73,6 +73,9 @@ static inline const char *rigbanut_reason(unsigned number)
         "an attribute is named twice in one body",
         "a 513th cell is needed",
         "the finished entry passes the output's end or 65,535 bytes in all",
+        "the text is outside the notation or a limit, or text or manifest is over 65,535 bytes or the output",
+        "a constant stands past line 255",
+        "a label falls, a name or type cannot be spelled, or the text is over 65,535 bytes or the output",
     };
     return number < sizeof reasons / sizeof *reasons ? reasons[number] : "not a refusal's number";
 }

@@ -125,7 +125,7 @@ impl Answer {
 }
 
 impl Refusal {
-    /// The reason in words.
+    /// The reason in words. 24 to 26 are those of the text notation, which a compile never gives.
     pub fn reason(&self) -> &'static str {
         match self.number {
             1 => "the working memory is shorter than 65,536 bytes",
@@ -151,6 +151,9 @@ impl Refusal {
             21 => "an attribute is named twice in one body",
             22 => "a 513th cell is needed",
             23 => "the finished entry passes the output's end or 65,535 bytes in all",
+            24 => "the text is outside the notation or a limit, or text or manifest is over 65,535 bytes or the output",
+            25 => "a constant stands past line 255",
+            26 => "a label falls, a name or type cannot be spelled, or the text is over 65,535 bytes or the output",
             _ => "not a refusal's number",
         }
     }
