@@ -1,4 +1,5 @@
-/* Rigbanut for C: one function of the proved static library.
+/* Rigbanut for C: the three functions of the proved static library. One compiles a manifest, the others convert a text
+ * to a manifest (docs/NOTATION.md) and print a manifest as text.
  *
  * bindings/run builds the library and shows how to link it (x86-64 Linux). */
 #ifndef RIGBANUT_H
@@ -15,6 +16,9 @@ extern "C" {
 #define RIGBANUT_MEMORY 65536
 /* No catalog is longer, so an output of this length is never too short for one that the rules allow. */
 #define RIGBANUT_LONGEST_CATALOG 65535
+/* The same for a manifest that is converted from a text, and for a text that is printed. */
+#define RIGBANUT_LONGEST_MANIFEST 65535
+#define RIGBANUT_LONGEST_TEXT 65535
 
 /* Compiles a manifest for a device, in at most `limit` steps.
  *
@@ -34,14 +38,30 @@ uint64_t rigbanut_compile(
     uint8_t *out, size_t out_length,
     uint8_t *work, size_t work_length);
 
-/* Accepted: steps * 65536 + length. Refused: number * 2^32 + place. */
+/* Converts a text to its manifest, in `out`. What is lent and what a caller owes is as for a compile. */
+uint64_t rigbanut_convert(
+    const uint8_t *text, size_t text_length,
+    uint8_t *out, size_t out_length,
+    uint8_t *work, size_t work_length);
+
+/* Prints a manifest as text, in `out`. What is lent and what a caller owes is as for a compile. */
+uint64_t rigbanut_print(
+    const uint8_t *manifest, size_t manifest_length,
+    uint8_t *out, size_t out_length,
+    uint8_t *work, size_t work_length);
+
+/* Accepted: steps * 65536 + length by a compile, the length by the others. Refused, by all three: number * 2^32 + place. */
 static inline int rigbanut_is_accepted(uint64_t answer) { return answer >> 32 == 0; }
 
 /* Of an accepted compile: the catalog's length in `out`, and the steps taken. */
 static inline uint16_t rigbanut_length(uint64_t answer) { return (uint16_t)(answer & 0xFFFF); }
 static inline uint16_t rigbanut_steps(uint64_t answer) { return (uint16_t)(answer >> 16 & 0xFFFF); }
 
-/* Of a refused one: the reason's number, 1 to 23, and the offset in the manifest of the field concerned. */
+/* Of an accepted text: the length of the manifest or of the text in `out`. */
+static inline uint32_t rigbanut_written(uint64_t answer) { return (uint32_t)answer; }
+
+/* Of a refused call: the reason's number, 1 to 26, and the offset of the field concerned in the manifest, or of the
+ * token concerned in the text that was to be converted. */
 static inline unsigned rigbanut_number(uint64_t answer) { return (unsigned)(answer >> 32); }
 static inline uint16_t rigbanut_place(uint64_t answer) { return (uint16_t)(answer & 0xFFFF); }
 

@@ -5,7 +5,8 @@
 //! ```
 //!
 //! with `#[path = ".../bindings/rigbanut.rs"] mod rigbanut;` in `main.rs`. `bindings/run` builds the library and an
-//! example. A [`Compiler`] has its own memory; [`compile_into`] is the plain call, on memory of the caller's.
+//! example. A [`Compiler`] has its own memory and compiles, converts texts to manifests and prints manifests as text
+//! (docs/NOTATION.md); [`compile_into`], [`convert_into`] and [`print_into`] are the plain calls, on memory of the caller's.
 
 #![allow(dead_code)] // A program that includes this file need not use all of it.
 
@@ -15,6 +16,10 @@ use std::fmt;
 pub const MEMORY: usize = 65_536;
 /// No catalog is longer.
 pub const LONGEST_CATALOG: usize = 65_535;
+/// No manifest that is converted from a text is longer.
+pub const LONGEST_MANIFEST: usize = 65_535;
+/// No text that is printed is longer.
+pub const LONGEST_TEXT: usize = 65_535;
 
 /// What a compile answers.
 #[derive(Clone, Copy, Debug, PartialEq, Eq)]
@@ -27,7 +32,18 @@ pub enum Answer {
     Refused(Refusal),
 }
 
-/// The first reason met, by its number, and the offset in the manifest of the field concerned.
+/// What converting and printing answer.
+#[derive(Clone, Copy, Debug, PartialEq, Eq)]
+pub enum Written {
+    /// The manifest or the text is the first `length` bytes of the output.
+    Bytes {
+        length: u32,
+    },
+    Refused(Refusal),
+}
+
+/// The first reason met, by its number, and the offset of the field concerned in the manifest, or of the token concerned
+/// in the text that was to be converted.
 #[derive(Clone, Copy, Debug, PartialEq, Eq)]
 pub struct Refusal {
     pub number: u8,
@@ -41,7 +57,7 @@ pub enum Outcome<'c> {
     Refused(Refusal),
 }
 
-/// The memory of a compile, allocated once and used by every call.
+/// The memory of a call, allocated once and used by every call.
 pub struct Compiler {
     out: Vec<u8>,
     work: Vec<u8>,
@@ -63,6 +79,25 @@ impl Compiler {
                 catalog: &self.out[..usize::from(length)],
                 steps,
             },
+        }
+    }
+
+    /// Converts a text to its manifest. It stays until the next call.
+    pub fn convert(&mut self, text: &[u8]) -> Result<&[u8], Refusal> {
+        let written = convert_into(text, &mut self.out, &mut self.work);
+        self.written(written)
+    }
+
+    /// Prints a manifest as text. It stays until the next call.
+    pub fn print(&mut self, manifest: &[u8]) -> Result<&[u8], Refusal> {
+        let written = print_into(manifest, &mut self.out, &mut self.work);
+        self.written(written)
+    }
+
+    fn written(&self, written: Written) -> Result<&[u8], Refusal> {
+        match written {
+            Written::Bytes { length } => Ok(&self.out[..length as usize]),
+            Written::Refused(refusal) => Err(refusal),
         }
     }
 }
@@ -94,6 +129,38 @@ pub fn compile_into(manifest: &[u8], device: &[u8], limit: u16, out: &mut [u8], 
     Answer::from_number(answer)
 }
 
+/// Converts a text to its manifest, into lent memory. Afterwards `out` holds the manifest and then zeros, or zeros alone
+/// after a refusal, and `work` is zero throughout.
+pub fn convert_into(text: &[u8], out: &mut [u8], work: &mut [u8]) -> Written {
+    // SAFETY: as for a compile.
+    Written::from_number(unsafe {
+        rigbanut_convert(
+            text.as_ptr(),
+            text.len(),
+            out.as_mut_ptr(),
+            out.len(),
+            work.as_mut_ptr(),
+            work.len(),
+        )
+    })
+}
+
+/// Prints a manifest as text, into lent memory. Afterwards `out` holds the text and then zeros, or zeros alone after a
+/// refusal, and `work` is zero throughout.
+pub fn print_into(manifest: &[u8], out: &mut [u8], work: &mut [u8]) -> Written {
+    // SAFETY: as for a compile.
+    Written::from_number(unsafe {
+        rigbanut_print(
+            manifest.as_ptr(),
+            manifest.len(),
+            out.as_mut_ptr(),
+            out.len(),
+            work.as_mut_ptr(),
+            work.len(),
+        )
+    })
+}
+
 extern "C" {
     fn rigbanut_compile(
         manifest: *const u8,
@@ -106,16 +173,29 @@ extern "C" {
         work: *mut u8,
         work_length: usize,
     ) -> u64;
+    fn rigbanut_convert(
+        text: *const u8,
+        text_length: usize,
+        out: *mut u8,
+        out_length: usize,
+        work: *mut u8,
+        work_length: usize,
+    ) -> u64;
+    fn rigbanut_print(
+        manifest: *const u8,
+        manifest_length: usize,
+        out: *mut u8,
+        out_length: usize,
+        work: *mut u8,
+        work_length: usize,
+    ) -> u64;
 }
 
 impl Answer {
     /// Accepted: steps * 65536 + length. Refused: number * 2^32 + place.
     fn from_number(answer: u64) -> Answer {
-        if answer >> 32 != 0 {
-            return Answer::Refused(Refusal {
-                number: (answer >> 32) as u8,
-                place: answer as u16,
-            });
+        if let Some(refusal) = Refusal::from_number(answer) {
+            return Answer::Refused(refusal);
         }
         Answer::Catalog {
             length: answer as u16,
@@ -124,7 +204,26 @@ impl Answer {
     }
 }
 
+impl Written {
+    /// Accepted: the length. Refused: number * 2^32 + place.
+    fn from_number(answer: u64) -> Written {
+        if let Some(refusal) = Refusal::from_number(answer) {
+            return Written::Refused(refusal);
+        }
+        Written::Bytes {
+            length: answer as u32,
+        }
+    }
+}
+
 impl Refusal {
+    fn from_number(answer: u64) -> Option<Refusal> {
+        (answer >> 32 != 0).then(|| Refusal {
+            number: (answer >> 32) as u8,
+            place: answer as u16,
+        })
+    }
+
     /// The reason in words. 24 to 26 are those of the text notation, which a compile never gives.
     pub fn reason(&self) -> &'static str {
         match self.number {

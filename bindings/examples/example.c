@@ -1,7 +1,9 @@
-/* Compiles the scope paper's schedule manifest for the device "desk", with steps enough and with one too few. */
+/* Compiles the scope paper's schedule manifest for the device "desk", with steps enough and with one too few. Then
+ * converts a text, compiles its manifest, prints that as text again, and converts a text that is outside the notation. */
 #include "../rigbanut.h"
 
 #include <stdio.h>
+#include <string.h>
 
 static const uint8_t manifest[] = {
     /* the string table */
@@ -34,13 +36,18 @@ static const uint8_t device[] = {'d', 'e', 's', 'k'};
 static uint8_t out[RIGBANUT_LONGEST_CATALOG];
 static uint8_t work[RIGBANUT_MEMORY];
 
-static void compile(uint16_t limit)
+static void say_refusal(uint64_t answer)
+{
+    unsigned number = rigbanut_number(answer);
+    printf("refused %u at %u: %s\n", number, (unsigned)rigbanut_place(answer), rigbanut_reason(number));
+}
+
+static void compile(const uint8_t *bytes, size_t length, uint16_t limit)
 {
     uint64_t answer =
-        rigbanut_compile(manifest, sizeof manifest, device, sizeof device, limit, out, sizeof out, work, sizeof work);
+        rigbanut_compile(bytes, length, device, sizeof device, limit, out, sizeof out, work, sizeof work);
     if (!rigbanut_is_accepted(answer)) {
-        unsigned number = rigbanut_number(answer);
-        printf("refused %u at %u: %s\n", number, (unsigned)rigbanut_place(answer), rigbanut_reason(number));
+        say_refusal(answer);
         return;
     }
     printf("accepted: %u bytes in %u steps\n", (unsigned)rigbanut_length(answer), (unsigned)rigbanut_steps(answer));
@@ -49,9 +56,46 @@ static void compile(uint16_t limit)
     printf("\n");
 }
 
+static const char text[] =
+    "$fee = 40\n"
+    "$peak = false\n"
+    "node desk { if $peak { $fee = 55 }\n"
+    "  kiosk { \"front\":\n"
+    "    price => $fee, screens => 2 } }\n";
+
+/* The manifest of a text; its length, or 0 after a refusal. */
+static size_t convert(const char *given, uint8_t *converted)
+{
+    uint64_t answer =
+        rigbanut_convert((const uint8_t *)given, strlen(given), out, sizeof out, work, sizeof work);
+    if (!rigbanut_is_accepted(answer)) {
+        say_refusal(answer);
+        return 0;
+    }
+    size_t length = rigbanut_written(answer);
+    memcpy(converted, out, length);
+    printf("converted: %zu bytes\n", length);
+    return length;
+}
+
+static void print(const uint8_t *bytes, size_t length)
+{
+    uint64_t answer = rigbanut_print(bytes, length, out, sizeof out, work, sizeof work);
+    if (!rigbanut_is_accepted(answer)) {
+        say_refusal(answer);
+        return;
+    }
+    fwrite(out, 1, rigbanut_written(answer), stdout);
+}
+
 int main(void)
 {
-    compile(4);
-    compile(3);
+    static uint8_t converted[RIGBANUT_LONGEST_MANIFEST];
+    compile(manifest, sizeof manifest, 4);
+    compile(manifest, sizeof manifest, 3);
+    size_t length = convert(text, converted);
+    compile(converted, length, 4);
+    print(converted, length);
+    convert("$fee == 40\n", converted);
     return 0;
 }

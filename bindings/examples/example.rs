@@ -1,9 +1,10 @@
-//! Compiles the scope paper's schedule manifest for the device "desk", with steps enough and with one too few.
+//! Compiles the scope paper's schedule manifest for the device "desk", with steps enough and with one too few. Then
+//! converts a text, compiles its manifest, prints that as text again, and converts a text that is outside the notation.
 
 #[path = "../rigbanut.rs"]
 mod rigbanut;
 
-use rigbanut::{Compiler, Outcome};
+use rigbanut::{Compiler, Outcome, Refusal};
 
 /// A field: its tag, the length of its body, the body.
 fn field(tag: u8, parts: &[&[u8]]) -> Vec<u8> {
@@ -42,17 +43,40 @@ fn manifest() -> Vec<u8> {
     [table, fee, peak, node].concat()
 }
 
+const TEXT: &str = r#"$fee = 40
+$peak = false
+node desk { if $peak { $fee = 55 }
+  kiosk { "front":
+    price => $fee, screens => 2 } }
+"#;
+
+fn compile(compiler: &mut Compiler, manifest: &[u8], limit: u16) {
+    match compiler.compile(manifest, b"desk", limit) {
+        Outcome::Refused(refusal) => println!("{refusal}"),
+        Outcome::Accepted { catalog, steps } => {
+            println!("accepted: {} bytes in {steps} steps", catalog.len());
+            let hex: String = catalog.iter().map(|byte| format!("{byte:02x}")).collect();
+            println!("{hex}");
+        }
+    }
+}
+
+fn texts(compiler: &mut Compiler) -> Result<(), Refusal> {
+    let manifest = compiler.convert(TEXT.as_bytes())?.to_vec();
+    println!("converted: {} bytes", manifest.len());
+    compile(compiler, &manifest, 4);
+    print!("{}", String::from_utf8_lossy(compiler.print(&manifest)?));
+    compiler.convert(b"$fee == 40\n")?;
+    Ok(())
+}
+
 fn main() {
     let manifest = manifest();
     let mut compiler = Compiler::new();
     for limit in [4, 3] {
-        match compiler.compile(&manifest, b"desk", limit) {
-            Outcome::Refused(refusal) => println!("{refusal}"),
-            Outcome::Accepted { catalog, steps } => {
-                println!("accepted: {} bytes in {steps} steps", catalog.len());
-                let hex: String = catalog.iter().map(|byte| format!("{byte:02x}")).collect();
-                println!("{hex}");
-            }
-        }
+        compile(&mut compiler, &manifest, limit);
+    }
+    if let Err(refusal) = texts(&mut compiler) {
+        println!("{refusal}");
     }
 }
