@@ -1,9 +1,15 @@
-// Compiles the cases on standard input, a case to a line, and writes an answer line for each. The format is that of `reference batch` (README.md).
+// Compiles, converts or prints the cases on standard input, a case to a line, and writes an answer line for each. The formats are those of `reference batch` and
+// `reference text-batch` (README.md).
 ghost use Prim.Native.Nat.{_≤_};
 ghost use lib.ListN.{length};
 
 // Places in a text, and numbers and bytes as text.
 mod text;
+
+// The first word of a text case with the space behind it, as a number: the eight bytes "convert ", the six bytes "print ".
+const CONVERT: u64 = 0x636f6e7665727420;
+
+const PRINT: u64 = 0x7072696e7420;
 
 fn main() {
     let mut input = [0u8; 300000];
@@ -62,8 +68,22 @@ fn answer_lines(lines: &[u8]) -> usize
     at
 }
 
-// Device, limit, output length, memory length, manifest. What does not fit the room here is cut.
+// The first word tells the sort of a case; a device in hexadecimal digits is none of the two words.
 fn answer_line(line: &[u8]) {
+    let start = wire::number_at(line, 0);
+    if start == CONVERT {
+        answer_text(line, true);
+        return;
+    }
+    if start / 65536 == PRINT {
+        answer_text(line, false);
+        return;
+    }
+    answer_compile(line);
+}
+
+// Device, limit, output length, memory length, manifest. What does not fit the room here is cut.
+fn answer_compile(line: &[u8]) {
     let second = text::next_part(line, 0);
     let third = text::next_part(line, second);
     let fourth = text::next_part(line, third);
@@ -102,6 +122,51 @@ fn compile(manifest: &[u8], device: &[u8], limit: u16, out: &mut [u8], work: &mu
     write_answer(answer, out);
 }
 
+// The word, output length, memory length, and the text to convert or the manifest to print. What does not fit the room here is cut.
+fn answer_text(line: &[u8], converts: bool) {
+    let second = text::next_part(line, 0);
+    let third = text::next_part(line, second);
+    let fourth = text::next_part(line, third);
+    read_text(&line[fourth..], converts, &line[second..]);
+}
+
+// The text or the manifest from its digits.
+fn read_text(digits: &[u8], converts: bool, lengths: &[u8]) {
+    let mut given = [0u8; 70000];
+    let size = text::read_hex(digits, &mut given);
+    lend_to_text(&given[..size], converts, lengths);
+}
+
+// Output and memory of the two lengths at the start of `lengths`.
+fn lend_to_text(given: &[u8], converts: bool, lengths: &[u8]) {
+    let mut out = [0u8; 70000];
+    let mut work = [0u8; 70000];
+    let second = text::next_part(lengths, 0);
+    let output = text::read_length(lengths, &out);
+    let memory = text::read_length(&lengths[second..], &work);
+    convert_or_print(given, converts, &mut out[..output], &mut work[..memory]);
+}
+
+fn convert_or_print(given: &[u8], converts: bool, out: &mut [u8], work: &mut [u8]) {
+    if converts {
+        let answer = library::rigbanut_convert(given, out, work);
+        write_text_answer(answer, out);
+    } else {
+        let answer = library::rigbanut_print(given, out, work);
+        write_text_answer(answer, out);
+    }
+}
+
+// Accepted: the length. Refused: number * 2^32 + place.
+fn write_text_answer(answer: u64, out: &[u8]) {
+    if answer < 4294967296 {
+        io::write_all(1, b"ok");
+        write_bytes(answer as usize, out);
+    } else {
+        write_refusal(answer / 4294967296, answer % 4294967296);
+    }
+}
+
 // Accepted: steps * 65536 + length. Refused: number * 2^32 + place.
 fn write_answer(answer: u64, out: &[u8]) {
     if answer < 4294967296 {
@@ -114,17 +179,18 @@ fn write_answer(answer: u64, out: &[u8]) {
 fn write_catalog(steps: u64, length: usize, out: &[u8]) {
     io::write_all(1, b"ok ");
     io::print_decimal(1, steps);
-    if length == 0 {
-        io::write_all(1, b" -\n");
-    } else {
-        io::write_all(1, b" ");
-        write_bytes(length, out);
-    }
+    write_bytes(length, out);
 }
 
+// The last part of an answer, with the space before it.
 fn write_bytes(length: usize, out: &[u8]) {
+    if length == 0 {
+        io::write_all(1, b" -\n");
+        return;
+    }
     let mut digits = [0u8; 140000];
     let count = text::put_hex(&mut digits, out, length);
+    io::write_all(1, b" ");
     io::write_all(1, &digits[..count]);
     io::write_all(1, b"\n");
 }
