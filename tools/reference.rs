@@ -11,12 +11,18 @@ mod case;
 mod catalog;
 #[path = "../reference/src/compile.rs"]
 mod compile;
+#[path = "../reference/src/converter.rs"]
+mod converter;
 #[path = "../reference/src/generate.rs"]
 mod generate;
 #[path = "../reference/src/labels.rs"]
 mod labels;
+#[path = "../reference/src/lexer.rs"]
+mod lexer;
 #[path = "../reference/src/machine.rs"]
 mod machine;
+#[path = "../reference/src/printer.rs"]
+mod printer;
 #[path = "../reference/src/program.rs"]
 mod program;
 #[path = "../reference/src/random.rs"]
@@ -29,5 +35,23 @@ mod scopes;
 mod shapes;
 #[path = "../reference/src/special.rs"]
 mod special;
+#[path = "../reference/src/text_answer.rs"]
+mod text_answer;
+#[path = "../reference/src/text_case.rs"]
+mod text_case;
+#[path = "../reference/src/text_generate.rs"]
+mod text_generate;
+#[path = "../reference/src/text_limits.rs"]
+mod text_limits;
+#[path = "../reference/src/text_named.rs"]
+mod text_named;
+#[path = "../reference/src/text_random.rs"]
+mod text_random;
+#[path = "../reference/src/text_trees.rs"]
+mod text_trees;
+#[path = "../reference/src/text_trips.rs"]
+mod text_trips;
 #[path = "../reference/src/tree.rs"]
 mod tree;
+#[path = "../reference/src/walk.rs"]
+mod walk;

@@ -74,7 +74,7 @@ fn text_returns(text: Vec<u8>) -> Result<bool, String> {
 
 /// A field with its names replaced by their strings.
 #[derive(Debug, PartialEq, Eq)]
-struct Spelled {
+pub struct Spelled {
     depth: usize,
     tag: u8,
     /// What its body holds besides names: a label, a number, an operator.
@@ -84,7 +84,7 @@ struct Spelled {
 
 /// The fields behind the string table, in order and each with its depth, so
 /// that equal lists are equal trees.
-fn spelled(manifest: &[u8]) -> Vec<Spelled> {
+pub fn spelled(manifest: &[u8]) -> Vec<Spelled> {
     let strings = read(manifest).map(|tree| tree.strings).unwrap_or_default();
     let string = |name: u16| strings.get(usize::from(name)).map(|string| string.to_vec());
     let spell = |met: &crate::walk::Met| {
