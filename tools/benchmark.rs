@@ -1,12 +1,14 @@
 //! How long the static library takes, as ratios against the program made apart; `tools/benchmark` builds and runs it.
 //! All sides have one signature and clear the same output and memory. Each row is timed in rounds, a turn of each side
 //! in a round, by the processor time of the thread; the median of each side over the rounds is shown. Built with
-//! `--cfg former` there is a third side, an earlier library, whose function is named `rigbanut_compile_formerly`.
+//! `--cfg former` there is a third side, an earlier library, whose functions have names that end in `_formerly`; with
+//! `--cfg former_texts` it converts and prints too.
 
 #![allow(dead_code)] // The modules of the program made apart have more than is used here.
 #![allow(unexpected_cfgs)]
 
 include!("reference.rs");
+mod benchmark_texts;
 #[path = "../bindings/rigbanut.rs"]
 mod rigbanut;
 
@@ -16,11 +18,20 @@ use case::Case;
 use std::hint::black_box;
 use std::process::ExitCode;
 use std::time::Duration;
+use text_answer::Written;
+use text_case::{Call, TextCase};
 
-/// A row of the table: a name and what is compiled, one case after the other.
+/// What is done in one turn: a manifest compiled, or a text converted, or a manifest printed.
+#[derive(Clone)]
+enum Job {
+    Compile(Case),
+    Text(TextCase),
+}
+
+/// A row of the table: a name and what is done, one job after the other.
 struct Row {
     name: String,
-    cases: Vec<Case>,
+    jobs: Vec<Job>,
 }
 
 fn main() -> ExitCode {
@@ -66,6 +77,10 @@ fn rows() -> Vec<Row> {
     rows.extend(worst());
     rows.extend(slowest());
     rows.extend(growth());
+    rows.extend(benchmark_texts::rows().into_iter().map(|(name, cases)| Row {
+        name,
+        jobs: cases.into_iter().map(Job::Text).collect(),
+    }));
     rows
 }
 
@@ -76,10 +91,11 @@ fn mixed() -> Vec<Row> {
         .collect();
     let part = |name: &str, wanted: fn(&Answer) -> bool| Row {
         name: format!("mixed random: {name}"),
-        cases: all
+        jobs: all
             .iter()
             .filter(|case| wanted(&answer_of(case)))
             .cloned()
+            .map(Job::Compile)
             .collect(),
     };
     vec![
@@ -102,7 +118,7 @@ fn answer_of(case: &Case) -> Answer {
 fn one(name: &str, case: Case) -> Row {
     Row {
         name: name.to_string(),
-        cases: vec![case],
+        jobs: vec![Job::Compile(case)],
     }
 }
 
@@ -321,38 +337,74 @@ struct Room {
 const ROW: Duration = Duration::from_millis(1500);
 const MOST_ROUNDS: u128 = 201;
 
-/// What a side is called with: manifest, device, limit, output and memory.
+/// What a side compiles with: manifest, device, limit, output and memory.
 type Compile = fn(&[u8], &[u8], u16, &mut [u8], &mut [u8]) -> u64;
+/// What a side converts and prints with: text or manifest, output and memory.
+type Write = fn(&[u8], &mut [u8], &mut [u8]) -> u64;
 
+#[derive(Clone, Copy)]
+struct Side {
+    compile: Compile,
+    /// Converting and printing, if the side can.
+    texts: Option<(Write, Write)>,
+}
+
+const REFERENCE: Side = Side {
+    compile: reference,
+    texts: Some((reference_convert, reference_print)),
+};
+const LIBRARY: Side = Side {
+    compile: library,
+    texts: Some((library_convert, library_print)),
+};
 /// The library that the one measured is compared with besides, if there is one.
 #[cfg(not(former))]
-const FORMER: Option<Compile> = None;
+const FORMER: Option<Side> = None;
 #[cfg(former)]
-const FORMER: Option<Compile> = Some(former);
+const FORMER: Option<Side> = Some(former::SIDE);
+
+impl Side {
+    fn can(&self, row: &Row) -> bool {
+        self.texts.is_some() || row.jobs.iter().all(|job| matches!(job, Job::Compile(_)))
+    }
+
+    fn run(&self, job: &Job, out: &mut [u8], work: &mut [u8]) -> u64 {
+        match (job, self.texts) {
+            (Job::Compile(case), _) => (self.compile)(&case.manifest, &case.device, case.limit, out, work),
+            (Job::Text(case), Some((convert, print))) => match case.call {
+                Call::Convert => convert(&case.bytes, out, work),
+                Call::Print => print(&case.bytes, out, work),
+            },
+            (Job::Text(_), None) => panic!("an earlier library without texts is asked for one"),
+        }
+    }
+}
 
 impl Room {
     fn measure(&mut self, row: &Row) -> String {
-        let sides: Vec<Compile> = [reference, library].into_iter().chain(FORMER).collect();
-        let mut times: Vec<Vec<Duration>> = sides.iter().map(|side| vec![self.time(row, *side)]).collect();
+        let former = FORMER.filter(|side| side.can(row));
+        let sides: Vec<Side> = [REFERENCE, LIBRARY].into_iter().chain(former).collect();
+        let mut times: Vec<Vec<Duration>> = sides.iter().map(|side| vec![self.time(row, side)]).collect();
         let round: Duration = times.iter().map(|first| first[0]).sum();
         let rounds = (ROW.as_nanos() / round.as_nanos().max(1)).clamp(1, MOST_ROUNDS) | 1;
         for _ in 1..rounds {
             for (side, times) in sides.iter().zip(&mut times) {
-                times.push(self.time(row, *side));
+                times.push(self.time(row, side));
             }
         }
         let medians: Vec<Duration> = times.into_iter().map(median).collect();
-        let each = |time: Duration| time.as_nanos() as f64 / 1000.0 / row.cases.len().max(1) as f64;
+        let count = row.jobs.len().max(1);
+        let each = |time: Duration| time.as_nanos() as f64 / 1000.0 / count as f64;
         let ratio = |side: usize| medians[1].as_secs_f64() / medians[side].as_secs_f64();
-        let bytes: usize = row.cases.iter().map(|case| case.manifest.len()).sum();
-        let more = FORMER.map_or(String::new(), |_| {
+        let bytes: usize = row.jobs.iter().map(Job::bytes).sum();
+        let more = former.map_or(String::new(), |_| {
             format!(" {:>13.1} {:>9.2}", each(medians[2]), ratio(2))
         });
         format!(
             "{:<54} {:>6} {:>11} {:>13.1} {:>13.1} {:>7.2} {:>6}{more}",
             row.name,
-            bytes / row.cases.len().max(1),
-            answers(&row.cases),
+            bytes / count,
+            answers(&row.jobs),
             each(medians[0]),
             each(medians[1]),
             ratio(0),
@@ -360,17 +412,11 @@ impl Room {
         )
     }
 
-    fn time(&mut self, row: &Row, compile: Compile) -> Duration {
+    fn time(&mut self, row: &Row, side: &Side) -> Duration {
         let started = processor_time();
-        for case in &row.cases {
-            let out = &mut self.out[..case.output];
-            black_box(compile(
-                &case.manifest,
-                &case.device,
-                case.limit,
-                out,
-                &mut self.work,
-            ));
+        for job in &row.jobs {
+            let out = &mut self.out[..job.output()];
+            black_box(side.run(job, out, &mut self.work));
         }
         processor_time() - started
     }
@@ -413,49 +459,88 @@ fn library(manifest: &[u8], device: &[u8], limit: u16, out: &mut [u8], work: &mu
     }
 }
 
-#[cfg(former)]
-fn former(manifest: &[u8], device: &[u8], limit: u16, out: &mut [u8], work: &mut [u8]) -> u64 {
-    extern "C" {
-        fn rigbanut_compile_formerly(
-            manifest: *const u8,
-            manifest_length: usize,
-            device: *const u8,
-            device_length: usize,
-            limit: u16,
-            out: *mut u8,
-            out_length: usize,
-            work: *mut u8,
-            work_length: usize,
-        ) -> u64;
-    }
-    // SAFETY: as in bindings/rigbanut.rs.
-    unsafe {
-        rigbanut_compile_formerly(
-            manifest.as_ptr(),
-            manifest.len(),
-            device.as_ptr(),
-            device.len(),
-            limit,
-            out.as_mut_ptr(),
-            out.len(),
-            work.as_mut_ptr(),
-            work.len(),
-        )
+/// Written where the library writes, and the rest cleared.
+fn put(written: Written, out: &mut [u8], work: &mut [u8]) -> u64 {
+    work.fill(0);
+    match written {
+        Ok(bytes) => {
+            let (start, rest) = out.split_at_mut(bytes.len());
+            start.copy_from_slice(&bytes);
+            rest.fill(0);
+            bytes.len() as u64
+        }
+        Err(refused) => {
+            out.fill(0);
+            u64::from(refused.number) << 32 | u64::from(refused.place)
+        }
     }
 }
+
+fn reference_convert(text: &[u8], out: &mut [u8], work: &mut [u8]) -> u64 {
+    put(converter::convert(text, out.len(), work.len()), out, work)
+}
+
+fn reference_print(manifest: &[u8], out: &mut [u8], work: &mut [u8]) -> u64 {
+    put(printer::print(manifest, out.len(), work.len()), out, work)
+}
+
+fn library_convert(text: &[u8], out: &mut [u8], work: &mut [u8]) -> u64 {
+    in_one_word(rigbanut::convert_into(text, out, work))
+}
+
+fn library_print(manifest: &[u8], out: &mut [u8], work: &mut [u8]) -> u64 {
+    in_one_word(rigbanut::print_into(manifest, out, work))
+}
+
+fn in_one_word(written: rigbanut::Written) -> u64 {
+    match written {
+        rigbanut::Written::Bytes { length } => u64::from(length),
+        rigbanut::Written::Refused(refusal) => u64::from(refusal.number) << 32 | u64::from(refusal.place),
+    }
+}
+
+#[cfg(former)]
+#[path = "former.rs"]
+mod former;
 
 fn median(mut times: Vec<Duration>) -> Duration {
     times.sort();
     times[times.len() / 2]
 }
 
+impl Job {
+    fn bytes(&self) -> usize {
+        match self {
+            Job::Compile(case) => case.manifest.len(),
+            Job::Text(case) => case.bytes.len(),
+        }
+    }
+
+    fn output(&self) -> usize {
+        match self {
+            Job::Compile(case) => case.output,
+            Job::Text(case) => case.output,
+        }
+    }
+
+    /// The number of its refusal.
+    fn refused(&self) -> Option<u8> {
+        match self {
+            Job::Compile(case) => match answer_of(case) {
+                Answer::Catalog { .. } => None,
+                Answer::Refused { number, .. } => Some(number),
+            },
+            Job::Text(case) => case.answer().err().map(|refused| refused.number),
+        }
+    }
+}
+
 /// `ok`, a refusal's number, or how many cases there are.
-fn answers(cases: &[Case]) -> String {
-    match cases {
-        [case] => match answer_of(case) {
-            Answer::Catalog { .. } => "ok".to_string(),
-            Answer::Refused { number, .. } => format!("refused {number}"),
-        },
-        _ => format!("{} cases", cases.len()),
+fn answers(jobs: &[Job]) -> String {
+    match jobs {
+        [job] => job
+            .refused()
+            .map_or("ok".to_string(), |number| format!("refused {number}")),
+        _ => format!("{} cases", jobs.len()),
     }
 }

@@ -1,0 +1,88 @@
+//! An earlier static library, its functions renamed; `tools/benchmark --former` does that.
+
+use crate::Side;
+
+pub const SIDE: Side = Side {
+    compile,
+    #[cfg(not(former_texts))]
+    texts: None,
+    #[cfg(former_texts)]
+    texts: Some((texts::convert, texts::print)),
+};
+
+extern "C" {
+    fn rigbanut_compile_formerly(
+        manifest: *const u8,
+        manifest_length: usize,
+        device: *const u8,
+        device_length: usize,
+        limit: u16,
+        out: *mut u8,
+        out_length: usize,
+        work: *mut u8,
+        work_length: usize,
+    ) -> u64;
+}
+
+fn compile(manifest: &[u8], device: &[u8], limit: u16, out: &mut [u8], work: &mut [u8]) -> u64 {
+    // SAFETY: as in bindings/rigbanut.rs.
+    unsafe {
+        rigbanut_compile_formerly(
+            manifest.as_ptr(),
+            manifest.len(),
+            device.as_ptr(),
+            device.len(),
+            limit,
+            out.as_mut_ptr(),
+            out.len(),
+            work.as_mut_ptr(),
+            work.len(),
+        )
+    }
+}
+
+#[cfg(former_texts)]
+mod texts {
+    type Call = unsafe extern "C" fn(*const u8, usize, *mut u8, usize, *mut u8, usize) -> u64;
+
+    extern "C" {
+        fn rigbanut_convert_formerly(
+            text: *const u8,
+            length: usize,
+            out: *mut u8,
+            out_length: usize,
+            work: *mut u8,
+            work_length: usize,
+        ) -> u64;
+        fn rigbanut_print_formerly(
+            manifest: *const u8,
+            length: usize,
+            out: *mut u8,
+            out_length: usize,
+            work: *mut u8,
+            work_length: usize,
+        ) -> u64;
+    }
+
+    fn call(function: Call, given: &[u8], out: &mut [u8], work: &mut [u8]) -> u64 {
+        // SAFETY: as in bindings/rigbanut.rs.
+        unsafe {
+            function(
+                given.as_ptr(),
+                given.len(),
+                out.as_mut_ptr(),
+                out.len(),
+                work.as_mut_ptr(),
+                work.len(),
+            )
+        }
+    }
+
+    pub fn convert(text: &[u8], out: &mut [u8], work: &mut [u8]) -> u64 {
+        call(rigbanut_convert_formerly, text, out, work)
+    }
+
+    pub fn print(manifest: &[u8], out: &mut [u8], work: &mut [u8]) -> u64 {
+        call(rigbanut_print_formerly, manifest, out, work)
+    }
+}
