@@ -20,6 +20,7 @@ pub struct Group {
 /// Every group, those of the printer last.
 pub fn groups() -> Vec<Group> {
     let mut groups = malformed();
+    groups.extend(overlong());
     groups.extend(misplaced());
     groups.extend(limits());
     groups.extend(lengths());
@@ -32,6 +33,11 @@ pub fn groups() -> Vec<Group> {
 /// The texts of a list that has bars between them: no text of the notation has a bar outside of a string.
 fn texts(list: &str) -> Vec<String> {
     list.split(" | ").map(String::from).collect()
+}
+
+/// Texts that are refused 24, for the reason that `reference/` names so.
+fn plain<T: Into<Vec<u8>>>(why: &'static str, texts: Vec<T>) -> Group {
+    outside(why, why, texts)
 }
 
 /// Texts that are refused 24.
@@ -56,10 +62,8 @@ pub const KEYWORDS: [&str; 13] = [
 
 /// "the first token that is malformed", of each kind.
 fn malformed() -> Vec<Group> {
-    let x = |count: usize| "x".repeat(count);
     vec![
-        outside(
-            "a byte that begins no token",
+        plain(
             "a byte that begins no token",
             vec![
                 &b"A"[..],
@@ -89,22 +93,15 @@ fn malformed() -> Vec<Group> {
                 b"$x = 1 # a\n\n  A",
             ],
         ),
-        outside(
+        plain(
             "a string never closed",
-            "a string never closed",
-            vec![
-                "'",
-                "\"",
-                "$x = 'a",
-                "$x = \"a'",
-                "$x = 'a\\'",
-                "$x = 'a\\",
-                "node 'a', 'b { }",
-                "$x = 'a\n# ' \n'\n",
-            ],
+            texts(
+                "\
+                 ' | \" | $x = 'a | $x = \"a' | $x = 'a\\' | $x = 'a\\ | node 'a', 'b { } | \
+                 $x = 'a\n# ' \n'\n",
+            ),
         ),
-        outside(
-            "a wrong escape",
+        plain(
             "a wrong escape",
             vec![
                 "$x = '\\t'",
@@ -116,30 +113,15 @@ fn malformed() -> Vec<Group> {
                 "$x = \"\\u{e9}\"",
             ],
         ),
-        outside(
+        plain(
             "a variable without a name",
-            "a variable without a name",
-            vec![
-                "$",
-                "$ x = 1",
-                "$1",
-                "$A",
-                "$_x",
-                "$:",
-                "$:x",
-                "$::",
-                "$::1",
-                "$::A",
-                "$x = $::a::",
-                "$x = $::a::1",
-                "$x = $::a:: x",
-                "$x = $::a::_x",
-                "$x = 1 + $",
-                "$$x",
-            ],
+            texts(
+                "\
+                 $ | $ x = 1 | $1 | $A | $_x | $: | $:x | $:: | $::1 | $::A | $x = $::a:: | $x = $::a::1 | \
+                 $x = $::a:: x | $x = $::a::_x | $x = 1 + $ | $$x",
+            ),
         ),
-        outside(
-            "a variable with a keyword",
+        plain(
             "a variable with a keyword",
             KEYWORDS
                 .iter()
@@ -147,8 +129,7 @@ fn malformed() -> Vec<Group> {
                 .chain(["$x = $::if::a", "$x = $::a::if", "$x = $::a::default"].map(String::from))
                 .collect(),
         ),
-        outside(
-            "a letter behind digits",
+        plain(
             "a letter behind digits",
             vec![
                 "$x = 12a",
@@ -161,33 +142,30 @@ fn malformed() -> Vec<Group> {
                 "1a",
             ],
         ),
-        outside(
+        plain(
             "a zero before other digits",
-            "a zero before other digits",
-            vec![
-                "$x = 007",
-                "$x = 00",
-                "$x = -01",
-                "01",
-                "$x = 1 - 07",
-                "$x = 099999999999999999999",
-            ],
+            texts(
+                "\
+                 $x = 007 | $x = 00 | $x = -01 | 01 | $x = 1 - 07 | $x = 099999999999999999999",
+            ),
         ),
-        outside(
+        plain(
             "a number outside 64 bits",
-            "a number outside 64 bits",
-            vec![
-                "$x = 9223372036854775808",
-                "$x = -9223372036854775809",
-                "$x = 1 -9223372036854775808",
-                "$x = 18446744073709551616",
-                "$x = 18446744073709551617",
-                "case 1 { 99999999999999999999: { } }",
-                "define u ($x = -10000000000000000000) { }",
-            ],
+            texts(
+                "\
+                 $x = 9223372036854775808 | $x = -9223372036854775809 | $x = 1 -9223372036854775808 | \
+                 $x = 18446744073709551616 | $x = 18446744073709551617 | \
+                 case 1 { 99999999999999999999: { } } | define u ($x = -10000000000000000000) { }",
+            ),
         ),
-        outside(
-            "a word over 255 bytes",
+    ]
+}
+
+/// Tokens that are too long.
+fn overlong() -> Vec<Group> {
+    let x = |count: usize| "x".repeat(count);
+    vec![
+        plain(
             "a word over 255 bytes",
             vec![
                 format!("$a = {}", x(256)),
@@ -197,8 +175,7 @@ fn malformed() -> Vec<Group> {
                 format!("node {} {{ }}", x(256)),
             ],
         ),
-        outside(
-            "a variable over 255 bytes",
+        plain(
             "a variable over 255 bytes",
             vec![
                 format!("${}", x(256)),
@@ -208,8 +185,7 @@ fn malformed() -> Vec<Group> {
                 format!("$a = $::{}::{}", x(255), x(257)),
             ],
         ),
-        outside(
-            "a string over 255 bytes",
+        plain(
             "a string over 255 bytes",
             vec![
                 format!("$a = '{}'", x(256)),
@@ -288,9 +264,7 @@ fn misplaced() -> Vec<Group> {
                  $x = true false",
             ),
         ),
-        outside(
-            "the text ends too early",
-            "the text ends too early",
+        plain("the text ends too early",
             texts(
                 "\
                  $x | $x = | $x = 1 + | $x = 1 and | $x = ! | $x = ( | $x = (1 | $x = a[ | $x = a[1 | \
@@ -322,8 +296,7 @@ fn strings(count: usize) -> String {
 /// Limits of nesting and of strings.
 fn limits() -> Vec<Group> {
     vec![
-        outside(
-            "a field deeper than 32",
+        plain(
             "a field deeper than 32",
             vec![
                 around("if 1 {", 16, "include a", "}"),
@@ -342,8 +315,7 @@ fn limits() -> Vec<Group> {
                 format!("node default {{ {} }}", around("if 1 {", 15, "include a", "}")),
             ],
         ),
-        outside(
-            "an operator that pushes its left below 32",
+        plain(
             "an operator that pushes its left below 32",
             vec![
                 format!("$x = 1{}", " + 1".repeat(31)),
@@ -355,8 +327,7 @@ fn limits() -> Vec<Group> {
                 around("if 1 {", 14, "kiosk { 1: a => 1 + 2 - 3 }", "}"),
             ],
         ),
-        outside(
-            "the 33rd open bracket",
+        plain(
             "the 33rd open bracket",
             vec![
                 format!("$x = {}", around("(", 33, "1", ")")),
@@ -366,8 +337,7 @@ fn limits() -> Vec<Group> {
                 format!("$x = {}", around("(", 20, "a[((((((((((((( $y", ")")),
             ],
         ),
-        outside(
-            "the 1,025th string",
+        plain(
             "the 1,025th string",
             vec![
                 format!("{} $u = 1", strings(1024)),
@@ -414,13 +384,8 @@ fn with_memory(text: &str, memory: usize) -> TextCase {
 /// Lengths: of the text, of the manifest, of output and memory.
 fn lengths() -> Vec<Group> {
     vec![
-        outside(
-            "a text over 65,535 bytes",
-            "a text over 65,535 bytes",
-            vec![" ".repeat(65_536)],
-        ),
-        outside(
-            "a manifest over 65,535 bytes",
+        plain("a text over 65,535 bytes", vec![" ".repeat(65_536)]),
+        plain(
             "a manifest over 65,535 bytes",
             vec![manifest_of(65_536), manifest_of(70_000)],
         ),
