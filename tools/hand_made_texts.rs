@@ -385,6 +385,11 @@ fn with_memory(text: &str, memory: usize) -> TextCase {
 fn lengths() -> Vec<Group> {
     vec![
         plain("a text over 65,535 bytes", vec![" ".repeat(65_536)]),
+        outside(
+            "a text of 65,535 bytes is read to its end, which has the largest place",
+            "the text ends too early",
+            vec![format!("$x ={}", " ".repeat(65_531))],
+        ),
         plain(
             "a manifest over 65,535 bytes",
             vec![manifest_of(65_536), manifest_of(70_000)],
