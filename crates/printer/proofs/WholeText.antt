@@ -1,17 +1,16 @@
--- One law for each way through `write_whole`, `refuse`, `print_fitting`, `print_sound` and `print`. Assumes nothing.
-use Prim.Native.Nat.{ℕ, _+_, _-_, _≤_, _<_}
+-- One law for each way through `write_whole`, `print_fitting`, `print_sound` and `print`. Assumes nothing.
+use Prim.Native.Nat.{ℕ, _+_, _≤_, _<_}
 use mathlib.Core.Path.{_≡_, refl, sym, ap, _∙_, subst}
 use mathlib.Core.Bool.{Bool, true, false}
-use mathlib.Core.List.{List, [], _++_}
+use mathlib.Core.List.{List, []}
 use mathlib.Core.Option.{Option, none, some}
 use native.Mathlib.Omega.{arith}
 use borrow.Author.Tests.{lt-ltb, le-ltb}
 use lib.Dec.{ltb}
-use lib.ListN.{length, replicate, length-append}
+use lib.ListN.{length, take}
 use Rattle.values.specs.declared.Reason.{Reason}
 use Rattle.values.specs.declared.Reason.the-variants.{MemoryTooShort, Unprintable}
-use Rattle.wire.specs.Runs.{over, zeros}
-use Rattle.wire.proofs.Laws.{over-whole, then-store, zeros-length}
+use Rattle.wire.proofs.Laws.{over-front}
 use Rattle.rules.specs.Bytes.{endOf, fieldsIn}
 use Rattle.rules.specs.Check.{stringPlaces, check}
 use Rattle.rules.specs.Compile.{stringAt, checked}
@@ -31,17 +30,18 @@ use Rattle.syntax.proofs.Whole.{before-both}
 use Rattle.notation.specs.Tokens.{Lexeme}
 use Rattle.notation.specs.Print.{printedItems}
 use Rattle.notation.specs.Layout.{laidOut}
-use Rattle.notation.specs.Convert.{refuseAt, tooLong, answerOf, outputOf, effectOf}
+use Rattle.notation.specs.Convert.{refuseAt, tooLong}
 use Rattle.notation.specs.Printer.{unprintableAt, tokensOf, textOf, printedText, print}
 use Rattle.notation.specs.declared.Answer.{Answer}
-use Rattle.notation.specs.declared.Answer.the-variants.{Written, Refused}
 use Rattle.token_writer.specs.declared.Pen.{Pen}
 use Rattle.token_writer.specs.Writing.{Wrote}
 use Rattle.token_writer.specs.Pens.{textFrom}
 use Rattle.token_writer.proofs.Chains.{at-start, at-end}
 use Rattle.statement_printer.specs.Passing.{isFull, Going, writing, full, Passes}
-use Rattle.printer.specs.Whole.{fittingText, printableText, Counted, Leaves, Prints}
 use Rattle.statement_printer.proofs.OneToken.{too-long}
+use Rattle.text_answers.specs.Leaving.{Leaves}
+use Rattle.text_answers.proofs.Ending.{leaves-as}
+use Rattle.printer.specs.Whole.{fittingText, printableText, Counted, Prints}
 
 -- ---- write_whole
 
@@ -71,21 +71,6 @@ module _ {whole out out′ : List ℕ} {pen : Pen} {b : Bool} (so : Going out ou
       go (full f l) = absurd (false-not-true (sym h ∙ told ∙ f))
       go (writing l i) = all (at-end i last)
 
--- ---- refuse
-
-all-zero : (m : List ℕ) {m′ : List ℕ} → m′ ≡ over m 0 (zeros (length m - 0)) → m′ ≡ replicate (length m) 0
-unfolding zeros
-all-zero m e = let all : length m - 0 ≡ length m = omega arith in e ∙ over-whole m (zeros (length m - 0)) (zeros-length (length m - 0) ∙ all) ∙ ap (λ (n : ℕ). replicate n 0) all
-
-pub refuses : {out out′ work work′ : List ℕ} (r : Reason) (p : ℕ) → out′ ≡ over out 0 (zeros (length out - 0)) → work′ ≡ over work 0 (zeros (length work - 0)) → Leaves (refused r p) out out′ work work′ (Refused r p)
-unfolding effectOf answerOf outputOf
-refuses {out} {out′} {work} {work′} r p eo ew = record { effect = λ i. record { answer = Refused r p; outputAfter = all-zero out eo i; memoryAfter = all-zero work ew i } }
-
--- ---- Outcomes by other names, and bytes lent that keep their length
-
-pub leaves-as : {o o′ : Outcome (List ℕ)} {out out₁ out₂ work work₁ work₂ : List ℕ} {a : Answer} → o′ ≡ o → length out₁ ≡ length out → length work₁ ≡ length work → Leaves o out₁ out₂ work₁ work₂ a → Leaves o′ out out₂ work work₂ a
-leaves-as {o} same lo lw x = record { effect = x .effect ∙ λ i. effectOf (lo i) (lw i) (sym same i) }
-
 -- ---- print_fitting
 
 module _ (m : List ℕ) (room : ℕ) where
@@ -103,23 +88,14 @@ module _ (m : List ℕ) (room : ℕ) where
       let size : n ≡ 0 + length (textOf (manifestOf m)) = c .wrote l .filled in
       by-length true (rw (le-ltb 65535 (length (textOf (manifestOf m))) (omega arith), lt-ltb room (length (textOf (manifestOf m))) (omega arith)) refl)
 
-  fits : length (textOf (manifestOf m)) ≤ 65535 → length (textOf (manifestOf m)) ≤ room → fittingText m room ≡ done (textOf (manifestOf m))
+  -- what is written of it is the whole text
+  pub fits : {out out′ : List ℕ} {n : ℕ} → Counted (textOf (manifestOf m)) out out′ n → n ≤ 65535 → room ≡ length out → n ≤ room → fittingText m room ≡ done (take n out′)
   unfolding tooLong refuseIf _>>=_
-  fits l h = by-length false (rw (le-ltb 65535 (length (textOf (manifestOf m))) l, le-ltb room (length (textOf (manifestOf m))) h) refl)
-
--- the text, and zeros behind it
-pub writes-all : (m : List ℕ) {out out₁ out₂ work work₂ : List ℕ} {n : ℕ} → Counted (textOf (manifestOf m)) out out₁ n → n ≤ 65535 → n ≤ length out → out₂ ≡ over out₁ n (zeros (length out - n)) → work₂ ≡ over work 0 (zeros (length work - 0)) → Leaves (fittingText m (length out)) out out₂ work work₂ (Written n)
-unfolding effectOf answerOf outputOf zeros
-writes-all m {out} {out₁} {out₂} {work} {work₂} {n} c l h eo ew =
-    let whole : List ℕ = textOf (manifestOf m) in
-    let size : n ≡ 0 + length whole = c .wrote l .filled in
-    let length-is : n ≡ length whole = omega arith in
-    let behind : List ℕ = zeros (length out - n) in
-    let joined : length (whole ++ behind) ≡ length out = omega (arith, length-append whole behind, zeros-length (length out - n)) in
-    let bytes = then-store out 0 whole n behind (c .wrote l .stored) eo size ∙ over-whole out (whole ++ behind) joined ∙ ap (λ (k : ℕ). whole ++ replicate (length out - k) 0) length-is in
-    let outcome = fits m (length out) (omega arith) (omega arith) in
-    let left : Leaves (done whole) out out₂ work work₂ (Written n) = record { effect = λ i. record { answer = Written (length-is i); outputAfter = bytes i; memoryAfter = all-zero work ew i } } in
-    leaves-as outcome refl refl left
+  fits {out} {out′} {n} c l here h =
+      let whole : List ℕ = textOf (manifestOf m) in
+      let size : n ≡ 0 + length whole = c .wrote l .filled in
+      let written : take n out′ ≡ whole = ap (λ (k : ℕ). take k out′) size ∙ ap (take (0 + length whole)) (c .wrote l .stored) ∙ over-front out 0 whole (omega arith) in
+      by-length false (rw (le-ltb 65535 (length whole) (omega arith), le-ltb room (length whole) (omega arith)) refl) ∙ ap done (sym written)
 
 -- ---- print_sound
 

@@ -10,7 +10,7 @@ use Rattle.rules.specs.Read.{manifestOf}
 use Rattle.rules.specs.declared.Kind.the-variants.{Item}
 use Rattle.places.specs.At.{StandsAs}
 use Rattle.notation.specs.declared.Answer.{Answer}
-use Rattle.notation.specs.Convert.{refuseAt, tooLong, effectOf}
+use Rattle.notation.specs.Convert.{refuseAt, tooLong}
 use Rattle.notation.specs.Printer.{unprintableAt, textOf, print}
 use Rattle.token_writer.specs.Writing.{Wrote}
 use Rattle.statement_printer.specs.Passing.{Source}
@@ -39,10 +39,6 @@ printableText m outputLength = do
   fittingText m outputLength
 
 -- ---- What a call leaves
-
--- the answer and all bytes lent are those of the outcome o
-pub record Leaves (o : Outcome (List ℕ)) (outputBefore outputAfter memoryBefore memoryAfter : List ℕ) (answer : Answer) : Type 0 where
-  pub effect : record { answer = answer; outputAfter = outputAfter; memoryAfter = memoryAfter } ≡ effectOf (length outputBefore) (length memoryBefore) o
 
 -- what `print` promises: the answer and all bytes lent are those of the definition, for this manifest
 pub record Prints (manifest outputBefore outputAfter memoryBefore memoryAfter : List ℕ) (answer : Answer) : Type 0 where

@@ -3,12 +3,12 @@ ghost use mathlib.Core.Path.{_≡_};
 ghost use Prim.Native.Nat.{_≤_};
 ghost use lib.ListN.{length};
 ghost use Rattle.rules.specs.Check.{check};
-ghost use Rattle.rules.specs.Outcome.{refused};
 ghost use Rattle.rules.specs.Read.{manifestOf};
 ghost use Rattle.rules.specs.declared.Verdict.the-variants.{Sound};
 ghost use Rattle.notation.specs.Printer.{textOf};
 ghost use Rattle.statement_printer.specs.Passing.{Source};
-ghost use Rattle.printer.specs.Whole.{fittingText, printableText, Counted, Leaves, Prints};
+ghost use Rattle.text_answers.specs.Leaving.{Leaves};
+ghost use Rattle.printer.specs.Whole.{fittingText, printableText, Counted, Prints};
 use crate::items::items;
 use notation::Answer;
 use printable::first_unprintable;
@@ -17,6 +17,8 @@ use statement_printer::tokens::is_full;
 use syntax::Found;
 use syntax::check_all;
 use syntax::strings::index_strings;
+use text_answers::accept;
+use text_answers::refuse;
 use token_writer::Pen;
 use token_writer::put_end;
 use values::Reason;
@@ -36,36 +38,19 @@ fn write_whole(m: &[u8], table: &[u8], strings: u16, out: &mut [u8]) -> usize
     put_end(out, last)
 }
 
-// A refusal: all bytes lent become zero.
-fn refuse(reason: Reason, place: u16, out: &mut [u8], work: &mut [u8]) -> Answer
-    ensures { λ r. ⌜ Leaves (refused reason place) (now (out .entry)) (now (out .exit)) (now (work .entry)) (now (work .exit)) r ⌝ }
-{
-    let end = out.len();
-    wire::clear(out, 0, end);
-    let last = work.len();
-    wire::clear(work, 0, last);
-    Answer::Refused { reason, place }
-}
-
 // The text of a manifest that can be printed, unless it is too long (26).
 fn print_fitting(m: &[u8], table: &[u8], strings: u16, out: &mut [u8], work: &mut [u8]) -> Answer
     requires { ⌜ (Source (now m) (now table) strings) × (check (now m) ≡ Sound) ⌝ }
     ensures { λ r. ⌜ Leaves (fittingText (now (m .entry)) (length (now (out .entry)))) (now (out .entry)) (now (out .exit)) (now (work .entry)) (now (work .exit)) r ⌝ }
 {
-    let end = out.len();
     let size = write_whole(m, table, strings, out);
     if 65535 < size {
         return refuse(Reason::Unprintable, 0, out, work);
     }
-    if end < size {
+    if out.len() < size {
         return refuse(Reason::Unprintable, 0, out, work);
     }
-    wire::clear(out, size, end);
-    let last = work.len();
-    wire::clear(work, 0, last);
-    Answer::Written {
-        length: size as u16,
-    }
+    accept(size as u16, out, work)
 }
 
 // A sound manifest: 26 at its first field that cannot be printed.

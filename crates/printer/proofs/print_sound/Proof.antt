@@ -1,7 +1,8 @@
 -- `print_sound`: a field that cannot be printed, or the text.
 use mathlib.Core.Path.{refl}
 use lib.Dec.{lit≤}
-use Rattle.printer.proofs.WholeText.{leaves-as, index-holds, unprintable, all-printable}
+use Rattle.text_answers.proofs.Ending.{leaves-as}
+use Rattle.printer.proofs.WholeText.{index-holds, unprintable, all-printable}
 use borrow.Author.Needs.{needs}
 use Rattle.printer.proofs.print_sound.Statement.{statement}
 use Rattle.printer.proofs.print_sound.Tie as tie
