@@ -5,31 +5,30 @@ use mathlib.Core.List.{List, [], _++_}
 use mathlib.Core.Option.{Option, none, some}
 use native.Mathlib.Omega.{arith}
 use lib.Dec.{ltb}
-use lib.ListN.{length, length-append, take, drop, replicate}
+use lib.ListN.{length, length-append, take, drop}
 use lib.Seq.{take-at, drop-at, take-append-add}
 use borrow.Author.Tests.{lt-ltb, le-ltb, ltb-false}
-use Prim.Native.Nat.{ℕ, _+_, _-_, _<_, _≤_}
+use Prim.Native.Nat.{ℕ, _+_, _<_, _≤_}
 use Rattle.values.specs.declared.Reason.{Reason}
 use Rattle.values.specs.declared.Reason.the-variants.{MemoryTooShort, OutsideNotation, PastLine255}
 use Rattle.rules.specs.EditRule.{IsBytes}
 use Rattle.rules.specs.Fields.{none as noFields, write, writeAll}
 use Rattle.rules.specs.Outcome.{Outcome, refused, done, _>>=_, refuseIf}
 use Rattle.rules.proofs.Lists.{either-left, either-right}
-use Rattle.catalog.specs.Making.{clearedFrom}
-use Rattle.catalog.proofs.Growing.{cleared-after, cleared-all}
 use Rattle.notation.specs.declared.Answer.{Answer}
-use Rattle.notation.specs.declared.Answer.the-variants.{Written}
 use Rattle.notation.specs.Lexing.{tokens}
 use Rattle.notation.specs.Building.{Nodes, frame, build}
 use Rattle.notation.specs.Grammar.{Ended, built, fault, reading}
-use Rattle.notation.specs.Convert.{tableBehind, crowdedAt, numberedOnto, manifestFields, readText, lateAmong, refuseAt, tooLong, textItems, manifestBytes, converted, answerOf, outputOf, effectOf, convert}
+use Rattle.notation.specs.Convert.{tableBehind, crowdedAt, numberedOnto, manifestFields, readText, lateAmong, refuseAt, tooLong, textItems, manifestBytes, converted, convert}
 use Rattle.notation.proofs.Outcomes.{refused-not-done}
 use Rattle.notation.proofs.TableStrings.{later-bytes}
 use Rattle.notation.proofs.ConvertedSound.{converted-manifest}
 use Rattle.interner.specs.Table.{strings}
 use Rattle.interner.specs.TableField.{tableBytes, atStart, Measurable, Writable}
 use Rattle.interner.proofs.Keeping.{strings-counted}
-use Rattle.converter.specs.Converting.{Converts, Refuses, Passable, Measured, Fitting, Begins}
+use Rattle.text_answers.specs.Leaving.{Leaves}
+use Rattle.text_answers.proofs.Ending.{leaves-as}
+use Rattle.converter.specs.Converting.{Converts, Passable, Measured, Fitting, Begins}
 use Rattle.converter.proofs.SecondPass.{table-again, none-more}
 
 -- ---- The outcome, by what is found on the way
@@ -65,23 +64,16 @@ module _ (t : List ℕ) (output memory : ℕ) where
 
 -- ---- What a call leaves
 
-module _ (t out work : List ℕ) {out′ work′ : List ℕ} {a : Answer} where
-  all-three : (o : Outcome (List ℕ)) → converted t (length out) (length work) ≡ o → a ≡ answerOf o → out′ ≡ outputOf (length out) o → work′ ≡ replicate (length work) 0 → Converts t out out′ work work′ a
-  unfolding convert effectOf
-  all-three o e answer output memory =
-      let answer′ : a ≡ answerOf (converted t (length out) (length work)) = answer ∙ ap answerOf (sym e) in
-      let output′ : out′ ≡ outputOf (length out) (converted t (length out) (length work)) = output ∙ ap (outputOf (length out)) (sym e) in
-      record { effect = λ i. record { answer = answer′ i; outputAfter = output′ i; memoryAfter = memory i } }
-
-  -- a refusal, of bytes lent that are as long as they were
-  pub refuses : (out₁ work₁ : List ℕ) {r : Reason} {p : ℕ} → length out₁ ≡ length out → length work₁ ≡ length work → converted t (length out) (length work) ≡ refused r p → Refuses r p out₁ out′ work₁ work′ a → Converts t out out′ work work′ a
-  unfolding answerOf outputOf
-  refuses out₁ work₁ {r} {p} same-out same-work e x =
-      all-three (refused r p) e (x .told) (x .output ∙ ap (λ (n : ℕ). replicate n 0) same-out) (x .memory ∙ ap (λ (n : ℕ). replicate n 0) same-work)
-
 -- bytes lent count by how many they are
-pub converts-from : (t out₁ work₁ : List ℕ) {out out′ work work′ : List ℕ} {a : Answer} → length out₁ ≡ length out → length work₁ ≡ length work → Converts t out₁ out′ work₁ work′ a → Converts t out out′ work work′ a
-converts-from t out₁ work₁ {out} same-out same-work x = record { effect = x .effect ∙ ap (λ (n : ℕ). convert t n (length work₁)) same-out ∙ ap (convert t (length out)) same-work }
+module _ (t : List ℕ) {out out₁ out′ work work₁ work′ : List ℕ} {a : Answer} where
+  pub converts : {o : Outcome (List ℕ)} → converted t (length out) (length work) ≡ o → length out₁ ≡ length out → length work₁ ≡ length work → Leaves o out₁ out′ work₁ work′ a → Converts t out out′ work work′ a
+  unfolding convert
+  converts e same-out same-work x =
+      let left : Leaves (converted t (length out) (length work)) out out′ work work′ a = leaves-as e same-out same-work x in
+      record { effect = left .effect }
+
+  pub converts-from : length out₁ ≡ length out → length work₁ ≡ length work → Leaves (converted t (length out₁) (length work₁)) out₁ out′ work₁ work′ a → Converts t out out′ work work′ a
+  converts-from same-out same-work x = converts (λ i. converted t (sym same-out i) (sym same-work i)) same-out same-work x
 
 -- ---- A text that was read whole
 
@@ -116,17 +108,11 @@ module _ {t table : List ℕ} {count fill : ℕ} (x : Measured t table count fil
       unfolding tooLong
       within-both l h = rw (tooLong, le-ltb 65535 (length manifest) (omega (arith, manifest-size)), le-ltb output (length manifest) (omega (arith, manifest-size)))
 
-      -- the manifest is written, and the rest is cleared
-      pub accepts : (out out₂ work work₁ : List ℕ) {out′ work′ : List ℕ} → output ≡ length out → length out₂ ≡ length out → length work₁ ≡ length work → 65536 ≤ length work → before + fill ≤ 65535 → before + fill ≤ output → Begins t out₂ → out′ ≡ clearedFrom (before + fill) out₂ → work′ ≡ clearedFrom 0 work₁ → Converts t out out′ work work′ (Written (before + fill))
-      unfolding answerOf outputOf
-      accepts out out₂ work work₁ {out′} {work′} here same-out same-work enough short room begins rest zero =
-          let first : take (before + fill) out₂ ≡ manifest = ap (λ (n : ℕ). take n out₂) (sym manifest-size) ∙ begins .manifest (x .items) (x .read) in
-          let output-is : out′ ≡ manifest ++ replicate (length out - length manifest) 0 = rest ∙ cleared-after out₂ manifest (before + fill) (omega (arith, same-out, here)) first ∙ ap (λ (n : ℕ). manifest ++ replicate (n - length manifest) 0) same-out in
-          all-three t out work (done manifest)
-          (all-fits t (length out) (length work) enough (x .short) (x .items) (x .read) (x .early) (rw here at (within-both short room)))
-          (ap Written (sym manifest-size))
-          output-is
-          (zero ∙ cleared-all work₁ ∙ ap (λ (n : ℕ). replicate n 0) same-work)
+      -- an output that begins with the manifest begins with what is asked for
+      pub written : (memory : ℕ) {out : List ℕ} → 65536 ≤ memory → before + fill ≤ 65535 → before + fill ≤ output → Begins t out → converted t output memory ≡ done (take (before + fill) out)
+      written memory {out} enough short room begins =
+          let first : take (before + fill) out ≡ manifest = ap (λ (n : ℕ). take n out) (sym manifest-size) ∙ begins .manifest (x .items) (x .read) in
+          all-fits t output memory enough (x .short) (x .items) (x .read) (x .early) (within-both short room) ∙ ap done (sym first)
 
       -- what writing it asks for
       pub fitting : (out : List ℕ) → IsBytes t → output ≡ length out → before + fill ≤ 65535 → before + fill ≤ output → Fitting t table count before out

@@ -4,14 +4,14 @@ use mathlib.Core.Path.{_≡_, refl, sym, ap, _∙_, subst}
 use mathlib.Core.List.{List, [], _++_}
 use mathlib.Core.Option.{Option, none, some}
 use native.Mathlib.Omega.{arith}
-use lib.ListN.{length, length-append, length-take, take}
-use borrow.Rule.Slice.PartMut.{putMid}
+use lib.ListN.{length, length-append, length-take, length-drop, take, drop}
+use lib.Seq.{take-append-le}
+use borrow.Rule.Slice.PartMut.{putMid, postOf}
 use Prim.Native.Nat.{ℕ, _-_, _≤_, _<_}
 use Rattle.values.specs.declared.Reason.the-variants.{OutsideNotation}
 use Rattle.rules.specs.EditRule.{IsBytes}
 use Rattle.rules.specs.Fields.{none as noFields, writeAll}
 use Rattle.rules.specs.Outcome.{refused, done}
-use Rattle.catalog.proofs.Stores.{part-back}
 use Rattle.notation.specs.Lexing.{tokens}
 use Rattle.notation.specs.Building.{Nodes}
 use Rattle.notation.specs.Convert.{numberedOnto, lateAmong, textItems}
@@ -108,6 +108,6 @@ module _ {t table : List ℕ} {count before : ℕ} {out : List ℕ} (f : Fitting
   -- so the output begins with the manifest, where the part behind the table was lent
   pub manifest-begins : (r : ReadText) (out₁ part table′ : List ℕ) → out₁ ≡ atStart (tableBytes t table count) out → TextRead t (strings t table count) r part table′ → length out₁ ≡ length out → length (putMid before (length out₁ - before) out₁ part) ≡ length out₁ → Begins t (putMid before (length out₁ - before) out₁ part)
   manifest-begins r out₁ part table′ e x same long =
-      let back : putMid before (length out₁ - before) out₁ part ≡ take before out₁ ++ part = part-back out₁ before part in
-      let room : f .fill ≤ length part = omega (arith, items-fit f, same, long, ap length back, length-append (take before out₁) part, length-take before out₁) in
-      rw back (begins-so f part e (items-written r part table′ x room))
+      let rest : List ℕ = postOf before (length out₁ - before) out₁ in
+      let room : f .fill ≤ length part = omega (arith, items-fit f, same, long, length-append (take before out₁) (part ++ rest), length-append part rest, length-take before out₁, length-drop (length out₁ - before) (drop before out₁), length-drop before out₁) in
+      begins-so f (part ++ rest) e (take-append-le (f .fill) part rest room ∙ items-written r part table′ x room)

@@ -4,13 +4,11 @@ use mathlib.Core.Path.{_≡_}
 use mathlib.Core.List.{List, []}
 use mathlib.Core.Bool.{false}
 use mathlib.Core.Option.{none}
-use lib.ListN.{length, take, replicate}
-use Rattle.values.specs.declared.Reason.{Reason}
+use lib.ListN.{length, take}
 use Rattle.rules.specs.EditRule.{IsBytes}
 use Rattle.rules.specs.Fields.{none as noFields, writeAll}
 use Rattle.rules.specs.Outcome.{done}
 use Rattle.notation.specs.declared.Answer.{Answer}
-use Rattle.notation.specs.declared.Answer.the-variants.{Refused}
 use Rattle.notation.specs.Lexing.{tokens}
 use Rattle.notation.specs.Building.{Nodes}
 use Rattle.notation.specs.Convert.{tableBehind, numberedOnto, lateAmong, tooLong, textItems, manifestBytes, convert}
@@ -21,12 +19,6 @@ use Rattle.converter.specs.Entering.{Enterable}
 -- the answer and all bytes lent are those of the definition
 pub record Converts (text outputBefore outputAfter memoryBefore memoryAfter : List ℕ) (answer : Answer) : Type 0 where
   pub effect : record { answer = answer; outputAfter = outputAfter; memoryAfter = memoryAfter } ≡ convert text (length outputBefore) (length memoryBefore)
-
--- the answer is this refusal, and all bytes lent are zero
-pub record Refuses (reason : Reason) (place : ℕ) (outputBefore outputAfter memoryBefore memoryAfter : List ℕ) (answer : Answer) : Type 0 where
-  pub told : answer ≡ Refused reason place
-  pub output : outputAfter ≡ replicate (length outputBefore) 0
-  pub memory : memoryAfter ≡ replicate (length memoryBefore) 0
 
 -- what one pass over a text asks for: where bytes are written, the table has all strings of the text
 pub record Passable (t out table : List ℕ) (count : ℕ) : Type 0 where

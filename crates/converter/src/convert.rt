@@ -1,25 +1,19 @@
 // From a text to a manifest.
 ghost use Prim.Native.Nat.{_≤_};
 ghost use lib.ListN.{length};
+ghost use Rattle.notation.specs.Convert.{converted};
 ghost use Rattle.interner.specs.Table.{strings};
+ghost use Rattle.text_answers.specs.Leaving.{Leaves};
 ghost use Rattle.converter.specs.Reading.{TextRead};
-ghost use Rattle.converter.specs.Converting.{Converts, Refuses, Passable, Measured, Fitting, Begins};
+ghost use Rattle.converter.specs.Converting.{Converts, Passable, Measured, Fitting, Begins};
 use crate::text::ReadText;
 use crate::text::read_text;
-use catalog::clear_rest;
 use interner::fields::table_size;
 use interner::fields::write_table;
 use notation::Answer;
+use text_answers::accept;
+use text_answers::refuse;
 use values::Reason;
-
-// A refusal leaves the output and the memory zero throughout.
-fn refuse(reason: Reason, place: u16, out: &mut [u8], work: &mut [u8]) -> Answer
-    ensures { λ r. ⌜ Refuses reason place (now (out .entry)) (now (out .exit)) (now (work .entry)) (now (work .exit)) r ⌝ }
-{
-    clear_rest(out, 0);
-    clear_rest(work, 0);
-    Answer::Refused { reason, place }
-}
 
 // Once over the text, with room of its own for what is open.
 fn read_pass(text: &[u8], out: &mut [u8], table: &mut [u8], count: usize) -> ReadText
@@ -50,7 +44,7 @@ fn finish(
     fill: usize,
 ) -> Answer
     requires { ⌜ (65536 ≤ length (now work)) × Measured (now text) (now table) count fill ⌝ }
-    ensures { λ r. ⌜ Converts (now (text .entry)) (now (out .entry)) (now (out .exit)) (now (work .entry)) (now (work .exit)) r ⌝ }
+    ensures { λ r. ⌜ Leaves (converted (now (text .entry)) (length (now (out .entry))) (length (now (work .entry)))) (now (out .entry)) (now (out .exit)) (now (work .entry)) (now (work .exit)) r ⌝ }
 {
     let before = table_size(text, table, count);
     let size = before + fill;
@@ -61,11 +55,7 @@ fn finish(
         return refuse(Reason::OutsideNotation, 0, out, work);
     }
     write_manifest(text, out, table, count, before);
-    clear_rest(out, size);
-    clear_rest(work, 0);
-    Answer::Written {
-        length: size as u16,
-    }
+    accept(size as u16, out, work)
 }
 
 // The manifest of a text, or the first refusal. The first pass writes nothing: it finds a fault, the strings and how long the manifest is. Every byte of

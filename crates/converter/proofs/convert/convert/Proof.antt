@@ -2,16 +2,16 @@
 use mathlib.Core.Path.{refl}
 use native.Mathlib.Omega.{arith}
 use borrow.Author.Needs.{needs}
-use Rattle.converter.proofs.Converting.{short-memory, long-text, not-read, late-constant, refuses, converts-from}
+use Rattle.converter.proofs.Converting.{short-memory, long-text, not-read, late-constant, converts, converts-from}
 use Rattle.converter.proofs.TwoPasses.{first-passable, fault-low, fault-first, whole-found, items-read, late-found, late-low, measured-so}
 use Rattle.converter.proofs.convert.convert.Statement.{statement}
 use Rattle.converter.proofs.convert.convert.Tie as tie
 
 returns : tie.Need-returns
-returns c = refuses _ _ _ _ _ refl refl (short-memory _ _ _ (c .before .before .before .before .before .before .before .if1 .taken)) (c .before .before .before .before .refuse .ensures)
+returns c = converts _ (short-memory _ _ _ (c .before .before .before .before .before .before .before .if1 .taken)) refl refl (c .before .before .before .before .refuse .ensures)
 
 returns-2 : tie.Need-returns-2
-returns-2 c = refuses _ _ _ _ _ refl refl (long-text _ _ _ (c .before .before .before .before .before .before .before .before .if1 .left) (c .before .before .before .before .before .before .before .if2 .taken)) (c .before .before .before .before .refuse2 .ensures)
+returns-2 c = converts _ (long-text _ _ _ (c .before .before .before .before .before .before .before .before .if1 .left) (c .before .before .before .before .before .before .before .if2 .taken)) refl refl (c .before .before .before .before .refuse2 .ensures)
 
 read-pass-requires : tie.Need-read-pass-requires
 read-pass-requires c κs = first-passable _ _ (c .before .before .if2 .left) (omega arith)
@@ -28,16 +28,16 @@ returns-3 : tie.Need-returns-3
 returns-3 c =
     let x = c .before .before .before .before .before .before .before .before .before .before .before .before .before .before .read-pass .ensures in
     let is = c .before .before .before .before .before .before .before .before .before .first2 .given .1 in
-    refuses _ _ _ _ _ (search needs) refl (late-constant _ _ _ (c .before .before .before .before .before .before .before .before .before .before .before .before .before .before .before .before .before .before .if1 .left) (c .before .before .before .before .before .before .before .before .before .before .before .before .before .before .before .before .before .if2 .left) (whole-found _ _ _ _ _ x _ _ _ is .items) (items-read _ _ _ _ _ x _ _ _ is) (late-found _ _ _ _ _ x _ _ _ is (c .before .before .before .before .before .before .before .if3 .taken))) (c .before .before .before .before .refuse4 .ensures)
+    converts _ (late-constant _ _ _ (c .before .before .before .before .before .before .before .before .before .before .before .before .before .before .before .before .before .before .if1 .left) (c .before .before .before .before .before .before .before .before .before .before .before .before .before .before .before .before .before .if2 .left) (whole-found _ _ _ _ _ x _ _ _ is .items) (items-read _ _ _ _ _ x _ _ _ is) (late-found _ _ _ _ _ x _ _ _ is (c .before .before .before .before .before .before .before .if3 .taken))) (search needs) refl (c .before .before .before .before .refuse4 .ensures)
 
 finish-requires : tie.Need-finish-requires
 finish-requires c κs = (c .before .before .before .before .before .before .before .before .before .before .before .before .before .before .if1 .left, measured-so _ _ _ _ _ (c .before .before .before .before .before .before .before .before .before .before .read-pass .ensures) _ _ _ (c .before .before .before .before .before .first2 .given .1) (c .before .before .before .before .before .before .before .before .before .before .before .before .before .if2 .left) (search needs) (c .before .before .before .if3 .left))
 
 returns-4 : tie.Need-returns-4
-returns-4 c = refuses _ _ _ _ _ (search needs) refl (not-read _ _ _ (c .before .before .before .before .before .before .before .before .before .before .before .before .before .before .before .before .before .if1 .left) (c .before .before .before .before .before .before .before .before .before .before .before .before .before .before .before .before .if2 .left) (fault-first _ _ _ _ _ (c .before .before .before .before .before .before .before .before .before .before .before .before .before .read-pass .ensures) _ (c .before .before .before .before .before .before .before .before .first .given .1))) (c .before .before .before .before .refuse3 .ensures)
+returns-4 c = converts _ (not-read _ _ _ (c .before .before .before .before .before .before .before .before .before .before .before .before .before .before .before .before .before .if1 .left) (c .before .before .before .before .before .before .before .before .before .before .before .before .before .before .before .before .if2 .left) (fault-first _ _ _ _ _ (c .before .before .before .before .before .before .before .before .before .before .before .before .before .read-pass .ensures) _ (c .before .before .before .before .before .before .before .before .first .given .1))) (search needs) refl (c .before .before .before .before .refuse3 .ensures)
 
 returns-5 : tie.Need-returns-5
-returns-5 c = converts-from _ _ _ (search needs) refl (c .before .before .before .before .before .finish .ensures)
+returns-5 c = converts-from _ (search needs) refl (c .before .before .before .before .before .finish .ensures)
 
 pub convert-spec : {M : Type 1} → statement M
 convert-spec =

@@ -2,7 +2,8 @@
 use mathlib.Core.Path.{refl}
 use native.Mathlib.Omega.{arith}
 use borrow.Author.Needs.{needs}
-use Rattle.converter.proofs.Converting.{too-long, refuses, measurable, over-65535, over-output, accepts, fitting}
+use Rattle.text_answers.proofs.Ending.{leaves-as}
+use Rattle.converter.proofs.Converting.{too-long, measurable, over-65535, over-output, written, fitting}
 use Rattle.converter.proofs.convert.finish.Statement.{statement}
 use Rattle.converter.proofs.convert.finish.Tie as tie
 
@@ -17,14 +18,14 @@ returns c =
     let s = c .before .before .before .before .before .before .before .before .before .before .before .before .before .before in
     let x = s .pre .1 in
     let long = over-65535 x (c .before .before .before .before .before .before .before .before .table-size .ensures .0) _ (c .before .before .before .before .before .before .before .if1 .taken) in
-    refuses _ _ _ _ _ refl refl (too-long _ _ _ (s .pre .0) (x .short) (x .items) (x .read) (x .early) long) (c .before .before .before .before .refuse .ensures)
+    leaves-as (too-long _ _ _ (s .pre .0) (x .short) (x .items) (x .read) (x .early) long) refl refl (c .before .before .before .before .refuse .ensures)
 
 returns-2 : tie.Need-returns-2
 returns-2 c =
     let s = c .before .before .before .before .before .before .before .before .before .before .before .before .before .before .before in
     let x = s .pre .1 in
     let long = over-output x (c .before .before .before .before .before .before .before .before .before .table-size .ensures .0) _ (c .before .before .before .before .before .before .before .before .if1 .left) (c .before .before .before .before .before .before .before .if2 .taken) in
-    refuses _ _ _ _ _ refl refl (too-long _ _ _ (s .pre .0) (x .short) (x .items) (x .read) (x .early) long) (c .before .before .before .before .refuse2 .ensures)
+    leaves-as (too-long _ _ _ (s .pre .0) (x .short) (x .items) (x .read) (x .early) long) refl refl (c .before .before .before .before .refuse2 .ensures)
 
 write-manifest-requires : tie.Need-write-manifest-requires
 write-manifest-requires c κs =
@@ -32,8 +33,8 @@ write-manifest-requires c κs =
 
 returns-3 : tie.Need-returns-3
 returns-3 c =
-    let s = c .before .before .before .before .before .before .before .before .before .before .before .before .before .before .before .before .before .before .before .before .before .before .before in
-    accepts (s .pre .1) (c .before .before .before .before .before .before .before .before .before .before .before .before .before .before .before .before .before .table-size .ensures .0) _ _ _ _ _ refl (search needs) refl (s .pre .0) (c .before .before .before .before .before .before .before .before .before .before .before .before .before .before .before .before .if1 .left) (c .before .before .before .before .before .before .before .before .before .before .before .before .before .before .before .if2 .left) (c .before .before .before .before .before .before .before .before .before .before .before .before .write-manifest .ensures) (c .before .before .before .before .before .before .clear-rest .ensures) (c .before .before .clear-rest2 .ensures)
+    let s = c .before .before .before .before .before .before .before .before .before .before .before .before .before .before .before .before .before .before .before .before .before .before in
+    leaves-as (written (s .pre .1) (c .before .before .before .before .before .before .before .before .before .before .before .before .before .before .before .before .table-size .ensures .0) _ _ (s .pre .0) (c .before .before .before .before .before .before .before .before .before .before .before .before .before .before .before .if1 .left) (c .before .before .before .before .before .before .before .before .before .before .before .before .before .before .if2 .left) (c .before .before .before .before .before .before .before .before .before .before .before .write-manifest .ensures)) (search needs) refl (c .before .before .before .before .accept .ensures)
 
 pub finish-spec : {M : Type 1} → statement M
 finish-spec =
@@ -52,9 +53,8 @@ finish-spec =
     (λ c. search needs)
     returns-2
     write-manifest-requires
-    (λ c κs. search needs)
-    (λ c κs. search needs)
     (λ c. search needs)
+    (λ c κs. search needs)
     (λ c. search needs)
     (λ c. search needs)
     (λ c. search needs)
