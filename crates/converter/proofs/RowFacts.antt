@@ -88,17 +88,17 @@ rowSound s k (row ds ss) = rowFits s k (row ds ss) && allPlain ss
 
 -- ---- Every row
 
-abbrev allKeyed : (ℕ → Row → Bool) → List (ℕ × Row) → Bool
+abbrev pub allKeyed : {A : Type 0} → (ℕ → A → Bool) → List (ℕ × A) → Bool
 allKeyed test [] = true
 allKeyed test (x ∷ xs) = test (x .0) (x .1) && allKeyed test xs
 
--- a test that holds of all keys and rows holds of what is found
-found-keyed : (test : ℕ → Row → Bool) (xs : List (ℕ × Row)) (k : ℕ) (v : Row) → allKeyed test xs ≡ true → find k xs ≡ some v → test k v ≡ true
+-- a test that holds of all keys and values holds of what is found
+pub found-keyed : {A : Type 0} (test : ℕ → A → Bool) (xs : List (ℕ × A)) (k : ℕ) (v : A) → allKeyed test xs ≡ true → find k xs ≡ some v → test k v ≡ true
 found-keyed test [] k v a e = none-not-some e
-found-keyed test (x ∷ xs) k v a e = go (eqb k (x .0)) refl (λ e. found-keyed test xs k v (both-right (test (x .0) (x .1)) (allKeyed test xs) a) e) e
+found-keyed {A} test (x ∷ xs) k v a e = go (eqb k (x .0)) refl (λ e. found-keyed test xs k v (both-right (test (x .0) (x .1)) (allKeyed test xs) a) e) e
   where
-    go : (b : Bool) → eqb k (x .0) ≡ b → (find k xs ≡ some v → test k v ≡ true) → _≡_ {A = Option Row} (pick b (some (x .1)) (find k xs)) (some v) → test k v ≡ true
-    go true i others e = subst (λ (v : Row). test k v ≡ true) (same-result (x .1) v e) (ap (λ (n : ℕ). test n (x .1)) (eqb-true k (x .0) i) ∙ both-left (test (x .0) (x .1)) (allKeyed test xs) a)
+    go : (b : Bool) → eqb k (x .0) ≡ b → (find k xs ≡ some v → test k v ≡ true) → _≡_ {A = Option A} (pick b (some (x .1)) (find k xs)) (some v) → test k v ≡ true
+    go true i others e = subst (λ (v : A). test k v ≡ true) (same-result (x .1) v e) (ap (λ (n : ℕ). test n (x .1)) (eqb-true k (x .0) i) ∙ both-left (test (x .0) (x .1)) (allKeyed test xs) a)
     go false i others e = others e
 
 -- operators of any level
