@@ -1,0 +1,145 @@
+-- Marks inserted among others: where the log led before, it leads with one entry more. Assumes nothing.
+use mathlib.Core.Path.{_≡_, refl, sym, ap, _∙_, subst}
+use mathlib.Core.Bool.{Bool, true, false}
+use mathlib.Core.List.{List, [], _∷_, _++_, append-assoc, append-nil}
+use Prim.Native.Nat.{ℕ, suc, _+_, _-_, _≤_, _<_}
+use native.Mathlib.Omega.{arith}
+use borrow.Author.Tests.{leb-true, leb-false, ltb-true, ltb-false}
+use lib.Dec.{leb, ltb}
+use lib.ListN.{length, length-append, List·getD-append, List·getD-eq-default}
+use lib.Seq.{getD-append-add}
+use Rattle.wire.specs.Bytes.{pick, byte as at}
+use Rattle.text_places.specs.Log.{Insertion, insertion, followed, Leads}
+
+-- all fields that begin among these bytes came with this place
+pub record Only (place : ℕ) (marks : List ℕ) : Type 0 where
+  pub only : (i p : ℕ) → at marks i ≡ suc p → p ≡ place
+
+-- bytes came at an offset, with this place
+pub record Inserted (from place : ℕ) (old new : List ℕ) : Type 0 where
+  pub front : List ℕ
+  pub come : List ℕ
+  pub behind : List ℕ
+  pub before : old ≡ front ++ behind
+  pub after : new ≡ front ++ (come ++ behind)
+  pub offset : from ≡ length front
+  pub whose : Only place come
+
+-- these bytes came last, or none did
+pub record Appended (place : ℕ) (old new : List ℕ) : Type 0 where
+  pub come : List ℕ
+  pub after : new ≡ old ++ come
+  pub whose : Only place come
+
+-- some are left, and none came
+pub record Shortened (old new : List ℕ) : Type 0 where
+  pub gone : List ℕ
+  pub before : old ≡ new ++ gone
+
+-- ---- At an offset
+
+-- a field does not begin behind the end
+past-end : {A : Type 0} (ms : List ℕ) (o p : ℕ) → length ms ≤ o → at ms o ≡ suc p → A
+past-end ms o p far e = absurd (omega (arith, e, List·getD-eq-default ms 0 far))
+
+-- behind the front
+behind-front : (xs ys : List ℕ) (o : ℕ) → length xs ≤ o → at (xs ++ ys) o ≡ at ys (o - length xs)
+behind-front xs ys o far =
+    let there : o ≡ length xs + (o - length xs) = omega arith in
+    ap (at (xs ++ ys)) there ∙ getD-append-add xs ys (o - length xs) 0
+
+no-length : (ms : List ℕ) → length ms ≤ 0 → ms ≡ []
+no-length [] h = refl
+no-length (m ∷ ms) h = absurd (omega arith)
+
+-- ---- One entry more
+
+module _ (l : List Insertion) (xs ns ys : List ℕ) (place : ℕ) (whose : Only place ns) (h : Leads l (xs ++ ys)) where
+  one-more : (o p : ℕ) → at (xs ++ (ns ++ ys)) o ≡ suc p → followed (insertion (length xs) (length ns) place ∷ l) o ≡ p
+  unfolding followed
+  one-more o p e = go (leb (length xs + length ns) o) refl (leb (length xs) o) refl
+    where
+      go : (b : Bool) → leb (length xs + length ns) o ≡ b → (c : Bool) → leb (length xs) o ≡ c → pick b (followed l (o - length ns)) (pick c place (followed l o)) ≡ p
+      go true i c j =
+          let far = leb-true (length xs + length ns) o i in
+          let same : o - length xs - length ns ≡ o - length ns - length xs = omega arith in
+          let moved : at (xs ++ ys) (o - length ns) ≡ at (xs ++ (ns ++ ys)) o =
+          behind-front xs ys (o - length ns) (omega arith) ∙ ap (at ys) (sym same) ∙ sym (behind-front ns ys (o - length xs) (omega arith)) ∙ sym (behind-front xs (ns ++ ys) o (omega arith)) in
+          h .leads (o - length ns) p (moved ∙ e)
+      go false i true j =
+          let near = leb-false (length xs + length ns) o i in
+          let far = leb-true (length xs) o j in
+          let inside : at ns (o - length xs) ≡ suc p = sym (List·getD-append ns ys 0 (o - length xs) (omega arith)) ∙ sym (behind-front xs (ns ++ ys) o far) ∙ e in
+          sym (whose .only (o - length xs) p inside)
+      go false i false j =
+          let near = leb-false (length xs) o j in
+          h .leads o p (List·getD-append xs ys 0 o (omega arith) ∙ sym (List·getD-append xs (ns ++ ys) 0 o (omega arith)) ∙ e)
+
+module _ {from place : ℕ} {old new : List ℕ} (i : Inserted from place old new) where
+  grown : length new ≡ length old + length (i .come)
+  grown =
+      ap length (i .after)
+      ∙ omega (arith, length-append (i .front) (i .come ++ i .behind), length-append (i .come) (i .behind), ap length (i .before), length-append (i .front) (i .behind))
+
+  inserted-leads : {l : List Insertion} → Leads l old → Leads (insertion from (length new - length old) place ∷ l) new
+  inserted-leads {l} h =
+      let wide : length new - length old ≡ length (i .come) = omega (arith, grown) in
+      record {
+        leads = λ o p e.
+            rw (i .offset, wide)
+            (one-more l (i .front) (i .come) (i .behind) place (i .whose) (subst (Leads l) (i .before) h) o p (ap (λ (ms : List ℕ). at ms o) (sym (i .after)) ∙ e));
+      }
+
+  -- where no byte came, all is as it was
+  inserted-none : length new ≤ length old → Shortened old new
+  inserted-none short =
+      let none-came : i .come ≡ [] = no-length (i .come) (omega (arith, grown)) in
+      record { gone = []; before = i .before ∙ ap (λ (ms : List ℕ). i .front ++ (ms ++ i .behind)) (sym none-came) ∙ sym (i .after) ∙ sym (append-nil new) }
+
+shortened-leads : {l : List Insertion} {old new : List ℕ} → Shortened old new → Leads l old → Leads l new
+shortened-leads {l} {old} {new} s h = record { leads = λ o p e. go o p (ltb o (length new)) refl e }
+  where
+    go : (o p : ℕ) (b : Bool) → ltb o (length new) ≡ b → at new o ≡ suc p → followed l o ≡ p
+    go o p true i e = h .leads o p (ap (λ (ms : List ℕ). at ms o) (s .before) ∙ List·getD-append new (s .gone) 0 o (ltb-true o (length new) i) ∙ e)
+    go o p false i e = past-end new o p (ltb-false o (length new) i) e
+
+-- ---- By the lengths
+
+-- what a token does: it inserts bytes, or takes some of the last ones away
+pub data Moved (from place : ℕ) (old new : List ℕ) : Type 0 where
+  inserted : Inserted from place old new → Moved from place old new
+  shortened : Shortened old new → Moved from place old new
+
+pub moved-leads : {from place : ℕ} {old new : List ℕ} (l : List Insertion) → Moved from place old new → Leads l old → Leads (pick (ltb (length old) (length new)) (insertion from (length new - length old) place ∷ l) l) new
+moved-leads {from} {place} {old} {new} l m h = go (ltb (length old) (length new)) refl m
+  where
+    go : (b : Bool) → ltb (length old) (length new) ≡ b → Moved from place old new → Leads (pick b (insertion from (length new - length old) place ∷ l) l) new
+    go true e (inserted i) = inserted-leads i h
+    go true e (shortened s) = absurd (omega (arith, ltb-true (length old) (length new) e, ap length (s .before), length-append new (s .gone)))
+    go false e (inserted i) = shortened-leads (inserted-none i (ltb-false (length old) (length new) e)) h
+    go false e (shortened s) = shortened-leads s h
+
+-- ---- Bytes that came last
+
+pub nothing-came : (place : ℕ) (ms : List ℕ) → Appended place ms ms
+nothing-came place ms = record { come = []; after = sym (append-nil ms); whose = record { only = λ i p e. absurd (omega arith) } }
+
+only-both : (place : ℕ) (xs ys : List ℕ) → Only place xs → Only place ys → Only place (xs ++ ys)
+only-both place xs ys a b = record { only = λ i p e. go i p (ltb i (length xs)) refl e }
+  where
+    go : (i p : ℕ) (c : Bool) → ltb i (length xs) ≡ c → at (xs ++ ys) i ≡ suc p → p ≡ place
+    go i p true h e = a .only i p (sym (List·getD-append xs ys 0 i (ltb-true i (length xs) h)) ∙ e)
+    go i p false h e = b .only (i - length xs) p (sym (behind-front xs ys i (ltb-false i (length xs) h)) ∙ e)
+
+pub appended-both : {place : ℕ} {a b c : List ℕ} → Appended place a b → Appended place b c → Appended place a c
+appended-both {place} {a} {b} {c} g h =
+    record {
+      come = g .come ++ h .come;
+      after = h .after ∙ ap (λ (ms : List ℕ). ms ++ h .come) (g .after) ∙ append-assoc a (g .come) (h .come);
+      whose = only-both place (g .come) (h .come) (g .whose) (h .whose);
+    }
+
+-- these are inserted at the end
+pub appended-inserted : {from place : ℕ} {old new : List ℕ} → from ≡ length old → Appended place old new → Inserted from place old new
+appended-inserted {old = old} offset a =
+    record { front = old; come = a .come; behind = []; before = sym (append-nil old); after = a .after ∙ ap (λ (ms : List ℕ). old ++ ms) (sym (append-nil (a .come))); offset = offset; whose = a .whose }

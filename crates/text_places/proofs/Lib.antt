@@ -1,0 +1,6 @@
+pub mod Inserting
+pub mod MarkedTree
+pub mod Stacks
+pub mod StepCases
+pub mod StepMoves
+pub mod Logging
