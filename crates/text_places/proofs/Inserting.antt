@@ -2,7 +2,7 @@
 use mathlib.Core.Path.{_≡_, refl, sym, ap, _∙_, subst}
 use mathlib.Core.Bool.{Bool, true, false}
 use mathlib.Core.List.{List, [], _∷_, _++_, append-assoc, append-nil}
-use Prim.Native.Nat.{ℕ, suc, _+_, _-_, _≤_, _<_}
+use Prim.Native.Nat.{ℕ, zero, suc, _+_, _-_, _≤_, _<_}
 use native.Mathlib.Omega.{arith}
 use borrow.Author.Tests.{leb-true, leb-false, ltb-true, ltb-false}
 use lib.Dec.{leb, ltb}
@@ -43,7 +43,7 @@ past-end : {A : Type 0} (ms : List ℕ) (o p : ℕ) → length ms ≤ o → at m
 past-end ms o p far e = absurd (omega (arith, e, List·getD-eq-default ms 0 far))
 
 -- behind the front
-behind-front : (xs ys : List ℕ) (o : ℕ) → length xs ≤ o → at (xs ++ ys) o ≡ at ys (o - length xs)
+pub behind-front : (xs ys : List ℕ) (o : ℕ) → length xs ≤ o → at (xs ++ ys) o ≡ at ys (o - length xs)
 behind-front xs ys o far =
     let there : o ≡ length xs + (o - length xs) = omega arith in
     ap (at (xs ++ ys)) there ∙ getD-append-add xs ys (o - length xs) 0
@@ -103,6 +103,25 @@ shortened-leads {l} {old} {new} s h = record { leads = λ o p e. go o p (ltb o (
     go o p true i e = h .leads o p (ap (λ (ms : List ℕ). at ms o) (s .before) ∙ List·getD-append new (s .gone) 0 o (ltb-true o (length new) i) ∙ e)
     go o p false i e = past-end new o p (ltb-false o (length new) i) e
 
+-- ---- Whose fields begin
+
+-- one field begins with its header, and others behind it
+pub header-first : (p : ℕ) (ms : List ℕ) → Only p ms → Only p (suc p ∷ 0 ∷ 0 ∷ ms)
+header-first p ms h = record { only = λ i q e. go i q e }
+  where
+    go : (i q : ℕ) → at (suc p ∷ 0 ∷ 0 ∷ ms) i ≡ suc q → q ≡ p
+    go zero q e = omega arith
+    go (suc zero) q e = absurd (omega arith)
+    go (suc (suc zero)) q e = absurd (omega arith)
+    go (suc (suc (suc i))) q e = h .only i q e
+
+pub only-both : (place : ℕ) (xs ys : List ℕ) → Only place xs → Only place ys → Only place (xs ++ ys)
+only-both place xs ys a b = record { only = λ i p e. go i p (ltb i (length xs)) refl e }
+  where
+    go : (i p : ℕ) (c : Bool) → ltb i (length xs) ≡ c → at (xs ++ ys) i ≡ suc p → p ≡ place
+    go i p true h e = a .only i p (sym (List·getD-append xs ys 0 i (ltb-true i (length xs) h)) ∙ e)
+    go i p false h e = b .only (i - length xs) p (sym (behind-front xs ys i (ltb-false i (length xs) h)) ∙ e)
+
 -- ---- By the lengths
 
 -- what a token does: it inserts bytes, or takes some of the last ones away
@@ -123,13 +142,6 @@ moved-leads {from} {place} {old} {new} l m h = go (ltb (length old) (length new)
 
 pub nothing-came : (place : ℕ) (ms : List ℕ) → Appended place ms ms
 nothing-came place ms = record { come = []; after = sym (append-nil ms); whose = record { only = λ i p e. absurd (omega arith) } }
-
-only-both : (place : ℕ) (xs ys : List ℕ) → Only place xs → Only place ys → Only place (xs ++ ys)
-only-both place xs ys a b = record { only = λ i p e. go i p (ltb i (length xs)) refl e }
-  where
-    go : (i p : ℕ) (c : Bool) → ltb i (length xs) ≡ c → at (xs ++ ys) i ≡ suc p → p ≡ place
-    go i p true h e = a .only i p (sym (List·getD-append xs ys 0 i (ltb-true i (length xs) h)) ∙ e)
-    go i p false h e = b .only (i - length xs) p (sym (behind-front xs ys i (ltb-false i (length xs) h)) ∙ e)
 
 pub appended-both : {place : ℕ} {a b c : List ℕ} → Appended place a b → Appended place b c → Appended place a c
 appended-both {place} {a} {b} {c} g h =

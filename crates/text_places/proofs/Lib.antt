@@ -4,3 +4,5 @@ pub mod Stacks
 pub mod StepCases
 pub mod StepMoves
 pub mod Logging
+pub mod MarkedBytes
+pub mod InManifest

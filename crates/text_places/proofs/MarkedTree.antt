@@ -14,7 +14,7 @@ use Rattle.notation.specs.Tokens.{Lexeme, lexeme, word, number, text, variable,
 use Rattle.notation.specs.Building.{Piece, byte, name, Node, node, Nodes, empty, _▸_, leaf, height, Frame, frame, Build, build, Action, begin, beginResource, around, instead, close, constant, read, named, parentFirst, void, enter, leave, act, acts, added, addedFirst, begun, inFront, constantNode, variableNode, spelled, resourceTag}
 use Rattle.notation.proofs.NeedsKept.{none-not-some, same-result}
 use Rattle.text_places.specs.Marks.{headMarks, nodeMarks, partMarks, openingMarks, aroundMarks, frontMarks, openMarks, treeMarks, startOf, bodyOf, sizeOf}
-use Rattle.text_places.proofs.Inserting.{Only, Inserted, Appended, Shortened, nothing-came, appended-both}
+use Rattle.text_places.proofs.Inserting.{Only, header-first, Inserted, Appended, Shortened, nothing-came, appended-both}
 
 -- ---- Heads
 
@@ -35,13 +35,7 @@ head-append (name s ∷ h) g = ap (λ (l : List ℕ). 0 ∷ 0 ∷ l) (head-appen
 
 -- a header and a head: one field begins
 header-only : (p : ℕ) (h : List Piece) → Only p (suc p ∷ 0 ∷ 0 ∷ headMarks h)
-header-only p h = record { only = λ i q e. go i q e }
-  where
-    go : (i q : ℕ) → at (suc p ∷ 0 ∷ 0 ∷ headMarks h) i ≡ suc q → q ≡ p
-    go zero q e = omega arith
-    go (suc zero) q e = absurd (omega arith)
-    go (suc (suc zero)) q e = absurd (omega arith)
-    go (suc (suc (suc i))) q e = absurd (omega (arith, e, head-zero h i))
+header-only p h = header-first p (headMarks h) (record { only = λ i q e. absurd (omega (arith, e, head-zero h i)) })
 
 name-only : (p : ℕ) → Only p (0 ∷ 0 ∷ [])
 unfolding headMarks
