@@ -131,7 +131,7 @@ outcome-of : (t : List ℕ) (S : List (List ℕ)) (ks : Nodes) → reading (toke
 unfolding readText
 outcome-of t S ks e i = rw (e, i)
 
-no-tokens : {A : Type 0} {xs : List Lexeme} → Ending xs → xs ≡ [] → A
+pub no-tokens : {A : Type 0} {xs : List Lexeme} → Ending xs → xs ≡ [] → A
 no-tokens (atFault {x} {xs} i) e = some-tokens e
 no-tokens (atEnd {x} i) e = some-tokens e
 no-tokens (before {x} {xs} i later) e = some-tokens e
@@ -157,11 +157,11 @@ pub record Along (t : List ℕ) (S₀ : List (List ℕ)) (out₀ m₀ st₀ tb�
   pub table-size : length tb ≡ length tb₀
 
 -- before the first token
-nothing-filled : (S : List (List ℕ)) → size S start ≡ 0
+pub nothing-filled : (S : List (List ℕ)) → size S start ≡ 0
 unfolding openBytes headEnd aroundBytes opening partsBytes headBytes numbered write
 nothing-filled S = refl
 
-pub going-first : (t out m st₀ st tb : List ℕ) (count top : ℕ) (s : Building) → Readable t out m st₀ tb count → Pushed st₀ st 1 0x2c05 top → ((table : List (List ℕ)) (frames o : List ℕ) → Shows table s frames o start)
+unfoldable pub going-first : (t out m st₀ st tb : List ℕ) (count top : ℕ) (s : Building) → Readable t out m st₀ tb count → Pushed st₀ st 1 0x2c05 top → ((table : List (List ℕ)) (frames o : List ℕ) → Shows table s frames o start)
     → Going t (strings t tb count) out m st tb (record { at = 0; line = 0; operand = true; machine = record { top = top; building = s }; count = count })
 unfolding tokens reading stackOf WordOnTop
 going-first t out m st₀ st tb count top s h pushed fresh =
@@ -238,23 +238,23 @@ module _ (t : List ℕ) (S₀ : List (List ℕ)) (out m st tb : List ℕ) (p : P
     abbrev k′ : List Symbol
     k′ = symbolsOf st′ next
 
-    run-next : reading (tokens t) ≡ run rest k′ (w .tree)
+    pub run-next : reading (tokens t) ≡ run rest k′ (w .tree)
     run-next = g .same-run ∙ ap (λ (ys : List Lexeme). run ys (symbolsOf st p) f) (w .first) ∙ run-on (w .token) rest (symbolsOf st p) f k′ (w .tree) (w .stepped)
 
     few : length (enteredAll (stringsOf (tokenOf (w .token))) S) ≤ 1024
     few = omega (arith, ap length (w .entered), strings-counted t tb′ (next .count), w .enterable .small)
 
-    crowd-next : crowdedAt (tokens t) S₀ ≡ crowdedAt rest U
+    pub crowd-next : crowdedAt (tokens t) S₀ ≡ crowdedAt rest U
     crowd-next = g .same-crowd ∙ ap (λ (ys : List Lexeme). crowdedAt ys S) (w .first) ∙ not-crowded (w .token) rest S few ∙ ap (crowdedAt rest) (sym (w .entered))
 
-    table-on : tableBehind xs S ≡ tableBehind rest U
+    pub table-on : tableBehind xs S ≡ tableBehind rest U
     unfolding tableBehind
     table-on = ap (λ (ys : List Lexeme). tableBehind ys S) (w .first) ∙ ap (tableBehind rest) (sym (w .entered))
 
     same-size : (h : Build) → size U h ≡ size S h
     same-size (build b (frame q u i ks) fs) = open-same U S u i ks fs
 
-    filled-next : next .machine .building .fill + debt k′ ≤ 15 * p .at + 15
+    pub filled-next : next .machine .building .fill + debt k′ ≤ 15 * p .at + 15
     filled-next =
         omega (arith, g .filled, filled-so S (p .machine .building) m out f (g .ready .stage .shows), filled-so U (next .machine .building) m′ out′ (w .tree) (w .shows), same-size (w .tree), step-size S (symbolsOf st p) (w .token) f k′ (w .tree) (w .stepped))
 
@@ -283,7 +283,7 @@ module _ (t : List ℕ) (S₀ : List (List ℕ)) (out m st tb : List ℕ) (p : P
         last-symbol (before {x} {xs = zs} i later) e = let none-left : zs ≡ [] = cc in no-tokens later none-left
 
     -- more tokens follow
-    pub going-next : rest ≡ tokensLeft t next → p .at < next .at → length out′ ≡ length out → length m′ ≡ length m → length st′ ≡ length st → Going t S₀ out′ m′ st′ tb′ next
+    unfoldable pub going-next : rest ≡ tokensLeft t next → p .at < next .at → length out′ ≡ length out → length m′ ≡ length m → length st′ ≡ length st → Going t S₀ out′ m′ st′ tb′ next
     going-next e forward out-size frames-size stack-size =
         let kept = step-kept (symbolsOf st p) (w .token) f k′ (w .tree) (w .stepped) (g .ready .stage .kept) in
         let filled : next .machine .building .fill + debt k′ ≤ 15 * next .at = omega (arith, filled-next) in
@@ -322,14 +322,14 @@ module _ (t : List ℕ) (S₀ : List (List ℕ)) (out m st tb : List ℕ) (p : P
 module _ (t : List ℕ) (S₀ : List (List ℕ)) (out₀ m₀ st₀ tb₀ out m st tb : List ℕ) (p : Pass) (g : Along t S₀ out₀ m₀ st₀ tb₀ out m st tb p) where
   -- what reading a token answers
   module _ (a : Read) (out′ m′ st′ tb′ : List ℕ) (reads : ReadsToken t out m st tb p a out′ m′ st′ tb′) where
-    answer : (b : Read) → a ≡ b → ReadSo t st tb p (g .going .ready .tree) b out′ m′ st′ tb′
+    pub answer : (b : Read) → a ≡ b → ReadSo t st tb p (g .going .ready .tree) b out′ m′ st′ tb′
     answer b e = subst (λ (r : Read). ReadSo t st tb p (g .going .ready .tree) r out′ m′ st′ tb′) e (reads (g .going .ready .tree) (g .going .ready .stage))
 
     pub forward : (next : Pass) → a ≡ On next → length t - next .at < length t - p .at
     unfolding ReadSo
     forward next e = let w = answer (On next) e in omega (arith, w .1, w .0 .within)
 
-    pub along-next : (next : Pass) → a ≡ On next → length out′ ≡ length out → length m′ ≡ length m → length st′ ≡ length st → length tb′ ≡ length tb → Along t S₀ out₀ m₀ st₀ tb₀ out′ m′ st′ tb′ next
+    unfoldable pub along-next : (next : Pass) → a ≡ On next → length out′ ≡ length out → length m′ ≡ length m → length st′ ≡ length st → length tb′ ≡ length tb → Along t S₀ out₀ m₀ st₀ tb₀ out′ m′ st′ tb′ next
     unfolding ReadSo
     along-next next e out-size frames-size stack-size table-size =
         let w = answer (On next) e in
