@@ -6,3 +6,5 @@ pub mod StepMoves
 pub mod Logging
 pub mod MarkedBytes
 pub mod InManifest
+pub mod Noting
+pub mod Telling

@@ -5,12 +5,12 @@ use mathlib.Core.List.{List, [], _∷_}
 use Prim.Native.Nat.{ℕ, zero, suc, _+_, _-_, _*_, _/_, _%_, _≤_, _<_}
 use native.Mathlib.Omega.{arith}
 use borrow.Author.Tests.{le-leb, lt-leb, lt-ltb, le-ltb, ne-eqb, ltb-true, ltb-false}
-use lib.Dec.{leb, ltb, eqb}
+use lib.Dec.{ltb, eqb}
 use lib.ListN.{length}
 use Rattle.wire.specs.Bytes.{pick}
 use Rattle.wire.specs.Numbers.{number, highBytes}
 use Rattle.wire.specs.Runs.{bytesAt, over}
-use Rattle.wire.proofs.Laws.{over-length, stored-back, stored-outside, high-length}
+use Rattle.wire.proofs.Laws.{over-length, stored-back, stored-outside}
 use Rattle.format.proofs.Table.{elsewhere}
 use Rattle.parse_table.specs.Codes.{symbolOf}
 use Rattle.parse_table.proofs.Packed.{code-operators}
@@ -108,11 +108,7 @@ log-more m i q n p room a b c =
     ∙ ap (λ (x : Insertion). x ∷ logIn (over m (8 * i) (highBytes 8 (packed q n p))) i) (unpacked-back q n p b c)
     ∙ ap (λ (l : List Insertion). insertion q n p ∷ l) (log-kept m i (packed q n p) i (omega arith))
 
-module _ (m : List ℕ) (entries y k p : ℕ) (s r : Building) (h : Notable m entries p s r) where
-  pub nothing-noted : r .fill ≤ s .fill → Noted m m entries entries (notedBy y k p s r (logIn m entries))
-  unfolding notedBy
-  nothing-noted short = record { is = rw (le-ltb (s .fill) (r .fill) short); size = refl; more = omega arith }
-
+module _ (entries y k p : ℕ) (s r : Building) (h : Notable entries p s r) where
   -- where bytes came is an offset of the tree
   pub low-offset : (q : ℕ) → q ≡ insertedAt (eqb (sort (symbolOf y)) 1) (isOperator k) (s .body) (r .start) (s .fill) → q ≤ 1048576
   unfolding insertedAt
@@ -123,14 +119,23 @@ module _ (m : List ℕ) (entries y k p : ℕ) (s r : Building) (h : Notable m en
       go false true e = omega (arith, h .ready-behind .start, h .ready-behind .fill)
       go false false e = omega (arith, h .ready .fill)
 
-  pub one-noted : (q v : ℕ) {m′ : List ℕ} → q ≡ insertedAt (eqb (sort (symbolOf y)) 1) (isOperator k) (s .body) (r .start) (s .fill) → s .fill < r .fill → v ≡ packed q (r .fill - s .fill) p → m′ ≡ over m (8 * entries) (highBytes 8 v) → Noted m m′ entries (entries + 1) (notedBy y k p s r (logIn m entries))
+module _ (m : List ℕ) (entries y k p : ℕ) (s r : Building) (h : Notable entries p s r) where
+  pub nothing-noted : r .fill ≤ s .fill → Noted m m entries entries (notedBy y k p s r)
+  unfolding notedBy
+  nothing-noted short = record { is = λ room. rw (le-ltb (s .fill) (r .fill) short); count = λ l e. rw (le-ltb (s .fill) (r .fill) short) e; size = refl; no-less = omega arith; more = omega arith }
+
+  pub one-noted : (q v : ℕ) {m′ : List ℕ} → q ≡ insertedAt (eqb (sort (symbolOf y)) 1) (isOperator k) (s .body) (r .start) (s .fill) → s .fill < r .fill → v ≡ packed q (r .fill - s .fill) p → m′ ≡ over m (8 * entries) (highBytes 8 v) → Noted m m′ entries (entries + 1) (notedBy y k p s r)
   unfolding notedBy
   one-noted q v {m′} at-offset grown is put =
       let more : entries + 1 ≡ suc entries = omega arith in
+      let same : length m′ ≡ length m = ap length put ∙ over-length m (8 * entries) (highBytes 8 v) in
       let stored : m′ ≡ over m (8 * entries) (highBytes 8 (packed q (r .fill - s .fill) p)) = put ∙ ap (λ (i : ℕ). over m (8 * entries) (highBytes 8 i)) is in
       record {
-        is = rw (lt-ltb (s .fill) (r .fill) grown, sym at-offset)
-            (ap (logIn m′) more ∙ ap (λ (l : List ℕ). logIn l (suc entries)) stored ∙ log-more m entries q (r .fill - s .fill) p (h .room) (low-offset q at-offset) (omega (arith, h .ready-behind .fill)) (h .small));
-        size = ap length put ∙ over-length m (8 * entries) (highBytes 8 v);
+        is = λ room.
+            rw (lt-ltb (s .fill) (r .fill) grown, sym at-offset)
+            (ap (logIn m′) more ∙ ap (λ (l : List ℕ). logIn l (suc entries)) stored ∙ log-more m entries q (r .fill - s .fill) p (omega arith) (low-offset entries y k p s r h q at-offset) (omega (arith, h .ready-behind .fill)) (h .small));
+        count = λ l e. rw (lt-ltb (s .fill) (r .fill) grown) (omega arith);
+        size = same;
+        no-less = omega arith;
         more = omega arith;
       }

@@ -1,11 +1,10 @@
 -- The marks are as many as the bytes, in any table of strings, and the marks of a tree that is numbered are those of the tree. Assumes nothing.
 use mathlib.Core.Path.{_≡_, refl, sym, ap, _∙_}
 use mathlib.Core.List.{List, [], _∷_, _++_, append-assoc, append-nil}
-use Prim.Native.Nat.{ℕ, zero, suc, _+_, _-_, _≤_, _<_}
+use Prim.Native.Nat.{ℕ, suc, _+_, _-_}
 use native.Mathlib.Omega.{arith}
 use lib.ListN.{length, length-append, replicate, length-replicate}
 use Rattle.wire.specs.Numbers.{highBytes}
-use Rattle.wire.proofs.Laws.{high-length}
 use Rattle.rules.specs.Fields.{Field, field, Fields, none as noFields, more, wrap, write, writeAll}
 use Rattle.notation.specs.Building.{Piece, byte, name, Node, node, Nodes, empty, _▸_, Frame, frame, Build, build}
 use Rattle.notation.specs.Convert.{pieceBytes, headBytes, numbered, numberedOnto}

@@ -13,7 +13,7 @@ use Rattle.rules.proofs.Within.{false-not-true}
 use Rattle.notation.specs.Tokens.{Lexeme, lexeme, word, number, text, variable, topVariable, classVariable, mark, tokenOf, placeOf}
 use Rattle.notation.specs.Building.{Piece, byte, name, Node, node, Nodes, empty, _▸_, leaf, height, Frame, frame, Build, build, Action, begin, beginResource, around, instead, close, constant, read, named, parentFirst, void, enter, leave, act, acts, added, addedFirst, begun, inFront, constantNode, variableNode, spelled, resourceTag}
 use Rattle.notation.proofs.NeedsKept.{none-not-some, same-result}
-use Rattle.text_places.specs.Marks.{headMarks, nodeMarks, partMarks, openingMarks, aroundMarks, frontMarks, openMarks, treeMarks, startOf, bodyOf, sizeOf}
+use Rattle.text_places.specs.Marks.{headMarks, nodeMarks, partMarks, openingMarks, aroundMarks, frontMarks, openMarks, treeMarks, startOf, bodyOf}
 use Rattle.text_places.proofs.Inserting.{Only, header-first, Inserted, Appended, Shortened, nothing-came, appended-both}
 
 -- ---- Heads

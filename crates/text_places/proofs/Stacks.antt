@@ -1,10 +1,9 @@
 -- What stands below what on the grammar's stack, and what rows do by the sort of their symbol: by computing over all rows. Assumes nothing.
-use mathlib.Core.Path.{_≡_, refl, sym, ap, _∙_, subst}
+use mathlib.Core.Path.{_≡_, refl, sym, _∙_, subst}
 use mathlib.Core.Bool.{Bool, true, false, not, _&&_, _||_}
 use mathlib.Core.List.{List, [], _∷_, _++_}
 use mathlib.Core.Option.{Option, none, some}
 use Prim.Native.Nat.{ℕ, suc}
-use native.Mathlib.Omega.{arith}
 use lib.Dec.{leb, eqb}
 use borrow.Author.Tests.{eqb-true, ne-eqb, eq-eqb}
 use Rattle.wire.specs.Bytes.{pick}
@@ -12,7 +11,7 @@ use Rattle.rules.proofs.Lists.{both-left, both-right}
 use Rattle.rules.proofs.Within.{false-not-true}
 use Rattle.notation.specs.Tokens.{aWord, question, leftBrace, rightBrace}
 use Rattle.notation.specs.Building.{byte, Action, begin, beginResource, around, instead, close, constant, read, named, parentFirst, void, enter, leave}
-use Rattle.notation.specs.Grammar.{Entry, arm, attribute, parameter, Symbol, sign, aName, expression, operators, readOrWord, closeBracket, one, maybe, further, statements, block, otherwise, branches, items, classRest, parameters, defaultValue, aConstant, inherits, parent, devices, device, moreDevices, ends, Row, row, operatorByte, operatorRow, operatorIn, levels, binds, rowOf, leftOut, manifest}
+use Rattle.notation.specs.Grammar.{Entry, arm, attribute, parameter, Symbol, sign, aName, expression, operators, readOrWord, closeBracket, one, maybe, further, statements, block, otherwise, branches, items, classRest, parameters, defaultValue, aConstant, inherits, parent, devices, device, moreDevices, ends, Row, row, operatorByte, operatorRow, operatorIn, levels, binds, rowOf, leftOut}
 use Rattle.notation.proofs.NeedsKept.{none-not-some, same-result}
 use Rattle.notation.proofs.TableRows.{rowsOf}
 use Rattle.converter.proofs.RowFacts.{allKeyed, found-keyed}

@@ -1,5 +1,5 @@
 -- A step inserts bytes at the place that is noted, or takes some of the last ones away. Assumes nothing.
-use Prim.Native.Nat.{ℕ, suc, _+_}
+use Prim.Native.Nat.{ℕ, _+_}
 use mathlib.Core.Path.{_≡_, refl, sym, ap, _∙_, subst}
 use mathlib.Core.Bool.{Bool, true, false, not, _&&_, _||_}
 use mathlib.Core.List.{List, [], _∷_, _++_, append-nil}
@@ -12,13 +12,13 @@ use borrow.Author.Tests.{eqb-true, eqb-false}
 use Rattle.wire.specs.Bytes.{pick}
 use Rattle.rules.proofs.Within.{false-not-true}
 use Rattle.notation.specs.Tokens.{Lexeme, lexeme, word, number, text, variable, topVariable, classVariable, mark, kind, tokenOf, placeOf, aWord}
-use Rattle.notation.specs.Building.{Piece, _▸_, Frame, frame, Build, build, start, Action, begin, beginResource, around, instead, close, constant, read, named, parentFirst, void, enter, leave, act, acts, added, constantNode}
+use Rattle.notation.specs.Building.{frame, Build, build, start, Action, begin, beginResource, around, instead, close, constant, read, named, parentFirst, void, enter, leave, act, acts, added, constantNode}
 use Rattle.notation.specs.Grammar.{Symbol, row, rowOf, leftOut, manifest, to, step}
 use Rattle.notation.proofs.NeedsKept.{none-not-some, same-result}
 use Rattle.text_places.specs.Marks.{treeMarks, startOf, bodyOf, sizeOf}
 use Rattle.text_places.specs.Log.{Insertion, Leads, isOperator, sort, topBeforeParts, insertedAt, noted}
 use Rattle.text_places.proofs.Inserting.{Inserted, Appended, Shortened, Moved, inserted, shortened, moved-leads, nothing-came, appended-both, appended-inserted}
-use Rattle.text_places.proofs.MarkedTree.{LastLeaf, EndsInLeaf, appends, fitted, closed-same, acts-grown, named-inserts, parent-inserts, around-inserts, instead-shortens}
+use Rattle.text_places.proofs.MarkedTree.{EndsInLeaf, appends, fitted, closed-same, acts-grown, named-inserts, parent-inserts, around-inserts, instead-shortens}
 use Rattle.text_places.proofs.Stacks.{codeOf, soleCode, blocked, next, Stacked, plainTop, wordOnTop, plain-below, Left, leftAlone, leftClosed, leftEmpty, out-left, GoodRow, good-row, row-good}
 use Rattle.text_places.proofs.StepCases.{by-step}
 

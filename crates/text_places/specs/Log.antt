@@ -9,8 +9,9 @@ use Rattle.wire.specs.Bytes.{pick, byte as at}
 use Rattle.wire.specs.Numbers.{number}
 use Rattle.wire.specs.Runs.{bytesAt}
 use Rattle.notation.specs.Tokens.{Lexeme, kind, tokenOf, placeOf, question, plusSign, orWord}
-use Rattle.notation.specs.Building.{Build}
-use Rattle.notation.specs.Grammar.{Symbol, sign, aName, expression, operators, readOrWord, closeBracket, one, maybe, further, statements, block, otherwise, branches, items, classRest, parameters, defaultValue, aConstant, inherits, parent, devices, device, moreDevices, ends}
+use Rattle.notation.specs.Building.{Build, start}
+use Rattle.notation.specs.Lexing.{tokens}
+use Rattle.notation.specs.Grammar.{Symbol, sign, aName, expression, operators, readOrWord, closeBracket, one, maybe, further, statements, block, otherwise, branches, items, classRest, parameters, defaultValue, aConstant, inherits, parent, devices, device, moreDevices, ends, manifest, stuck, to, step}
 use Rattle.parse_table.specs.Codes.{symbolOf}
 use Rattle.tree_builder.specs.declared.Building.{Building}
 use Rattle.tree_builder.specs.Shows.{Ready}
@@ -79,6 +80,15 @@ noted k x f g l =
     (insertion (insertedAt (topBeforeParts k) (isOperator (kind (tokenOf x))) (bodyOf f) (startOf g) (sizeOf f)) (sizeOf g - sizeOf f) (placeOf x) ∷ l)
     l
 
+-- the log behind some tokens: one entry for each that inserts
+unfoldable pub logged : List Lexeme → List Symbol → Build → List Insertion → List Insertion
+logged [] k f l = l
+logged (x ∷ xs) k f l = elim (step k x f) as (λ o. List Insertion) [ stuck ↦ l | to k′ g ↦ logged xs k′ g (noted k x f g l) ]
+
+-- the log of a text
+unfoldable pub textLog : (t : List ℕ) → List Insertion
+textLog t = logged (tokens t) manifest start []
+
 -- ---- The log in bytes: three for the offset, three for the size, two for the place
 
 abbrev pub packed : (from size place : ℕ) → ℕ
@@ -98,14 +108,16 @@ notedBy y k p s r l =
     pick (ltb (s .fill) (r .fill)) (insertion (insertedAt (eqb (sort (symbolOf y)) 1) (isOperator k) (s .body) (r .start) (s .fill)) (r .fill - s .fill) p ∷ l) l
 
 -- what noting it asks for
-pub record Notable (log : List ℕ) (entries place : ℕ) (before behind : Building) : Type 0 where
-  pub room : 8 * entries + 8 ≤ length log
+pub record Notable (entries place : ℕ) (before behind : Building) : Type 0 where
+  pub few : entries ≤ 65536
   pub small : place < 65536
   pub ready : Ready before
   pub ready-behind : Ready behind
 
--- what it does: there is one entry more, or none
-pub record Noted (log₀ log : List ℕ) (entries r : ℕ) (wanted : List Insertion) : Type 0 where
-  pub is : logIn log r ≡ wanted
+-- what it does: there is one entry more, or none. All are counted, and they are in the log if it has room for them
+pub record Noted (log₀ log : List ℕ) (entries r : ℕ) (noting : List Insertion → List Insertion) : Type 0 where
+  pub is : 8 * r ≤ length log → logIn log r ≡ noting (logIn log₀ entries)
+  pub count : (l : List Insertion) → length l ≡ entries → length (noting l) ≡ r
   pub size : length log ≡ length log₀
+  pub no-less : entries ≤ r
   pub more : r ≤ entries + 1

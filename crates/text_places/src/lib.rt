@@ -1,2 +1,3 @@
 // From a field of the manifest that a text gives back to the token of the text that brought it.
-pub mod log; // log.rt: which bytes each token inserted
+mod log; // log.rt: which bytes each token inserted
+pub mod places; // places.rt: the reading of a text with the log

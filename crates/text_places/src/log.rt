@@ -5,6 +5,7 @@ ghost use lib.Dec.{eqb};
 ghost use lib.ListN.{length};
 ghost use Rattle.parse_table.specs.Codes.{symbolOf};
 ghost use Rattle.text_places.specs.Log.{followed, isOperator, sort, insertedAt, notedBy, logIn, Notable, Noted};
+use lexer::Token;
 use notation::kinds::OR_WORD;
 use notation::kinds::PLUS_SIGN;
 use notation::kinds::QUESTION;
@@ -41,25 +42,25 @@ fn inserted_at(symbol: u8, kind: u8, before: Building, behind: Building) -> usiz
     before.fill
 }
 
-// Notes what a token of this kind at `place` did, by the state before it and behind it: the number of entries.
+// Notes what a token did, by the symbol that was on top and the state before it and behind it: the number of entries. One that has no room in the log is
+// counted.
 pub fn note(
     log: &mut [u8],
     entries: usize,
     symbol: u8,
-    kind: u8,
-    place: usize,
+    token: Token,
     before: Building,
     behind: Building,
 ) -> usize
-    requires { ⌜ Notable (now log) entries place before behind ⌝ }
-    ensures { λ r. ⌜ Noted (now (log .entry)) (now (log .exit)) entries r (notedBy symbol kind place before behind (logIn (now (log .entry)) entries)) ⌝ }
+    requires { ⌜ Notable entries (token .start) before behind ⌝ }
+    ensures { λ r. ⌜ Noted (now (log .entry)) (now (log .exit)) entries r (notedBy symbol (token .kind) (token .start) before behind) ⌝ }
 {
     if behind.fill <= before.fill {
         return entries;
     }
-    let from = inserted_at(symbol, kind, before, behind);
+    let from = inserted_at(symbol, token.kind, before, behind);
     let size = behind.fill - before.fill;
-    let entry = from * 1099511627776 + (size * 65536 + place);
+    let entry = from * 1099511627776 + (size * 65536 + token.start);
     wire::put_eight(log, 8 * entries, entry as u64);
     entries + 1
 }

@@ -2,7 +2,6 @@
 use mathlib.Core.Path.{_≡_, refl, sym, _∙_}
 use Prim.Native.Nat.{_-_, _≤_}
 use native.Mathlib.Omega.{arith}
-use borrow.Author.Needs.{needs}
 use Rattle.text_places.specs.Log.{followed, logIn}
 use Rattle.text_places.proofs.Logging.{behind-entry, in-entry, before-entry, no-entry}
 use Rattle.text_places.proofs.log.follow.Statement.{statement}

@@ -1,0 +1,63 @@
+-- The place that is told, once the text is read with the log. Assumes nothing.
+use mathlib.Core.Path.{_≡_, sym, ap, _∙_, subst}
+use mathlib.Core.List.{List, []}
+use Prim.Native.Nat.{ℕ, _-_, _*_, _≤_, _<_}
+use native.Mathlib.Omega.{arith}
+use lib.ListN.{length}
+use Rattle.rules.specs.Outcome.{Outcome, done}
+use Rattle.notation.specs.Building.{Nodes}
+use Rattle.notation.specs.Lexing.{tokens}
+use Rattle.notation.specs.Convert.{textItems, tableBehind, manifestFields}
+use Rattle.notation.proofs.WrittenNames.{noString}
+use Rattle.interner.specs.Table.{listed, strings}
+use Rattle.converter.specs.Reading.{Readable}
+use Rattle.interner.specs.TableField.{tableBytes}
+use Rattle.text_places.specs.Marks.{Begins}
+use Rattle.text_places.specs.Log.{followed, logIn}
+use Rattle.text_places.specs.Places.{NotedWhole, TextNoted, PlaceTold}
+use Rattle.text_places.specs.declared.places.NotedText.{NotedText}
+use Rattle.text_places.specs.declared.places.NotedText.the-variants.{Whole, Refused}
+use Rattle.text_places.proofs.InManifest.{in-table, in-items}
+
+same-items : {a b : Nodes} → _≡_ {A = Outcome Nodes} (done a) (done b) → a ≡ b
+same-items e = cc
+
+-- no string is read yet
+pub nothing-read : (t m st tb : List ℕ) → length t ≤ 65535 → 256 ≡ length m → 468 ≡ length st → 2050 ≡ length tb → Readable t [] m st tb 0
+unfolding strings listed
+nothing-read t m st tb short slots room table =
+    record { short = short; slots = omega arith; room = omega arith; enterable = record { rising = noString; small = omega arith; room = omega arith }; known = λ some. absurd (omega arith) }
+
+-- nothing is promised
+pub told-any : (t : List ℕ) (offset room : ℕ) → (length t ≤ 65535 → (items : Nodes) → textItems (tokens t) ≡ done items → ⊥) → PlaceTold t offset room 0
+told-any t offset room none = record { low = omega arith; right = λ short roomy items e p b. absurd (none short items e) }
+
+-- what reading with the log answers
+pub whole-told : {t table log : List ℕ} {count entries : ℕ} (r : NotedText) → r ≡ Whole count entries → TextNoted t r table log → NotedWhole t table log count entries
+unfolding TextNoted
+whole-told {t} {table} {log} r e h = subst (λ (a : NotedText). TextNoted t a table log) e h
+
+pub refused-told : {t : List ℕ} {offset room : ℕ} (table log : List ℕ) (r : NotedText) → r ≡ Refused → TextNoted t r table log → PlaceTold t offset room 0
+unfolding TextNoted
+refused-told {t} {offset} {room} table log r e h = told-any t offset room (λ short. subst (λ (a : NotedText). TextNoted t a table log) e h)
+
+pub same-room : {t : List ℕ} {offset told : ℕ} (m n : ℕ) → m ≡ n → PlaceTold t offset m told → PlaceTold t offset n told
+same-room {t} {offset} {told} m n e h = subst (λ (k : ℕ). PlaceTold t offset k told) e h
+
+module _ (t table log : List ℕ) (count entries offset n : ℕ) (w : NotedWhole t table log count entries) (size : n ≡ length (tableBytes t table count)) where
+  -- the field, in the strings that the code has
+  begun : (items : Nodes) (p : ℕ) → Begins (manifestFields (tableBehind (tokens t) []) items) offset p → Begins (manifestFields (strings t table count) items) offset p
+  begun items p b = subst (λ (S : List (List ℕ)). Begins (manifestFields S items) offset p) (sym (w .table-is)) b
+
+  pub told-string : (room : ℕ) → offset < n → PlaceTold t offset room 0
+  told-string room near = record { low = omega arith; right = λ short roomy items e p b. sym (in-table (strings t table count) items offset p (begun items p b) (omega arith)) }
+
+  pub told-item : (r : ℕ) → n ≤ offset → 8 * entries ≤ length log → r ≡ followed (logIn log entries) (offset - n) → r < 65536 → PlaceTold t offset (length log) r
+  told-item r far room is low =
+      record {
+        low = low;
+        right = λ short roomy items e p b.
+            let same : items ≡ w .items = same-items (sym e ∙ w .read) in
+            let marked = in-items (strings t table count) items offset p (begun items p b) (omega arith) in
+            is ∙ ap (λ (k : ℕ). followed (logIn log entries) (offset - k)) size ∙ w .leads room .leads _ p (rw (sym same) marked);
+      }

@@ -1,0 +1,28 @@
+-- `place_in`: a string, or an item to which the log leads.
+use native.Mathlib.Omega.{arith}
+use borrow.Author.Needs.{needs}
+use Rattle.text_places.proofs.Telling.{told-string, told-item}
+use Rattle.text_places.proofs.places.place_in.Statement.{statement}
+use Rattle.text_places.proofs.places.place_in.Tie as tie
+
+table-size-requires : tie.Need-table-size-requires
+table-size-requires c κs = search needs
+
+returns : tie.Need-returns
+returns c = told-string _ _ _ _ _ _ _ (c .before .before .before .before .before .pre .2) (c .before .table-size .ensures) _ (c .if1 .taken)
+
+mul-if2 : tie.Need-mul-if2
+mul-if2 c = search needs
+
+returns-2 : tie.Need-returns-2
+returns-2 c = search needs
+
+follow-requires : tie.Need-follow-requires
+follow-requires c κs = search needs
+
+returns-3 : tie.Need-returns-3
+returns-3 c = let f = c .follow .ensures in told-item _ _ _ _ _ _ _ (c .before .before .before .before .before .before .before .pre .2) (c .before .before .before .table-size .ensures) _ (omega arith) (omega arith) (f .0) (f .1)
+
+pub place-in-spec : {M : Type 1} → statement M
+place-in-spec =
+    tie.close (tie.spec table-size-requires returns mul-if2 returns-2 follow-requires returns-3)

@@ -1,0 +1,38 @@
+-- What is told of a field of the manifest that a text gives: the place of the token that brought it.
+use Prim.Native.Nat.{ℕ, _*_, _≤_, _<_}
+use mathlib.Core.Path.{_≡_}
+use mathlib.Core.List.{List, []}
+use lib.ListN.{length}
+use Rattle.rules.specs.Outcome.{done}
+use Rattle.notation.specs.Building.{Nodes}
+use Rattle.notation.specs.Lexing.{tokens}
+use Rattle.notation.specs.Convert.{textItems, tableBehind, manifestFields}
+use Rattle.interner.specs.Table.{strings}
+use Rattle.text_places.specs.declared.places.NotedText.{NotedText}
+use Rattle.text_places.specs.declared.places.NotedText.the-variants.{Whole, Refused}
+use Rattle.text_places.specs.Marks.{Begins, partMarks}
+use Rattle.text_places.specs.Log.{Leads, textLog, logIn}
+
+-- eight bytes of the log for each token that inserts bytes. 524,288 are always enough: such a token has a byte of its own, but for the end of the text
+abbrev pub Roomy : (t : List ℕ) → (room : ℕ) → Type 0
+Roomy t n = 8 * length (textLog t) ≤ n
+
+-- the whole text is read, and the log leads from the fields of its items if it has room for all entries
+pub record NotedWhole (t table log : List ℕ) (count entries : ℕ) : Type 0 where
+  pub items : Nodes
+  pub read : textItems (tokens t) ≡ done items
+  pub table-is : strings t table count ≡ tableBehind (tokens t) []
+  pub few : count ≤ 1024
+  pub entries-are : entries ≡ length (textLog t)
+  pub low : entries ≤ 65536
+  pub leads : 8 * entries ≤ length log → Leads (logIn log entries) (partMarks items)
+
+unfoldable pub TextNoted : (t : List ℕ) → NotedText → (table log : List ℕ) → Type 0
+TextNoted t (Whole count entries) table log = NotedWhole t table log count entries
+TextNoted t Refused table log = (items : Nodes) → textItems (tokens t) ≡ done items → ⊥
+
+-- of a text that is not too long and gives items, with a log that has room: the place that the field at an offset of the manifest came with. The table of
+-- strings came with no token, which is told as place 0. In all other cases any place may be told
+pub record PlaceTold (t : List ℕ) (offset room told : ℕ) : Type 0 where
+  pub low : told < 65536
+  pub right : length t ≤ 65535 → Roomy t room → (items : Nodes) → textItems (tokens t) ≡ done items → (place : ℕ) → Begins (manifestFields (tableBehind (tokens t) []) items) offset place → told ≡ place

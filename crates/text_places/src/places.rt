@@ -1,0 +1,133 @@
+// The place in a text of a field of its manifest: the text is read as the converter reads it, and what each token inserts is noted.
+ghost use mathlib.Core.Path.{_≡_};
+ghost use Prim.Native.Nat.{_≤_};
+ghost use lib.Dec.{eqb};
+ghost use lib.ListN.{length};
+ghost use Rattle.parse_table.specs.Codes.{symbolOf};
+ghost use Rattle.parse_table.specs.Stack.{stackOf};
+ghost use Rattle.converter.specs.Reading.{Readable};
+ghost use Rattle.text_places.specs.Log.{sort, topBeforeParts};
+ghost use Rattle.text_places.specs.Places.{NotedWhole, TextNoted, PlaceTold};
+use crate::log::follow;
+use crate::log::note;
+use converter::steps::Machine;
+use converter::text::Pass;
+use converter::text::Read;
+use converter::text::read_token;
+use interner::fields::table_size;
+use lexer::next_token;
+use parse_table::stack::MANIFEST;
+use parse_table::stack::push;
+use tree_builder::nothing;
+
+// What comes of a text: how many strings and how many entries of the log it has, or that it is refused.
+pub enum NotedText {
+    Whole { count: usize, entries: usize },
+    Refused,
+}
+
+// The symbol on top of the stack; 0 where there is none.
+fn top_symbol(stack: &[u8], top: usize) -> u8
+    requires { ⌜ top ≤ length (now stack) ⌝ }
+    ensures { λ r. ⌜ topBeforeParts (stackOf (now (stack .entry)) top) ≡ eqb (sort (symbolOf r)) 1 ⌝ }
+{
+    if top == 0 {
+        return 0;
+    }
+    stack[top - 1]
+}
+
+// All tokens of a text, with the log.
+fn note_text(
+    text: &[u8],
+    out: &mut [u8],
+    frames: &mut [u8],
+    stack: &mut [u8],
+    table: &mut [u8],
+    log: &mut [u8],
+) -> NotedText
+    requires { ⌜ Readable (now text) (now out) (now frames) (now stack) (now table) 0 ⌝ }
+    ensures { λ r. ⌜ TextNoted (now (text .entry)) r (now (table .exit)) (now (log .exit)) ⌝ }
+{
+    let top = push(stack, 1, MANIFEST);
+    let mut pass = Pass {
+        at: 0,
+        line: 0,
+        operand: true,
+        machine: Machine {
+            top: top,
+            building: nothing(),
+        },
+        count: 0,
+    };
+    let mut entries: usize = 0;
+    loop {
+        let machine = pass.machine;
+        let before = machine.building;
+        let symbol = top_symbol(stack, machine.top);
+        let token = next_token(text, pass.at, pass.line, pass.operand);
+        match read_token(text, out, frames, stack, table, pass) {
+            Read::On(next) => {
+                let behind = next.machine;
+                entries = note(log, entries, symbol, token, before, behind.building);
+                pass = next;
+            }
+            Read::Done(last) => {
+                let behind = last.machine;
+                let all = note(log, entries, symbol, token, before, behind.building);
+                return NotedText::Whole {
+                    count: last.count,
+                    entries: all,
+                };
+            }
+            Read::Fault(place) => return NotedText::Refused,
+        }
+    }
+}
+
+// The same, where the text is read: its table of strings comes before all else and came with no token.
+fn place_in(
+    text: &[u8],
+    table: &[u8],
+    log: &[u8],
+    count: usize,
+    entries: usize,
+    field: usize,
+) -> usize
+    requires { ⌜ (length (now text) ≤ 65535) × (2050 ≤ length (now table)) × NotedWhole (now text) (now table) (now log) count entries ⌝ }
+    ensures { λ r. ⌜ PlaceTold (now (text .entry)) field (length (now (log .entry))) r ⌝ }
+{
+    let strings = table_size(text, table, count);
+    if field < strings {
+        return 0;
+    }
+    if log.len() < 8 * entries {
+        return 0;
+    }
+    follow(log, entries, field - strings)
+}
+
+// The place in the text of the token that brought the field at the offset `field` of the text's manifest. The log needs eight bytes for each token that
+// inserts bytes.
+pub fn field_place(text: &[u8], field: usize, log: &mut [u8]) -> usize
+    ensures { λ r. ⌜ PlaceTold (now (text .entry)) field (length (now (log .entry))) r ⌝ }
+{
+    if 65535 < text.len() {
+        return 0;
+    }
+    let mut out = [0u8; 1];
+    let mut frames = [0u8; 256];
+    let mut stack = [0u8; 468];
+    let mut table = [0u8; 2050];
+    match note_text(
+        text,
+        &mut out[0..0],
+        &mut frames,
+        &mut stack,
+        &mut table,
+        log,
+    ) {
+        NotedText::Whole { count, entries } => place_in(text, &table, log, count, entries, field),
+        NotedText::Refused => 0,
+    }
+}
