@@ -1,10 +1,10 @@
 -- Marks inserted among others: where the log led before, it leads with one entry more. Assumes nothing.
-use mathlib.Core.Path.{_≡_, refl, sym, ap, _∙_, subst}
+use mathlib.Core.Path.{_≡_, refl, sym, ap, _∙_}
 use mathlib.Core.Bool.{Bool, true, false}
 use mathlib.Core.List.{List, [], _∷_, _++_, append-assoc, append-nil}
-use Prim.Native.Nat.{ℕ, zero, suc, _+_, _-_, _≤_}
+use Prim.Native.Nat.{ℕ, zero, suc, _+_, _-_, _≤_, _<_}
 use native.Mathlib.Omega.{arith}
-use borrow.Author.Tests.{leb-true, leb-false, ltb-true, ltb-false}
+use borrow.Author.Tests.{le-leb, lt-leb, leb-true, leb-false, ltb-true, ltb-false}
 use lib.Dec.{leb, ltb}
 use lib.ListN.{length, length-append, List·getD-append, List·getD-eq-default}
 use lib.Seq.{getD-append-add}
@@ -52,28 +52,30 @@ no-length : (ms : List ℕ) → length ms ≤ 0 → ms ≡ []
 no-length [] h = refl
 no-length (m ∷ ms) h = absurd (omega arith)
 
--- ---- One entry more
+-- ---- Where a field that begins now was before: it stayed, it moved up, or it came
 
-module _ (l : List Insertion) (xs ns ys : List ℕ) (place : ℕ) (whose : Only place ns) (h : Leads l (xs ++ ys)) where
-  one-more : (o p : ℕ) → at (xs ++ (ns ++ ys)) o ≡ suc p → followed (insertion (length xs) (length ns) place ∷ l) o ≡ p
-  unfolding followed
-  one-more o p e = go (leb (length xs + length ns) o) refl (leb (length xs) o) refl
+pub data Origin (from size place : ℕ) (old : List ℕ) (offset p : ℕ) : Type 0 where
+  stayed : offset < from → at old offset ≡ suc p → Origin from size place old offset p
+  moved : from + size ≤ offset → at old (offset - size) ≡ suc p → Origin from size place old offset p
+  came : from ≤ offset → offset < from + size → p ≡ place → Origin from size place old offset p
+
+module _ (xs ns ys : List ℕ) (place : ℕ) (whose : Only place ns) (o p : ℕ) (e : at (xs ++ (ns ++ ys)) o ≡ suc p) where
+  origin : Origin (length xs) (length ns) place (xs ++ ys) o p
+  origin = go (leb (length xs + length ns) o) refl (leb (length xs) o) refl
     where
-      go : (b : Bool) → leb (length xs + length ns) o ≡ b → (c : Bool) → leb (length xs) o ≡ c → pick b (followed l (o - length ns)) (pick c place (followed l o)) ≡ p
+      go : (b : Bool) → leb (length xs + length ns) o ≡ b → (c : Bool) → leb (length xs) o ≡ c → Origin (length xs) (length ns) place (xs ++ ys) o p
       go true i c j =
           let far = leb-true (length xs + length ns) o i in
           let same : o - length xs - length ns ≡ o - length ns - length xs = omega arith in
-          let moved : at (xs ++ ys) (o - length ns) ≡ at (xs ++ (ns ++ ys)) o =
-          behind-front xs ys (o - length ns) (omega arith) ∙ ap (at ys) (sym same) ∙ sym (behind-front ns ys (o - length xs) (omega arith)) ∙ sym (behind-front xs (ns ++ ys) o (omega arith)) in
-          h .leads (o - length ns) p (moved ∙ e)
+          moved far
+          (behind-front xs ys (o - length ns) (omega arith) ∙ ap (at ys) (sym same) ∙ sym (behind-front ns ys (o - length xs) (omega arith)) ∙ sym (behind-front xs (ns ++ ys) o (omega arith)) ∙ e)
       go false i true j =
           let near = leb-false (length xs + length ns) o i in
           let far = leb-true (length xs) o j in
-          let inside : at ns (o - length xs) ≡ suc p = sym (List·getD-append ns ys 0 (o - length xs) (omega arith)) ∙ sym (behind-front xs (ns ++ ys) o far) ∙ e in
-          sym (whose .only (o - length xs) p inside)
+          came far near (whose .only (o - length xs) p (sym (List·getD-append ns ys 0 (o - length xs) (omega arith)) ∙ sym (behind-front xs (ns ++ ys) o far) ∙ e))
       go false i false j =
           let near = leb-false (length xs) o j in
-          h .leads o p (List·getD-append xs ys 0 o (omega arith) ∙ sym (List·getD-append xs (ns ++ ys) 0 o (omega arith)) ∙ e)
+          stayed near (List·getD-append xs ys 0 o (omega arith) ∙ sym (List·getD-append xs (ns ++ ys) 0 o (omega arith)) ∙ e)
 
 module _ {from place : ℕ} {old new : List ℕ} (i : Inserted from place old new) where
   grown : length new ≡ length old + length (i .come)
@@ -81,14 +83,20 @@ module _ {from place : ℕ} {old new : List ℕ} (i : Inserted from place old ne
       ap length (i .after)
       ∙ omega (arith, length-append (i .front) (i .come ++ i .behind), length-append (i .come) (i .behind), ap length (i .before), length-append (i .front) (i .behind))
 
-  inserted-leads : {l : List Insertion} → Leads l old → Leads (insertion from (length new - length old) place ∷ l) new
-  inserted-leads {l} h =
+  pub inserted-origin : (o p : ℕ) → at new o ≡ suc p → Origin from (length new - length old) place old o p
+  inserted-origin o p e =
       let wide : length new - length old ≡ length (i .come) = omega (arith, grown) in
-      record {
-        leads = λ o p e.
-            rw (i .offset, wide)
-            (one-more l (i .front) (i .come) (i .behind) place (i .whose) (subst (Leads l) (i .before) h) o p (ap (λ (ms : List ℕ). at ms o) (sym (i .after)) ∙ e));
-      }
+      rw (i .offset, wide, i .before) (origin (i .front) (i .come) (i .behind) place (i .whose) o p (ap (λ (ms : List ℕ). at ms o) (sym (i .after)) ∙ e))
+
+  -- one entry more
+  inserted-leads : {l : List Insertion} → Leads l old → Leads (insertion from (length new - length old) place ∷ l) new
+  unfolding followed
+  inserted-leads {l} h = record { leads = λ o p e. go o p (inserted-origin o p e) }
+    where
+      go : (o p : ℕ) → Origin from (length new - length old) place old o p → pick (leb (from + (length new - length old)) o) (followed l (o - (length new - length old))) (pick (leb from o) place (followed l o)) ≡ p
+      go o p (stayed near e) = rw (lt-leb (from + (length new - length old)) o (omega arith), lt-leb from o near) (h .leads o p e)
+      go o p (moved far e) = rw (le-leb (from + (length new - length old)) o far) (h .leads (o - (length new - length old)) p e)
+      go o p (came far near e) = rw (lt-leb (from + (length new - length old)) o near, le-leb from o far) (sym e)
 
   -- where no byte came, all is as it was
   inserted-none : length new ≤ length old → Shortened old new

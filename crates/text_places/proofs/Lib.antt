@@ -6,5 +6,6 @@ pub mod StepMoves
 pub mod Logging
 pub mod MarkedBytes
 pub mod InManifest
+pub mod TextLeads
 pub mod Noting
 pub mod Telling

@@ -1,23 +1,20 @@
--- A text read with the log: each token that is taken is noted, and the log leads from the fields of the tree. Assumes nothing.
-use mathlib.Core.Path.{_≡_, refl, sym, ap, _∙_, subst}
+-- A text read with the log: each token that is taken is noted, as the log of the text says. Assumes nothing.
+use mathlib.Core.Path.{_≡_, refl, sym, ap, _∙_}
 use mathlib.Core.Bool.{Bool, true, false}
 use mathlib.Core.List.{List, [], _∷_, _++_}
-use mathlib.Core.Option.{Option, none, some}
 use Prim.Native.Nat.{ℕ, _+_, _-_, _*_, _≤_, _<_}
 use native.Mathlib.Omega.{arith}
 use borrow.Author.Tests.{eqb-true, eqb-false}
 use lib.Dec.{eqb}
 use lib.ListN.{length}
-use Rattle.values.specs.declared.Reason.{Reason}
 use Rattle.rules.specs.Bytes.{byte, pick}
 use Rattle.rules.specs.EditRule.{IsBytes}
-use Rattle.rules.specs.Outcome.{Outcome, refused, done}
 use Rattle.notation.specs.Tokens as tokens
 use Rattle.notation.specs.Tokens.{Lexeme, lexeme, topVariable, classVariable, mark, kind, tokenOf, placeOf, aWord, aNumber, aText, aVariable, aQualified, endOfText, malformed}
 use Rattle.notation.specs.Lexing.{tokens as tokensOf}
-use Rattle.notation.specs.Building.{Nodes, frame, Build, build, start}
-use Rattle.notation.specs.Grammar.{Symbol, to, step, Ended, built, fault, run, reading, manifest}
-use Rattle.notation.specs.Convert.{readText, crowdedAt, textItems}
+use Rattle.notation.specs.Building.{Build, start}
+use Rattle.notation.specs.Grammar.{Symbol, to, step, manifest}
+use Rattle.notation.specs.Convert.{textItems}
 use Rattle.lexer.specs.declared.Token.{Token}
 use Rattle.lexer.specs.Found.{tokensFrom, tokenIn, Found}
 use Rattle.interner.specs.Table.{listed, strings}
@@ -32,13 +29,12 @@ use Rattle.converter.specs.declared.text.Pass.{Pass}
 use Rattle.converter.specs.declared.text.Read.{Read}
 use Rattle.converter.specs.declared.text.Read.the-variants.{On, Done, Fault}
 use Rattle.converter.specs.Reading.{tokensLeft, symbolsOf, stringsSoFar, TokenTaken, ReadSo, ReadsToken, Readable, TextRead}
-use Rattle.converter.proofs.TextRead.{Along, going-first, answer, filled-next, run-next, going-next, along-next, whole-read, refused-read}
-use Rattle.converter.proofs.OutermostHead.{outermost}
-use Rattle.text_places.specs.Marks.{headMarks, partMarks, openingMarks, aroundMarks, frontMarks, openMarks, treeMarks, startOf, bodyOf, sizeOf}
-use Rattle.text_places.specs.Log.{Insertion, Leads, isOperator, sort, topBeforeParts, noted, logged, textLog, notedBy, logIn, Notable, Noted}
+use Rattle.converter.proofs.TextRead.{Along, going-first, answer, filled-next, going-next, along-next, whole-read, refused-read}
+use Rattle.text_places.specs.Marks.{startOf, bodyOf, sizeOf}
+use Rattle.text_places.specs.Log.{Insertion, isOperator, sort, topBeforeParts, noted, logged, textLog, notedBy, logIn, Notable, Noted}
 use Rattle.text_places.specs.Places.{TextNoted}
 use Rattle.text_places.specs.declared.places.NotedText.the-variants.{Whole, Refused}
-use Rattle.text_places.proofs.StepMoves.{Sound, start-sound, step-sound, step-leads}
+use Rattle.text_places.proofs.TextLeads.{refused-not-done}
 use Rattle.text_places.proofs.MarkedBytes.{shown-start, shown-body, shown-size}
 
 -- ---- The token in hand
@@ -81,37 +77,12 @@ found-first t at line o r x xs f e = go (eqb (r .kind) endOfText) refl (eqb (r .
     go false i true j = let k = eqb-true (r .kind) malformed j in in-hand r x (mark malformed) (same-first (sym (f .at-fault k .begins) ∙ e)) (sym k)
     go false i false j = in-hand r x (tokenIn t r) (same-first (sym (f .first (eqb-false (r .kind) endOfText i) (eqb-false (r .kind) malformed j)) ∙ e)) (kind-in t r)
 
--- ---- The end
-
-refused-not-done : {A : Type 0} {r : Reason} {p : ℕ} {items : Nodes} → _≡_ {A = Outcome Nodes} (refused r p) (done items) → A
-refused-not-done e = let z : _≡_ {A = ℕ} 0 1 = cc in absurd (omega arith)
-
-of-outcome : (nodes : Nodes) (o : Option ℕ) (items : Nodes) → readText (built (build 0 (frame 0 0 [] nodes) [])) o ≡ done items → treeMarks (build 0 (frame 0 0 [] nodes) []) ≡ partMarks items
-unfolding readText treeMarks openMarks frontMarks aroundMarks openingMarks headMarks
-of-outcome nodes none items e = let same : nodes ≡ items = cc in ap partMarks same
-of-outcome nodes (some q) items e = refused-not-done e
-
-fault-outcome : {A : Type 0} (p : ℕ) (o : Option ℕ) (items : Nodes) → readText (fault p) o ≡ done items → A
-unfolding readText
-fault-outcome p none items e = refused-not-done e
-fault-outcome p (some q) items e = refused-not-done e
-
--- the tree of a text that gives items is theirs
-items-marks : (t : List ℕ) (S : List (List ℕ)) (k : List Symbol) (g : Build) (items : Nodes) → IsBytes t → reading (tokensOf t) ≡ run [] k g → readText (reading (tokensOf t)) (crowdedAt (tokensOf t) S) ≡ done items → treeMarks g ≡ partMarks items
-unfolding run
-items-marks t S (s ∷ k) g items bytes e h = fault-outcome 0 (crowdedAt (tokensOf t) S) items (ap (λ (d : Ended). readText d (crowdedAt (tokensOf t) S)) (sym e) ∙ h)
-items-marks t S [] g items bytes e h =
-    let all = outermost t bytes g e in
-    ap treeMarks (all .same) ∙ of-outcome (all .nodes) (crowdedAt (tokensOf t) S) items (ap (λ (d : Build). readText (built d) (crowdedAt (tokensOf t) S)) (sym (all .same)) ∙ ap (λ (d : Ended). readText d (crowdedAt (tokensOf t) S)) (sym e) ∙ h)
-
 -- ---- The loop
 
--- behind some tokens: the log so far leads from the fields of the tree, and goes on to that of the text
+-- behind some tokens: the log so far goes on to that of the text
 pub record Noting (t out₀ m₀ st₀ tb₀ log₀ out m st tb log : List ℕ) (p : Pass) (entries : ℕ) : Type 0 where
   pub along : Along t (strings t tb₀ 0) out₀ m₀ st₀ tb₀ out m st tb p
-  pub sound : Sound (symbolsOf st p) (along .going .ready .tree)
   pub so-far : List Insertion
-  pub leads : Leads so-far (treeMarks (along .going .ready .tree))
   pub same-log : textLog t ≡ logged (tokensLeft t p) (symbolsOf st p) (along .going .ready .tree) so-far
   pub count : length so-far ≡ entries
   pub written : 8 * entries ≤ length log → logIn log entries ≡ so-far
@@ -164,9 +135,6 @@ module _ (t out₀ m₀ st₀ tb₀ log₀ out m st tb log : List ℕ) (p : Pass
         noted-so (symbolsOf st p) (w .token) f (w .tree) y (r .kind) (r .start) s (next .machine .building) (g .so-far) top (hand .kind-is) (hand .place)
         (shown-size (stringsSoFar t tb p) s m out f here) (shown-body (stringsSoFar t tb p) s m out f here) (shown-size (stringsSoFar t tb′ next) (next .machine .building) m′ out′ (w .tree) (w .shows)) (shown-start (stringsSoFar t tb′ next) (next .machine .building) m′ out′ (w .tree) (w .shows))
 
-    taken-leads : Leads longer (treeMarks (w .tree))
-    taken-leads = step-leads (w .token) (symbolsOf st′ next) (w .tree) (symbolsOf st p) f (g .so-far) (w .stepped) (g .sound) (g .leads)
-
     taken-log : textLog t ≡ logged rest (symbolsOf st′ next) (w .tree) longer
     taken-log = g .same-log ∙ ap (λ (ys : List Lexeme). logged ys (symbolsOf st p) f (g .so-far)) (w .first) ∙ logged-on (w .token) rest (symbolsOf st p) f (symbolsOf st′ next) (w .tree) (g .so-far) (w .stepped)
 
@@ -176,9 +144,6 @@ module _ (t out₀ m₀ st₀ tb₀ log₀ out m st tb log : List ℕ) (p : Pass
 
       taken-written : 8 * e ≤ length log′ → logIn log′ e ≡ longer
       taken-written room = n .is room ∙ ap (notedBy y (r .kind) (r .start) s (next .machine .building)) (g .written (omega (arith, n .no-less, n .size))) ∙ longer-so
-
-    taken-sound : Sound (symbolsOf st′ next) (w .tree)
-    taken-sound = step-sound (w .token) (symbolsOf st′ next) (w .tree) (symbolsOf st p) f (w .stepped) (g .sound)
 
   -- what reading the token answers
   module _ (a : Read) (out′ m′ st′ tb′ : List ℕ) (reads : ReadsToken t out m st tb p a out′ m′ st′ tb′) where
@@ -198,9 +163,7 @@ module _ (t out₀ m₀ st₀ tb₀ log₀ out m st tb log : List ℕ) (p : Pass
           let w = told (On next) i in
           record {
             along = along-next t (strings t tb₀ 0) out₀ m₀ st₀ tb₀ out m st tb p (g .along) a out′ m′ st′ tb′ reads next i out-size frames-size stack-size table-size;
-            sound = taken-sound next out′ m′ st′ tb′ (tokensLeft t next) (w .0);
             so-far = longer next out′ m′ st′ tb′ (tokensLeft t next) (w .0);
-            leads = taken-leads next out′ m′ st′ tb′ (tokensLeft t next) (w .0);
             same-log = taken-log next out′ m′ st′ tb′ (tokensLeft t next) (w .0);
             count = taken-count next out′ m′ st′ tb′ (tokensLeft t next) (w .0) n;
             written = taken-written next out′ m′ st′ tb′ (tokensLeft t next) (w .0) n;
@@ -219,18 +182,14 @@ module _ (t out₀ m₀ st₀ tb₀ log₀ out m st tb log : List ℕ) (p : Pass
       whole-noted {log′} {e} n =
           let w = told (Done last) i in
           let whole = whole-read t (strings t tb₀ 0) out₀ m₀ st₀ tb₀ out m st tb p (g .along) a out′ m′ st′ tb′ reads last i in
-          let same = run-next t (strings t tb₀ 0) out m st tb p (g .along .going) last out′ m′ st′ tb′ [] w in
+          let text-log : textLog t ≡ longer last out′ m′ st′ tb′ [] w = taken-log last out′ m′ st′ tb′ [] w ∙ logged-none (symbolsOf st′ last) (w .tree) (longer last out′ m′ st′ tb′ [] w) in
           let pass = g .along .going .ready in
           record {
-            items = whole .items;
-            read = whole .read;
             table-is = whole .table-is;
             few = whole .few;
-            entries-are = sym (ap length (taken-log last out′ m′ st′ tb′ [] w ∙ logged-none (symbolsOf st′ last) (w .tree) (longer last out′ m′ st′ tb′ [] w)) ∙ taken-count last out′ m′ st′ tb′ [] w n);
+            entries-are = sym (ap length text-log ∙ taken-count last out′ m′ st′ tb′ [] w n);
             low = omega (arith, n .more, g .few, pass .within, pass .short);
-            leads = λ room.
-                subst (λ (l : List Insertion). Leads l (partMarks (whole .items))) (sym (taken-written last out′ m′ st′ tb′ [] w n room))
-                (subst (Leads (longer last out′ m′ st′ tb′ [] w)) (items-marks t (strings t tb₀ 0) (symbolsOf st′ last) (w .tree) (whole .items) (g .along .bytes) same (whole .read)) (taken-leads last out′ m′ st′ tb′ [] w));
+            log-is = λ room. taken-written last out′ m′ st′ tb′ [] w n room ∙ sym text-log;
           }
 
     -- it may not stand there
@@ -245,14 +204,12 @@ first-log t st top e = ap (λ (k : List Symbol). logged (tokensFrom t 0 0 true) 
 
 pub first-noting : (t out m st₀ st tb log : List ℕ) (top : ℕ) (s : Building) → IsBytes t → Readable t out m st₀ tb 0 → Pushed st₀ st 1 0x2c05 top → ((table : List (List ℕ)) (frames o : List ℕ) → Shows table s frames o start)
     → Noting t out m st tb log out m st tb log (record { at = 0; line = 0; operand = true; machine = record { top = top; building = s }; count = 0 }) 0
-unfolding going-first treeMarks openMarks frontMarks aroundMarks openingMarks headMarks partMarks logIn
+unfolding going-first logIn
 first-noting t out m st₀ st tb log top s bytes h pushed fresh =
     let symbols : stackOf st top ≡ manifest = pushed .symbols ∙ (unfold stackOf in ap (λ (k : List Symbol). k ++ []) manifest-coded) in
     record {
       along = record { going = going-first t out m st₀ st tb 0 top s h pushed fresh; bytes = bytes; out-size = refl; frames-size = refl; stack-size = refl; table-size = refl };
-      sound = subst (λ (k : List Symbol). Sound k start) (sym symbols) start-sound;
       so-far = [];
-      leads = record { leads = λ o p e. absurd (omega arith) };
       same-log = first-log t st top symbols;
       count = refl;
       written = λ room. refl;

@@ -4,7 +4,8 @@ use mathlib.Core.List.{List, []}
 use Prim.Native.Nat.{ℕ, _-_, _*_, _≤_, _<_}
 use native.Mathlib.Omega.{arith}
 use lib.ListN.{length}
-use Rattle.rules.specs.Outcome.{Outcome, done}
+use Rattle.rules.specs.EditRule.{IsBytes}
+use Rattle.rules.specs.Outcome.{done}
 use Rattle.notation.specs.Building.{Nodes}
 use Rattle.notation.specs.Lexing.{tokens}
 use Rattle.notation.specs.Convert.{textItems, tableBehind, manifestFields}
@@ -13,14 +14,12 @@ use Rattle.interner.specs.Table.{listed, strings}
 use Rattle.converter.specs.Reading.{Readable}
 use Rattle.interner.specs.TableField.{tableBytes}
 use Rattle.text_places.specs.Marks.{Begins}
-use Rattle.text_places.specs.Log.{followed, logIn}
+use Rattle.text_places.specs.Log.{Insertion, followed, textLog, logIn}
 use Rattle.text_places.specs.Places.{NotedWhole, TextNoted, PlaceTold}
 use Rattle.text_places.specs.declared.places.NotedText.{NotedText}
 use Rattle.text_places.specs.declared.places.NotedText.the-variants.{Whole, Refused}
 use Rattle.text_places.proofs.InManifest.{in-table, in-items}
-
-same-items : {a b : Nodes} → _≡_ {A = Outcome Nodes} (done a) (done b) → a ≡ b
-same-items e = cc
+use Rattle.text_places.proofs.TextLeads.{items-lead}
 
 -- no string is read yet
 pub nothing-read : (t m st tb : List ℕ) → length t ≤ 65535 → 256 ≡ length m → 468 ≡ length st → 2050 ≡ length tb → Readable t [] m st tb 0
@@ -52,12 +51,14 @@ module _ (t table log : List ℕ) (count entries offset n : ℕ) (w : NotedWhole
   pub told-string : (room : ℕ) → offset < n → PlaceTold t offset room 0
   told-string room near = record { low = omega arith; right = λ short roomy items e p b. sym (in-table (strings t table count) items offset p (begun items p b) (omega arith)) }
 
-  pub told-item : (r : ℕ) → n ≤ offset → 8 * entries ≤ length log → r ≡ followed (logIn log entries) (offset - n) → r < 65536 → PlaceTold t offset (length log) r
-  told-item r far room is low =
+  pub told-item : (r : ℕ) → IsBytes t → n ≤ offset → 8 * entries ≤ length log → r ≡ followed (logIn log entries) (offset - n) → r < 65536 → PlaceTold t offset (length log) r
+  told-item r bytes far room is low =
       record {
         low = low;
         right = λ short roomy items e p b.
-            let same : items ≡ w .items = same-items (sym e ∙ w .read) in
             let marked = in-items (strings t table count) items offset p (begun items p b) (omega arith) in
-            is ∙ ap (λ (k : ℕ). followed (logIn log entries) (offset - k)) size ∙ w .leads room .leads _ p (rw (sym same) marked);
+            is ∙ ap (λ (l : List Insertion). followed l (offset - n)) (w .log-is room) ∙ ap (λ (k : ℕ). followed (textLog t) (offset - k)) size ∙ items-lead t bytes items e .leads _ p marked;
       }
+
+  pub told-crowded : length log < 8 * entries → PlaceTold t offset (length log) 0
+  told-crowded over = record { low = omega arith; right = λ short roomy items e p b. absurd (omega (arith, roomy, w .entries-are, w .low)) }

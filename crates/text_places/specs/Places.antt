@@ -1,5 +1,5 @@
 -- What is told of a field of the manifest that a text gives: the place of the token that brought it.
-use Prim.Native.Nat.{ℕ, _*_, _≤_, _<_}
+use Prim.Native.Nat.{ℕ, _*_, _≤_, _<_, min}
 use mathlib.Core.Path.{_≡_}
 use mathlib.Core.List.{List, []}
 use lib.ListN.{length}
@@ -10,22 +10,20 @@ use Rattle.notation.specs.Convert.{textItems, tableBehind, manifestFields}
 use Rattle.interner.specs.Table.{strings}
 use Rattle.text_places.specs.declared.places.NotedText.{NotedText}
 use Rattle.text_places.specs.declared.places.NotedText.the-variants.{Whole, Refused}
-use Rattle.text_places.specs.Marks.{Begins, partMarks}
-use Rattle.text_places.specs.Log.{Leads, textLog, logIn}
+use Rattle.text_places.specs.Marks.{Begins}
+use Rattle.text_places.specs.Log.{textLog, logIn}
 
--- eight bytes of the log for each token that inserts bytes. 524,288 are always enough: such a token has a byte of its own, but for the end of the text
+-- eight bytes of the log for each token that inserts bytes; 524,288 are always enough
 abbrev pub Roomy : (t : List ℕ) → (room : ℕ) → Type 0
-Roomy t n = 8 * length (textLog t) ≤ n
+Roomy t n = min (8 * length (textLog t)) 524288 ≤ n
 
--- the whole text is read, and the log leads from the fields of its items if it has room for all entries
+-- the whole text is read: its strings are in the table, and the log is that of the text if it has room for all entries
 pub record NotedWhole (t table log : List ℕ) (count entries : ℕ) : Type 0 where
-  pub items : Nodes
-  pub read : textItems (tokens t) ≡ done items
   pub table-is : strings t table count ≡ tableBehind (tokens t) []
   pub few : count ≤ 1024
   pub entries-are : entries ≡ length (textLog t)
   pub low : entries ≤ 65536
-  pub leads : 8 * entries ≤ length log → Leads (logIn log entries) (partMarks items)
+  pub log-is : 8 * entries ≤ length log → logIn log entries ≡ textLog t
 
 unfoldable pub TextNoted : (t : List ℕ) → NotedText → (table log : List ℕ) → Type 0
 TextNoted t (Whole count entries) table log = NotedWhole t table log count entries

@@ -1,7 +1,8 @@
 -- `place_in`: a string, or an item to which the log leads.
 use native.Mathlib.Omega.{arith}
 use borrow.Author.Needs.{needs}
-use Rattle.text_places.proofs.Telling.{told-string, told-item}
+use Rattle.rules.specs.EditRule.{IsBytes}
+use Rattle.text_places.proofs.Telling.{told-string, told-item, told-crowded}
 use Rattle.text_places.proofs.places.place_in.Statement.{statement}
 use Rattle.text_places.proofs.places.place_in.Tie as tie
 
@@ -15,13 +16,16 @@ mul-if2 : tie.Need-mul-if2
 mul-if2 c = search needs
 
 returns-2 : tie.Need-returns-2
-returns-2 c = search needs
+returns-2 c = told-crowded _ _ _ _ _ _ _ (c .before .before .before .before .before .before .pre .2) (c .before .before .table-size .ensures) (c .if2 .taken)
 
 follow-requires : tie.Need-follow-requires
 follow-requires c κs = search needs
 
 returns-3 : tie.Need-returns-3
-returns-3 c = let f = c .follow .ensures in told-item _ _ _ _ _ _ _ (c .before .before .before .before .before .before .before .pre .2) (c .before .before .before .table-size .ensures) _ (omega arith) (omega arith) (f .0) (f .1)
+returns-3 c =
+    let f = c .follow .ensures in
+    let bytes : IsBytes (c .before .before .before .before .before .before .before .args .text .now) = record { below = λ i. omega (arith, c .before .before .before .before .before .before .shared-slice-known .given i) } in
+    told-item _ _ _ _ _ _ _ (c .before .before .before .before .before .before .before .pre .2) (c .before .before .before .table-size .ensures) _ bytes (omega arith) (omega arith) (f .0) (f .1)
 
 pub place-in-spec : {M : Type 1} → statement M
 place-in-spec =
