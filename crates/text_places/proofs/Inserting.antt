@@ -15,7 +15,7 @@ use Rattle.text_places.specs.Log.{Insertion, insertion, followed, Leads}
 pub record Only (place : ℕ) (marks : List ℕ) : Type 0 where
   pub only : (i p : ℕ) → at marks i ≡ suc p → p ≡ place
 
--- bytes came at an offset, with this place
+-- bytes came at an offset, with this place; never one alone
 pub record Inserted (from place : ℕ) (old new : List ℕ) : Type 0 where
   pub front : List ℕ
   pub come : List ℕ
@@ -24,17 +24,20 @@ pub record Inserted (from place : ℕ) (old new : List ℕ) : Type 0 where
   pub after : new ≡ front ++ (come ++ behind)
   pub offset : from ≡ length front
   pub whose : Only place come
+  pub not-one : length come ≡ 1 → ⊥
 
 -- these bytes came last, or none did
 pub record Appended (place : ℕ) (old new : List ℕ) : Type 0 where
   pub come : List ℕ
   pub after : new ≡ old ++ come
   pub whose : Only place come
+  pub not-one : length come ≡ 1 → ⊥
 
--- some are left, and none came
-pub record Shortened (old new : List ℕ) : Type 0 where
+-- none came, and at most so many of the last ones went
+pub record Shortened (most : ℕ) (old new : List ℕ) : Type 0 where
   pub gone : List ℕ
   pub before : old ≡ new ++ gone
+  pub few : length gone ≤ most
 
 -- ---- At an offset
 
@@ -78,7 +81,7 @@ module _ (xs ns ys : List ℕ) (place : ℕ) (whose : Only place ns) (o p : ℕ)
           stayed near (List·getD-append xs ys 0 o (omega arith) ∙ sym (List·getD-append xs (ns ++ ys) 0 o (omega arith)) ∙ e)
 
 module _ {from place : ℕ} {old new : List ℕ} (i : Inserted from place old new) where
-  grown : length new ≡ length old + length (i .come)
+  pub grown : length new ≡ length old + length (i .come)
   grown =
       ap length (i .after)
       ∙ omega (arith, length-append (i .front) (i .come ++ i .behind), length-append (i .come) (i .behind), ap length (i .before), length-append (i .front) (i .behind))
@@ -99,12 +102,12 @@ module _ {from place : ℕ} {old new : List ℕ} (i : Inserted from place old ne
       go o p (came far near e) = rw (lt-leb (from + (length new - length old)) o near, le-leb from o far) (sym e)
 
   -- where no byte came, all is as it was
-  inserted-none : length new ≤ length old → Shortened old new
+  inserted-none : length new ≤ length old → Shortened 0 old new
   inserted-none short =
       let none-came : i .come ≡ [] = no-length (i .come) (omega (arith, grown)) in
-      record { gone = []; before = i .before ∙ ap (λ (ms : List ℕ). i .front ++ (ms ++ i .behind)) (sym none-came) ∙ sym (i .after) ∙ sym (append-nil new) }
+      record { gone = []; before = i .before ∙ ap (λ (ms : List ℕ). i .front ++ (ms ++ i .behind)) (sym none-came) ∙ sym (i .after) ∙ sym (append-nil new); few = omega arith }
 
-shortened-leads : {l : List Insertion} {old new : List ℕ} → Shortened old new → Leads l old → Leads l new
+shortened-leads : {l : List Insertion} {most : ℕ} {old new : List ℕ} → Shortened most old new → Leads l old → Leads l new
 shortened-leads {l} {old} {new} s h = record { leads = λ o p e. go o p (ltb o (length new)) refl e }
   where
     go : (o p : ℕ) (b : Bool) → ltb o (length new) ≡ b → at new o ≡ suc p → followed l o ≡ p
@@ -133,14 +136,14 @@ only-both place xs ys a b = record { only = λ i p e. go i p (ltb i (length xs))
 -- ---- By the lengths
 
 -- what a token does: it inserts bytes, or takes some of the last ones away
-pub data Moved (from place : ℕ) (old new : List ℕ) : Type 0 where
-  inserted : Inserted from place old new → Moved from place old new
-  shortened : Shortened old new → Moved from place old new
+pub data Moved (most from place : ℕ) (old new : List ℕ) : Type 0 where
+  inserted : Inserted from place old new → Moved most from place old new
+  shortened : Shortened most old new → Moved most from place old new
 
-pub moved-leads : {from place : ℕ} {old new : List ℕ} (l : List Insertion) → Moved from place old new → Leads l old → Leads (pick (ltb (length old) (length new)) (insertion from (length new - length old) place ∷ l) l) new
-moved-leads {from} {place} {old} {new} l m h = go (ltb (length old) (length new)) refl m
+pub moved-leads : {most from place : ℕ} {old new : List ℕ} (l : List Insertion) → Moved most from place old new → Leads l old → Leads (pick (ltb (length old) (length new)) (insertion from (length new - length old) place ∷ l) l) new
+moved-leads {most} {from} {place} {old} {new} l m h = go (ltb (length old) (length new)) refl m
   where
-    go : (b : Bool) → ltb (length old) (length new) ≡ b → Moved from place old new → Leads (pick b (insertion from (length new - length old) place ∷ l) l) new
+    go : (b : Bool) → ltb (length old) (length new) ≡ b → Moved most from place old new → Leads (pick b (insertion from (length new - length old) place ∷ l) l) new
     go true e (inserted i) = inserted-leads i h
     go true e (shortened s) = absurd (omega (arith, ltb-true (length old) (length new) e, ap length (s .before), length-append new (s .gone)))
     go false e (inserted i) = shortened-leads (inserted-none i (ltb-false (length old) (length new) e)) h
@@ -149,7 +152,7 @@ moved-leads {from} {place} {old} {new} l m h = go (ltb (length old) (length new)
 -- ---- Bytes that came last
 
 pub nothing-came : (place : ℕ) (ms : List ℕ) → Appended place ms ms
-nothing-came place ms = record { come = []; after = sym (append-nil ms); whose = record { only = λ i p e. absurd (omega arith) } }
+nothing-came place ms = record { come = []; after = sym (append-nil ms); whose = record { only = λ i p e. absurd (omega arith) }; not-one = λ z. omega arith }
 
 pub appended-both : {place : ℕ} {a b c : List ℕ} → Appended place a b → Appended place b c → Appended place a c
 appended-both {place} {a} {b} {c} g h =
@@ -157,9 +160,10 @@ appended-both {place} {a} {b} {c} g h =
       come = g .come ++ h .come;
       after = h .after ∙ ap (λ (ms : List ℕ). ms ++ h .come) (g .after) ∙ append-assoc a (g .come) (h .come);
       whose = only-both place (g .come) (h .come) (g .whose) (h .whose);
+      not-one = λ z. omega (arith, z, length-append (g .come) (h .come), g .not-one, h .not-one);
     }
 
 -- these are inserted at the end
 pub appended-inserted : {from place : ℕ} {old new : List ℕ} → from ≡ length old → Appended place old new → Inserted from place old new
 appended-inserted {old = old} offset a =
-    record { front = old; come = a .come; behind = []; before = sym (append-nil old); after = a .after ∙ ap (λ (ms : List ℕ). old ++ ms) (sym (append-nil (a .come))); offset = offset; whose = a .whose }
+    record { front = old; come = a .come; behind = []; before = sym (append-nil old); after = a .after ∙ ap (λ (ms : List ℕ). old ++ ms) (sym (append-nil (a .come))); offset = offset; whose = a .whose; not-one = a .not-one }

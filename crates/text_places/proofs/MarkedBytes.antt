@@ -47,7 +47,7 @@ module _ (table : List (List ℕ)) where
         onto-marks ks (more (numbered table k) rest) ∙ ap (λ (l : List ℕ). partMarks ks ++ (l ++ fieldsMarks rest)) (node-marks k)
         ∙ sym (append-assoc (partMarks ks) (nodeMarks k) (fieldsMarks rest))
 
-  parts-size : (ks : Nodes) → length (partMarks ks) ≡ length (partsBytes table ks)
+  pub parts-size : (ks : Nodes) → length (partMarks ks) ≡ length (partsBytes table ks)
   unfolding partsBytes fieldsMarks
   parts-size ks = ap length (sym (onto-marks ks noFields ∙ append-nil (partMarks ks))) ∙ fields-size (numberedOnto table ks noFields)
 

@@ -3,17 +3,17 @@ use mathlib.Core.Path.{_≡_, refl, sym, ap, _∙_, subst}
 use mathlib.Core.Bool.{Bool, true, false, _&&_}
 use mathlib.Core.List.{List, [], _∷_, _++_, append-assoc, append-nil}
 use mathlib.Core.Option.{Option, none, some}
-use Prim.Native.Nat.{ℕ, zero, suc, _+_}
+use Prim.Native.Nat.{ℕ, zero, suc, _+_, _≤_}
 use native.Mathlib.Omega.{arith}
 use lib.Dec.{leb, ltb}
-use lib.ListN.{length}
+use lib.ListN.{length, length-append}
 use Rattle.wire.specs.Bytes.{pick, byte as at}
 use Rattle.rules.proofs.Lists.{both-left, both-right}
 use Rattle.rules.proofs.Within.{false-not-true}
 use Rattle.notation.specs.Tokens.{Lexeme, lexeme, word, number, text, variable, topVariable, classVariable, mark, tokenOf, placeOf}
 use Rattle.notation.specs.Building.{Piece, byte, name, Node, node, Nodes, empty, _▸_, leaf, height, Frame, frame, Build, build, Action, begin, beginResource, around, instead, close, constant, read, named, parentFirst, void, enter, leave, act, acts, added, addedFirst, begun, inFront, constantNode, variableNode, spelled, resourceTag}
 use Rattle.notation.proofs.NeedsKept.{none-not-some, same-result}
-use Rattle.text_places.specs.Marks.{headMarks, nodeMarks, partMarks, openingMarks, aroundMarks, frontMarks, openMarks, treeMarks, startOf, bodyOf}
+use Rattle.text_places.specs.Marks.{headMarks, nodeMarks, partMarks, openingMarks, aroundMarks, frontMarks, openMarks, treeMarks, startOf, bodyOf, sizeOf}
 use Rattle.text_places.proofs.Inserting.{Only, header-first, Inserted, Appended, Shortened, nothing-came, appended-both}
 
 -- ---- Heads
@@ -40,6 +40,11 @@ header-only p h = header-first p (headMarks h) (record { only = λ i q e. absurd
 name-only : (p : ℕ) → Only p (0 ∷ 0 ∷ [])
 unfolding headMarks
 name-only p = record { only = λ i q e. absurd (omega (arith, e, head-zero (name [] ∷ []) i)) }
+
+-- a field has a header
+pub node-wide : (k : Node) → 3 ≤ length (nodeMarks k)
+unfolding nodeMarks
+node-wide (node p t h ks) = omega arith
 
 leaf-only : (p t : ℕ) (h : List Piece) → Only p (nodeMarks (leaf p t h))
 unfolding nodeMarks
@@ -175,7 +180,7 @@ module _ (x : Lexeme) where
   unfolding treeMarks
   own-added k b q u g ks fs o =
       record {
-        more = record { come = nodeMarks k; after = more-marks q g ks fs k; whose = subst (λ (j : Node). Only (placeOf x) (nodeMarks j)) (sym (o .is)) (leaf-only (placeOf x) (o .tag) (o .head)) };
+        more = record { come = nodeMarks k; after = more-marks q g ks fs k; whose = subst (λ (j : Node). Only (placeOf x) (nodeMarks j)) (sym (o .is)) (leaf-only (placeOf x) (o .tag) (o .head)); not-one = λ z. omega (arith, z, node-wide k) };
         new = λ e. false-not-true e;
       }
 
@@ -184,7 +189,7 @@ module _ (x : Lexeme) where
   unfolding treeMarks headMarks partMarks
   own-begun t b q u g ks fs =
       record {
-        more = record { come = suc (placeOf x) ∷ 0 ∷ 0 ∷ []; after = inner-marks q g ks fs u (placeOf x) [] empty; whose = header-only (placeOf x) [] };
+        more = record { come = suc (placeOf x) ∷ 0 ∷ 0 ∷ []; after = inner-marks q g ks fs u (placeOf x) [] empty; whose = header-only (placeOf x) []; not-one = λ z. omega arith };
         new = λ e. refl;
       }
 
@@ -196,6 +201,7 @@ module _ (x : Lexeme) where
         come = 0 ∷ 0 ∷ [];
         after = named-marks q i empty fs (spelled (tokenOf x)) ∙ ap (λ (l : List ℕ). l ++ (0 ∷ 0 ∷ [])) (sym (append-nil (frontMarks q i fs)));
         whose = name-only (placeOf x);
+        not-one = λ z. omega arith;
       }
 
   act-grown : (a : Action) (f g : Build) (fresh : Bool) → appendsOne fresh a ≡ true → (fresh ≡ true → Fresh f) → act a x f ≡ some g → Grown x f (freshBehind fresh a) g
@@ -231,6 +237,13 @@ module _ (x : Lexeme) where
           let first = act-grown a f k fresh (both-left (appendsOne fresh a) (appends (freshBehind fresh a) ds) h) new i in
           appended-both (first .more) (others k first j)
 
+  -- a constant has a header
+  pub constant-wide : (f g : Build) → act constant x f ≡ some g → sizeOf f + 3 ≤ sizeOf g
+  unfolding act added treeMarks sizeOf
+  constant-wide (build b (frame q u i ks) fs) g e =
+      fitted (λ (j : Build). sizeOf (build b (frame q u i ks) fs) + 3 ≤ sizeOf j) (leb (length fs + 1) 32) (build b (frame q u i (ks ▸ constantNode x)) fs) g
+      (omega (arith, ap length (more-marks q i ks fs (constantNode x)), length-append (openMarks q i ks fs) (nodeMarks (constantNode x)), node-wide (constantNode x))) e
+
   -- a field that ends moves nothing
   pub closed-same : (f g : Build) → acts (close ∷ []) x f ≡ some g → treeMarks g ≡ treeMarks f
   unfolding acts act treeMarks
@@ -244,7 +257,7 @@ module _ (x : Lexeme) where
   unfolding act treeMarks bodyOf
   named-inserts (build b (frame q u i ks) fs) g e =
       subst (λ (j : Build). Inserted (bodyOf (build b (frame q u i ks) fs)) (placeOf x) (treeMarks (build b (frame q u i ks) fs)) (treeMarks j)) (same-result _ g e)
-      (record { front = frontMarks q i fs; come = 0 ∷ 0 ∷ []; behind = partMarks ks; before = unfold openMarks in refl; after = named-marks q i ks fs (spelled (tokenOf x)); offset = refl; whose = name-only (placeOf x) })
+      (record { front = frontMarks q i fs; come = 0 ∷ 0 ∷ []; behind = partMarks ks; before = unfold openMarks in refl; after = named-marks q i ks fs (spelled (tokenOf x)); offset = refl; whose = name-only (placeOf x); not-one = λ z. omega arith })
 
   -- so does a parent
   pub parent-inserts : (f g : Build) → act parentFirst x f ≡ some g → Inserted (bodyOf f) (placeOf x) (treeMarks f) (treeMarks g)
@@ -252,7 +265,7 @@ module _ (x : Lexeme) where
   parent-inserts (build b (frame q u i ks) fs) g e =
       let parent : Node = leaf (placeOf x) 0x35 (name (spelled (tokenOf x)) ∷ []) in
       fitted (λ (j : Build). Inserted (bodyOf (build b (frame q u i ks) fs)) (placeOf x) (treeMarks (build b (frame q u i ks) fs)) (treeMarks j)) (leb (length fs + 1) 32) (build b (frame q u i (inFront parent ks)) fs) g
-      (record { front = frontMarks q i fs; come = nodeMarks parent; behind = partMarks ks; before = unfold openMarks in refl; after = front-marks q i ks fs parent; offset = refl; whose = leaf-only (placeOf x) 0x35 (name (spelled (tokenOf x)) ∷ []) }) e
+      (record { front = frontMarks q i fs; come = nodeMarks parent; behind = partMarks ks; before = unfold openMarks in refl; after = front-marks q i ks fs parent; offset = refl; whose = leaf-only (placeOf x) 0x35 (name (spelled (tokenOf x)) ∷ []); not-one = λ z. omega (arith, z, node-wide parent) }) e
 
   -- an operator comes before the last part
   pub around-inserts : (t : ℕ) (h : List Piece) (f g : Build) → act (around t h) x f ≡ some g → Inserted (startOf g) (placeOf x) (treeMarks f) (treeMarks g)
@@ -268,21 +281,22 @@ module _ (x : Lexeme) where
         after = inner-marks q i ks fs u (placeOf x) h (empty ▸ k);
         offset = unfold aroundMarks openMarks frontMarks in refl;
         whose = header-only (placeOf x) h;
+        not-one = λ z. omega arith;
       }) e
 
   -- a name comes in the place of a constant of two pieces, of which the first is a byte: that byte goes
   instead-leaf : (t b q u : ℕ) (i : List Piece) (kept : Nodes) (p v l : ℕ) (y : Piece) (fs : List Frame) (g : Build) → act (instead t) x (build b (frame q u i (kept ▸ leaf p v (byte l ∷ y ∷ []))) fs) ≡ some g
-      → Shortened (treeMarks (build b (frame q u i (kept ▸ leaf p v (byte l ∷ y ∷ []))) fs)) (treeMarks g)
+      → Shortened 1 (treeMarks (build b (frame q u i (kept ▸ leaf p v (byte l ∷ y ∷ []))) fs)) (treeMarks g)
   unfolding act treeMarks nodeMarks headMarks partMarks
   instead-leaf t b q u i kept p v l y fs g e =
-      subst (λ (j : Build). Shortened (treeMarks (build b (frame q u i (kept ▸ leaf p v (byte l ∷ y ∷ []))) fs)) (treeMarks j)) (same-result (build b (frame p t (y ∷ []) empty) (frame q u i kept ∷ fs)) g e)
-      (record { gone = 0 ∷ []; before = more-marks q i kept fs (leaf p v (byte l ∷ y ∷ [])) ∙ go y ∙ ap (λ (ms : List ℕ). ms ++ (0 ∷ [])) (sym (inner-marks q i kept fs u p (y ∷ []) empty)) })
+      subst (λ (j : Build). Shortened 1 (treeMarks (build b (frame q u i (kept ▸ leaf p v (byte l ∷ y ∷ []))) fs)) (treeMarks j)) (same-result (build b (frame p t (y ∷ []) empty) (frame q u i kept ∷ fs)) g e)
+      (record { gone = 0 ∷ []; before = more-marks q i kept fs (leaf p v (byte l ∷ y ∷ [])) ∙ go y ∙ ap (λ (ms : List ℕ). ms ++ (0 ∷ [])) (sym (inner-marks q i kept fs u p (y ∷ []) empty)); few = omega arith })
     where
       go : (z : Piece) → openMarks q i kept fs ++ nodeMarks (leaf p v (byte l ∷ z ∷ [])) ≡ (openMarks q i kept fs ++ (suc p ∷ 0 ∷ 0 ∷ (headMarks (z ∷ []) ++ []))) ++ (0 ∷ [])
       go (byte c) = sym (append-assoc (openMarks q i kept fs) (suc p ∷ 0 ∷ 0 ∷ 0 ∷ []) (0 ∷ []))
       go (name s) = sym (append-assoc (openMarks q i kept fs) (suc p ∷ 0 ∷ 0 ∷ 0 ∷ 0 ∷ []) (0 ∷ []))
 
-  pub instead-shortens : (t : ℕ) (f g : Build) → EndsInLeaf f → act (instead t) x f ≡ some g → Shortened (treeMarks f) (treeMarks g)
+  pub instead-shortens : (t : ℕ) (f g : Build) → EndsInLeaf f → act (instead t) x f ≡ some g → Shortened 1 (treeMarks f) (treeMarks g)
   instead-shortens t (build b (frame q u i ks) fs) g w e =
-      subst (λ (js : Nodes). act (instead t) x (build b (frame q u i js) fs) ≡ some g → Shortened (treeMarks (build b (frame q u i js) fs)) (treeMarks g)) (sym (w .is))
+      subst (λ (js : Nodes). act (instead t) x (build b (frame q u i js) fs) ≡ some g → Shortened 1 (treeMarks (build b (frame q u i js) fs)) (treeMarks g)) (sym (w .is))
       (instead-leaf t b q u i (w .kept) (w .place) (w .tag) (w .line) (w .piece) fs g) e

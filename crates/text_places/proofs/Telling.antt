@@ -15,11 +15,11 @@ use Rattle.converter.specs.Reading.{Readable}
 use Rattle.interner.specs.TableField.{tableBytes}
 use Rattle.text_places.specs.Marks.{Begins}
 use Rattle.text_places.specs.Log.{Insertion, followed, textLog, logIn}
-use Rattle.text_places.specs.Places.{NotedWhole, TextNoted, PlaceTold}
+use Rattle.text_places.specs.Places.{Roomy, eachEntry, shortManifest, anyText, NotedWhole, TextNoted, PlaceTold}
 use Rattle.text_places.specs.declared.places.NotedText.{NotedText}
 use Rattle.text_places.specs.declared.places.NotedText.the-variants.{Whole, Refused}
 use Rattle.text_places.proofs.InManifest.{in-table, in-items}
-use Rattle.text_places.proofs.TextLeads.{items-lead}
+use Rattle.text_places.proofs.TextLeads.{items-lead, log-short}
 
 -- no string is read yet
 pub nothing-read : (t m st tb : List ℕ) → length t ≤ 65535 → 256 ≡ length m → 468 ≡ length st → 2050 ≡ length tb → Readable t [] m st tb 0
@@ -29,7 +29,7 @@ nothing-read t m st tb short slots room table =
 
 -- nothing is promised
 pub told-any : (t : List ℕ) (offset room : ℕ) → (length t ≤ 65535 → (items : Nodes) → textItems (tokens t) ≡ done items → ⊥) → PlaceTold t offset room 0
-told-any t offset room none = record { low = omega arith; right = λ short roomy items e p b. absurd (none short items e) }
+told-any t offset room none = record { low = omega arith; right = λ short items e roomy p b. absurd (none short items e) }
 
 -- what reading with the log answers
 pub whole-told : {t table log : List ℕ} {count entries : ℕ} (r : NotedText) → r ≡ Whole count entries → TextNoted t r table log → NotedWhole t table log count entries
@@ -49,16 +49,22 @@ module _ (t table log : List ℕ) (count entries offset n : ℕ) (w : NotedWhole
   begun items p b = subst (λ (S : List (List ℕ)). Begins (manifestFields S items) offset p) (sym (w .table-is)) b
 
   pub told-string : (room : ℕ) → offset < n → PlaceTold t offset room 0
-  told-string room near = record { low = omega arith; right = λ short roomy items e p b. sym (in-table (strings t table count) items offset p (begun items p b) (omega arith)) }
+  told-string room near = record { low = omega arith; right = λ short items e roomy p b. sym (in-table (strings t table count) items offset p (begun items p b) (omega arith)) }
 
   pub told-item : (r : ℕ) → IsBytes t → n ≤ offset → 8 * entries ≤ length log → r ≡ followed (logIn log entries) (offset - n) → r < 65536 → PlaceTold t offset (length log) r
   told-item r bytes far room is low =
       record {
         low = low;
-        right = λ short roomy items e p b.
+        right = λ short items e roomy p b.
             let marked = in-items (strings t table count) items offset p (begun items p b) (omega arith) in
             is ∙ ap (λ (l : List Insertion). followed l (offset - n)) (w .log-is room) ∙ ap (λ (k : ℕ). followed (textLog t) (offset - k)) size ∙ items-lead t bytes items e .leads _ p marked;
       }
 
-  pub told-crowded : length log < 8 * entries → PlaceTold t offset (length log) 0
-  told-crowded over = record { low = omega arith; right = λ short roomy items e p b. absurd (omega (arith, roomy, w .entries-are, w .low)) }
+  -- where the log is enough, all entries are in it
+  room-for : IsBytes t → (items : Nodes) → textItems (tokens t) ≡ done items → (room : ℕ) → Roomy t items room → 8 * entries ≤ room
+  room-for bytes items e room (eachEntry h) = omega (arith, h, w .entries-are)
+  room-for bytes items e room (shortManifest short h) = omega (arith, h, w .entries-are, log-short t bytes items e short)
+  room-for bytes items e room (anyText h) = omega (arith, h, w .low)
+
+  pub told-crowded : IsBytes t → length log < 8 * entries → PlaceTold t offset (length log) 0
+  told-crowded bytes over = record { low = omega arith; right = λ short items e roomy p b. absurd (omega (arith, over, room-for bytes items e (length log) roomy)) }

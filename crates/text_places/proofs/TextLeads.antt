@@ -1,21 +1,27 @@
--- The log of a text leads from the fields of its items. Assumes nothing.
+-- The log of a text leads from the fields of its items, and is not long. Assumes nothing.
 use mathlib.Core.Path.{_≡_, refl, sym, ap, _∙_, subst}
 use mathlib.Core.List.{List, [], _∷_}
 use mathlib.Core.Option.{Option, none, some}
-use Prim.Native.Nat.{ℕ}
+use Prim.Native.Nat.{ℕ, _+_, _*_, _≤_}
 use native.Mathlib.Omega.{arith}
+use lib.ListN.{length, length-append}
+use Rattle.wire.specs.Bytes.{pick}
 use Rattle.values.specs.declared.Reason.{Reason}
 use Rattle.rules.specs.EditRule.{IsBytes}
+use Rattle.rules.specs.Fields.{field, none as noFields, write, writeAll}
 use Rattle.rules.specs.Outcome.{Outcome, refused, done}
 use Rattle.notation.specs.Tokens.{Lexeme, placeOf}
 use Rattle.notation.specs.Lexing.{tokens}
 use Rattle.notation.specs.Building.{Nodes, frame, Build, build, start}
 use Rattle.notation.specs.Grammar.{Symbol, manifest, Stepped, stuck, to, step, Ended, built, fault, run, reading}
-use Rattle.notation.specs.Convert.{readText, crowdedAt, textItems}
+use Rattle.notation.specs.Convert.{readText, crowdedAt, textItems, tableBehind, stringFields, numberedOnto, manifestFields, manifestBytes}
+use Rattle.tree_builder.specs.Open.{partsBytes}
 use Rattle.converter.proofs.OutermostHead.{outermost}
-use Rattle.text_places.specs.Marks.{headMarks, partMarks, openingMarks, aroundMarks, frontMarks, openMarks, treeMarks}
+use Rattle.text_places.specs.Marks.{headMarks, partMarks, openingMarks, aroundMarks, frontMarks, openMarks, treeMarks, sizeOf}
 use Rattle.text_places.specs.Log.{Insertion, Leads, noted, logged, textLog}
-use Rattle.text_places.proofs.StepMoves.{Sound, start-sound, step-sound, step-leads}
+use Rattle.text_places.proofs.StepMoves.{Sound, start-sound, step-sound, step-leads, step-short}
+use Rattle.text_places.proofs.MarkedBytes.{parts-size}
+use Rattle.text_places.proofs.Stacks.{wordOnTop}
 
 -- ---- Runs
 
@@ -25,20 +31,28 @@ fault-not-built e = let z : _≡_ {A = ℕ} 0 1 = cc in absurd (omega arith)
 same-built : {f g : Build} → built f ≡ built g → f ≡ g
 same-built e = cc
 
-run-leads : (xs : List Lexeme) (k : List Symbol) (f : Build) (l : List Insertion) (g : Build) → run xs k f ≡ built g → Sound k f → Leads l (treeMarks f) → Leads (logged xs k f l) (treeMarks g)
-unfolding run logged
-run-leads [] [] f l g e s h = subst (λ (i : Build). Leads l (treeMarks i)) (same-built e) h
-run-leads [] (y ∷ k) f l g e s h = fault-not-built e
-run-leads (x ∷ xs) k f l g e s h = go (run-leads xs) (step k x f) refl e
-  where
-    go : ((k : List Symbol) (f : Build) (l : List Insertion) (g : Build) → run xs k f ≡ built g → Sound k f → Leads l (treeMarks f) → Leads (logged xs k f l) (treeMarks g)) → (o : Stepped) → step k x f ≡ o
-        → _≡_ {A = Ended} (elim o as (λ q. Ended) [ stuck ↦ fault (placeOf x) | to k′ i ↦ run xs k′ i ]) (built g) → Leads (elim o as (λ q. List Insertion) [ stuck ↦ l | to k′ i ↦ logged xs k′ i (noted k x f i l) ]) (treeMarks g)
-    go later stuck j q = fault-not-built q
-    go later (to k′ i) j q = later k′ i (noted k x f i l) g q (step-sound x k′ i k f j s) (step-leads x k′ i k f l j s h)
+-- the log so far leads from the fields of the tree, and has an entry for two bytes at most
+record Following (k : List Symbol) (f : Build) (l : List Insertion) : Type 0 where
+  sound : Sound k f
+  leads : Leads l (treeMarks f)
+  short : 2 * length l + pick (wordOnTop k) 1 0 ≤ sizeOf f
 
-text-leads : (t : List ℕ) (g : Build) → reading (tokens t) ≡ built g → Leads (textLog t) (treeMarks g)
-unfolding reading textLog treeMarks openMarks frontMarks aroundMarks openingMarks headMarks partMarks
-text-leads t g e = run-leads (tokens t) manifest start [] g e start-sound (record { leads = λ o p e. absurd (omega arith) })
+first-following : Following manifest start []
+unfolding sizeOf treeMarks openMarks frontMarks aroundMarks openingMarks headMarks partMarks
+first-following = record { sound = start-sound; leads = record { leads = λ o p e. absurd (omega arith) }; short = omega arith }
+
+run-following : (xs : List Lexeme) (k : List Symbol) (f : Build) (l : List Insertion) (g : Build) → run xs k f ≡ built g → Following k f l → Following [] g (logged xs k f l)
+unfolding run logged
+run-following [] [] f l g e h = subst (λ (i : Build). Following [] i l) (same-built e) h
+run-following [] (y ∷ k) f l g e h = fault-not-built e
+run-following (x ∷ xs) k f l g e h = go (run-following xs) (step k x f) refl e
+  where
+    go : ((k : List Symbol) (f : Build) (l : List Insertion) (g : Build) → run xs k f ≡ built g → Following k f l → Following [] g (logged xs k f l)) → (o : Stepped) → step k x f ≡ o
+        → _≡_ {A = Ended} (elim o as (λ q. Ended) [ stuck ↦ fault (placeOf x) | to k′ i ↦ run xs k′ i ]) (built g) → Following [] g (elim o as (λ q. List Insertion) [ stuck ↦ l | to k′ i ↦ logged xs k′ i (noted k x f i l) ])
+    go later stuck j q = fault-not-built q
+    go later (to k′ i) j q =
+        later k′ i (noted k x f i l) g q
+        (record { sound = step-sound x k′ i k f j (h .sound); leads = step-leads x k′ i k f l j (h .sound) (h .leads); short = step-short x k′ i k f l j (h .sound) (h .short) })
 
 -- ---- Items
 
@@ -56,13 +70,34 @@ unfolding readText
 fault-gives p none items e = refused-not-done e
 fault-gives p (some q) items e = refused-not-done e
 
-pub items-lead : (t : List ℕ) → IsBytes t → (items : Nodes) → textItems (tokens t) ≡ done items → Leads (textLog t) (partMarks items)
-unfolding textItems
-items-lead t bytes items e = go (reading (tokens t)) refl e
+-- the tree of a text that gives items
+record TreeOf (t : List ℕ) (items : Nodes) : Type 0 where
+  tree : Build
+  same : treeMarks tree ≡ partMarks items
+  following : Following [] tree (textLog t)
+
+tree-of : (t : List ℕ) → IsBytes t → (items : Nodes) → textItems (tokens t) ≡ done items → TreeOf t items
+unfolding textItems reading textLog
+tree-of t bytes items e = go (run (tokens t) manifest start) refl e
   where
-    go : (r : Ended) → reading (tokens t) ≡ r → readText r (crowdedAt (tokens t) []) ≡ done items → Leads (textLog t) (partMarks items)
+    go : (r : Ended) → run (tokens t) manifest start ≡ r → readText r (crowdedAt (tokens t) []) ≡ done items → TreeOf t items
     go (fault p) i j = fault-gives p (crowdedAt (tokens t) []) items j
     go (built g) i j =
         let all = outermost t bytes g i in
-        let same = ap treeMarks (all .same) ∙ built-marks (all .nodes) (crowdedAt (tokens t) []) items (ap (λ (f : Build). readText (built f) (crowdedAt (tokens t) [])) (sym (all .same)) ∙ j) in
-        subst (Leads (textLog t)) same (text-leads t g i)
+        record {
+          tree = g;
+          same = ap treeMarks (all .same) ∙ built-marks (all .nodes) (crowdedAt (tokens t) []) items (ap (λ (f : Build). readText (built f) (crowdedAt (tokens t) [])) (sym (all .same)) ∙ j);
+          following = run-following (tokens t) manifest start [] g i first-following;
+        }
+
+module _ (t : List ℕ) (bytes : IsBytes t) (items : Nodes) (e : textItems (tokens t) ≡ done items) where
+  pub items-lead : Leads (textLog t) (partMarks items)
+  items-lead = let w = tree-of t bytes items e in subst (Leads (textLog t)) (w .same) (w .following .leads)
+
+  -- 262,144 bytes hold the log of a text whose manifest is not too long
+  pub log-short : length (manifestBytes (tokens t) items) ≤ 65535 → 8 * length (textLog t) ≤ 262144
+  unfolding sizeOf manifestBytes manifestFields write partsBytes
+  log-short short =
+      let w = tree-of t bytes items e in
+      let S : List (List ℕ) = tableBehind (tokens t) [] in
+      omega (arith, short, w .following .short, ap length (w .same), parts-size S items, length-append (write (field 0 0x01 [] (stringFields S))) (writeAll (numberedOnto S items noFields)))

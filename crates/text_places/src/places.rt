@@ -108,7 +108,7 @@ fn place_in(
 }
 
 // The place in the text of the token that brought the field at the offset `field` of the text's manifest. The log needs eight bytes for each token that
-// inserts bytes.
+// inserts bytes: 262,144 are enough for a manifest that is not too long.
 pub fn field_place(text: &[u8], field: usize, log: &mut [u8]) -> usize
     ensures { λ r. ⌜ PlaceTold (now (text .entry)) field (length (now (log .entry))) r ⌝ }
 {

@@ -16,7 +16,9 @@ mul-if2 : tie.Need-mul-if2
 mul-if2 c = search needs
 
 returns-2 : tie.Need-returns-2
-returns-2 c = told-crowded _ _ _ _ _ _ _ (c .before .before .before .before .before .before .pre .2) (c .before .before .table-size .ensures) (c .if2 .taken)
+returns-2 c =
+    let bytes : IsBytes (c .before .before .before .before .before .before .args .text .now) = record { below = λ i. omega (arith, c .before .before .before .before .before .shared-slice-known .given i) } in
+    told-crowded _ _ _ _ _ _ _ (c .before .before .before .before .before .before .pre .2) (c .before .before .table-size .ensures) bytes (c .if2 .taken)
 
 follow-requires : tie.Need-follow-requires
 follow-requires c κs = search needs
