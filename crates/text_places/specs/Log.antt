@@ -37,8 +37,8 @@ pub record Leads (l : List Insertion) (marks : List ℕ) : Type 0 where
 unfoldable pub isOperator : (kind : ℕ) → Bool
 isOperator k = eqb k question || (leb plusSign k && leb k orWord)
 
--- sorts of symbols: 0 a sign or keyword that is no operator; 1 what comes before the parts of a field, a name of it or a parent; 2 and 3 what the proofs tell apart; 4 the end of a
--- field; 5 all others
+-- sorts of symbols: 0 a sign or keyword that is no operator; 1 a name of a field or a parent, which come before the field's parts; 2 what may follow a bare word; 3 statements, items
+-- and what may be an else, behind which no operator is taken; 4 the end of a field; 5 all others
 abbrev pub sort : Symbol → ℕ
 sort (sign k) = pick (isOperator k) 5 0
 sort aName = 1

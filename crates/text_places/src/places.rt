@@ -85,7 +85,7 @@ fn note_text(
     }
 }
 
-// The same, where the text is read: its table of strings comes before all else and came with no token.
+// The place of the field at an offset, once the text is read. The table of strings comes before all else and came with no token.
 fn place_in(
     text: &[u8],
     table: &[u8],
