@@ -3,15 +3,13 @@ use Prim.Native.Nat.{ℕ, _+_, _-_, _≤_}
 use mathlib.Core.Path.{_≡_, refl, sym, ap, _∙_}
 use mathlib.Core.List.{List, _++_, append-assoc}
 use native.Mathlib.Omega.{arith}
-use borrow.Author.Tests.{le-ltb}
 use denote.Enum.Declared.{tagOf}
-use lib.ListN.{length, take, drop, replicate, length-drop, length-append, length-replicate}
-use lib.Seq.{take-append-seam, take-length, drop-append-seam, drop-drop, length-take-le}
+use lib.ListN.{length, take, replicate, length-append, length-replicate}
+use lib.Seq.{length-take-le}
 use Rattle.values.specs.declared.Reason.{Reason}
 use Rattle.values.specs.declared.Answer.{Answer}
 use Rattle.values.specs.declared.Answer.the-variants.{Catalog, Refused}
 use Rattle.values.specs.Numbers.{numberOf}
-use Rattle.wire.specs.Runs.{zeros}
 use Rattle.rules.specs.Check.{stringPlaces}
 use Rattle.rules.specs.Read.{manifestOf}
 use Rattle.rules.specs.Outcome.{Outcome, refused, done}
@@ -26,46 +24,17 @@ use Rattle.input.specs.Reading.{reading, readingOf, keptDevice, keptManifest}
 use Rattle.input.proofs.Kept.{kept-schedule}
 use Rattle.catalog.specs.Making.{stored}
 use Rattle.schedule.specs.declared.Position.{Position}
-use Rattle.schedule.specs.declared.Written.{Written}
-use Rattle.schedule.specs.declared.Written.the-variants.{Length}
 use Rattle.schedule.specs.declared.Line.{Line}
 use Rattle.schedule.specs.declared.Line.the-variants.{Text}
 use Rattle.schedule.specs.Strings.{stringsBy}
-use Rattle.schedule.specs.Appending.{fitted}
 use Rattle.schedule.specs.Subjects.{start}
 use Rattle.schedule.specs.Lines.{nextLine, Prints, ends, more}
 use Rattle.schedule.proofs.Line.{the-type}
 use Rattle.schedule.proofs.Asking.{Asked, line-asked}
 use Rattle.schedule.proofs.Whole.{catalog-part, schedule-prints, accepted-text, refusal-text}
-use Rattle.print_schedule.specs.Printing.{scheduleText, ComesNext, Left, LastLine, LinesLeft, IsCatalog}
-
--- ---- A part, and what follows it
-
-module _ (whole : List ℕ) (sent : ℕ) (text more : List ℕ) (l : Left whole sent (text ++ more)) where
-  pub part-next : length text ≤ 2048 → ComesNext whole sent text
-  part-next short = record { part = rw (l .rest) (take-append-seam text more); counted = omega (arith, l .few) }
-
-  pub after-part : drop (sent + length text) whole ≡ more
-  after-part = sym (drop-drop (length text) sent whole) ∙ ap (drop (length text)) (l .rest) ∙ drop-append-seam text more
-
--- ---- The last line
-
-pub last-line : (whole : List ℕ) (sent : ℕ) (text : List ℕ) {w : Written} {line : List ℕ} → Left whole sent text → 1 ≤ length text → length text ≤ 2048 → stored w line ≡ fitted text 2048 → LastLine whole sent w line
-unfolding fitted
-last-line whole sent text {w} {line} l some short e =
-    let e′ : stored w line ≡ stored (Length (length text)) (text ++ zeros (2048 - length text)) = e ∙ rw (le-ltb 2048 (length text) short) in
-    let bytes : line ≡ text ++ zeros (2048 - length text) = cc in
-    record { text = text; left = l; size = cc; bytes = rw bytes (take-append-seam text _); some = some; short = short }
-
-module _ {whole : List ℕ} {sent : ℕ} {w : Written} {line : List ℕ} (l : LastLine whole sent w line) where
-  pub last-bytes : {n : ℕ} → w ≡ Length n → take n line ≡ l .text
-  last-bytes {n} is = let size = l .size in let same : n ≡ length (l .text) = cc in rw same (l .bytes)
-
-  pub last-next : ComesNext whole sent (l .text)
-  last-next = record { part = rw (l .left .rest) (take-length (l .text)); counted = omega (arith, l .left .few, l .short) }
-
-  pub all-sent : sent + length (l .text) ≡ length whole
-  all-sent = omega (arith, length-drop sent whole, ap length (l .left .rest), l .some)
+use Rattle.standard_streams.specs.Sending.{ComesNext, Left}
+use Rattle.standard_streams.proofs.Sending.{part-next, after-part}
+use Rattle.print_schedule.specs.Printing.{scheduleText, LinesLeft, IsCatalog}
 
 -- ---- The lines of a catalog
 

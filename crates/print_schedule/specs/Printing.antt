@@ -1,18 +1,17 @@
 -- What is printed: the definition's text, part after part.
-use Prim.Native.Nat.{ℕ, _+_, _*_, _≤_, _<_}
+use Prim.Native.Nat.{ℕ, _*_, _≤_}
 use mathlib.Core.Path.{_≡_}
 use mathlib.Core.Bool.{Bool, true}
 use mathlib.Core.List.{List, _++_}
-use lib.ListN.{length, take, drop}
+use lib.ListN.{length}
 use Rattle.rules.specs.Read.{manifestOf}
 use Rattle.rules.specs.Outcome.{done}
 use Rattle.rules.specs.Compile.{compiled}
 use Rattle.rules.specs.EditRule.{IsBytes}
 use Rattle.rules.specs.Schedule.{textOf}
 use Rattle.schedule.specs.declared.Position.{Position}
-use Rattle.schedule.specs.declared.Written.{Written}
-use Rattle.schedule.specs.declared.Written.the-variants.{Length}
 use Rattle.schedule.specs.Lines.{Prints}
+use Rattle.standard_streams.specs.Sending.{Left}
 
 -- the schedule of a manifest and a device: "with limit 65,535", 65,535 bytes of output and 65,536 of memory
 unfoldable pub scheduleText : (manifest device : List ℕ) → List ℕ
@@ -21,25 +20,6 @@ scheduleText m device = textOf (manifestOf m .strings) (compiled m device 65535 
 -- what is told is that all was sent
 abbrev pub AllSent : (manifest device : List ℕ) → (sent : ℕ) → (told : Bool) → Type 0
 AllSent m device sent told = told ≡ true → sent ≡ length (scheduleText m device)
-
--- a text is what follows after `sent` bytes of the whole, and the count of both fits 64 bits
-pub record ComesNext (whole : List ℕ) (sent : ℕ) (text : List ℕ) : Type 0 where
-  pub part : take (length text) (drop sent whole) ≡ text
-  pub counted : sent + length text < 18446744073709551616
-
--- a text is all that follows after `sent` bytes of the whole; 2^27 are enough for every line but the last
-pub record Left (whole : List ℕ) (sent : ℕ) (text : List ℕ) : Type 0 where
-  pub rest : drop sent whole ≡ text
-  pub few : sent ≤ 134217728
-
--- a line that was written into a buffer is the last one
-pub record LastLine (whole : List ℕ) (sent : ℕ) (written : Written) (line : List ℕ) : Type 0 where
-  pub text : List ℕ
-  pub left : Left whole sent text
-  pub size : written ≡ Length (length text)
-  pub bytes : take (length text) line ≡ text
-  pub some : 1 ≤ length text
-  pub short : length text ≤ 2048
 
 -- after `sent` bytes of the whole, the lines of a catalog from a position on are left, and then the last one
 pub record LinesLeft (whole : List ℕ) (sent : ℕ) (strings : List (List ℕ)) (catalog : List ℕ) (at : Position) (last : List ℕ) : Type 0 where

@@ -4,93 +4,25 @@ ghost use mathlib.Core.Path.{_≡_};
 ghost use mathlib.Core.Bool.{true};
 ghost use mathlib.Core.List.{List};
 ghost use Prim.Native.Nat.{ℕ, _+_};
-ghost use lib.ListN.{length, take};
+ghost use lib.ListN.{length};
 ghost use Rattle.values.specs.Numbers.{numberOf};
 ghost use Rattle.rules.specs.Compile.{compile};
 ghost use Rattle.rules.specs.Schedule.{stepsLine, refusalLine, schedule};
 ghost use Rattle.input.specs.Reading.{reading, readingOf};
 ghost use Rattle.schedule.specs.Strings.{stringsBy};
 ghost use Rattle.schedule.specs.Subjects.{start};
-ghost use Rattle.print_schedule.specs.Reading.{Holds};
-ghost use Rattle.print_schedule.specs.Printing.{scheduleText, AllSent, ComesNext, Left, LastLine, LinesLeft, IsCatalog};
+ghost use Rattle.standard_streams.specs.Sending.{ComesNext, Left, LastLine};
+ghost use Rattle.print_schedule.specs.Printing.{scheduleText, AllSent, LinesLeft, IsCatalog};
 use input::Progress;
-use libc::STDERR_FILENO;
-use libc::STDIN_FILENO;
-use libc::STDOUT_FILENO;
 use schedule::Line;
 use schedule::Position;
 use schedule::Written;
+use standard_streams::Taken;
+use standard_streams::first;
+use standard_streams::read_all;
+use standard_streams::send;
 use values::Answer;
 use values::Reason;
-
-// How many pieces of input are read at most: enough for 4 GiB that come byte by byte.
-const MOST_PIECES: u64 = 4294967296;
-
-// What reading came to: there may be more, or all that matters is read.
-pub enum Taken {
-    More(Progress),
-    All(Progress),
-    Failed,
-}
-
-// ---- Bytes
-
-// The first `n` bytes, or all.
-fn first(bytes: &[u8], n: usize) -> &[u8]
-    ensures { λ r. ⌜ now r ≡ take n (now (bytes .entry)) ⌝ }
-{
-    if bytes.len() <= n {
-        return bytes;
-    }
-    &bytes[..n]
-}
-
-// ---- Reading
-
-// Reads one piece of the input.
-fn read_piece(at: Progress, device: &mut [u8], manifest: &mut [u8]) -> Taken
-    ensures { λ r. ⌜ ((d m input : List ℕ) → reading at (now (device .entry)) (now (manifest .entry)) ≡ readingOf d m input → Holds d m (now (device .exit)) (now (manifest .exit)) r) ⌝ }
-{
-    let mut piece = [0u8; 4096];
-    let got = libc::read(STDIN_FILENO, &mut piece);
-    if got < 0 {
-        os::fail(b"standard input");
-        return Taken::Failed;
-    }
-    if got == 0 {
-        return Taken::All(at);
-    }
-    let n = io::count(got, &piece);
-    let next = input::feed(&piece[..n], at, device, manifest);
-    if input::is_full(next) {
-        return Taken::All(next);
-    }
-    Taken::More(next)
-}
-
-fn too_many_pieces() -> Taken
-    ensures { λ r. ⌜ r ≡ Taken.Failed ⌝ }
-{
-    io::write_all(STDERR_FILENO, b"standard input: too many pieces\n");
-    Taken::Failed
-}
-
-// Reads to the input's end, or until the rest of it makes no difference.
-fn read_all(device: &mut [u8], manifest: &mut [u8]) -> Taken
-    ensures { λ r. ⌜ Holds (now (device .entry)) (now (manifest .entry)) (now (device .exit)) (now (manifest .exit)) r ⌝ }
-{
-    let mut at = input::start();
-    let mut left = MOST_PIECES;
-    while 0 < left {
-        let taken = read_piece(at, device, manifest);
-        let Taken::More(further) = taken else {
-            return taken;
-        };
-        at = further;
-        left -= 1;
-    }
-    too_many_pieces()
-}
 
 // ---- Compiling
 
@@ -109,12 +41,7 @@ fn write(text: &[u8], manifest: &[u8], device: &[u8], sent: &mut u64) -> bool
     requires { ⌜ ComesNext (scheduleText (now manifest) (now device)) (now sent) (now text) ⌝ }
     ensures { λ r. ⌜ (r ≡ true → now (sent .exit) ≡ now (sent .entry) + length (now (text .entry))) ⌝ }
 {
-    if io::write_all(STDOUT_FILENO, text) {
-        *sent += text.len() as u64;
-        return true;
-    }
-    os::fail(b"standard output");
-    false
+    send(text, sent)
 }
 
 // The last line, in its buffer.

@@ -3,7 +3,7 @@ use Prim.Native.Nat.{ℕ}
 use mathlib.Core.Path.{_≡_, _∙_}
 use borrow.Author.Needs.{needs}
 use native.Mathlib.Omega.{arith}
-use Rattle.print_schedule.proofs.Printing.{last-bytes, last-next, all-sent}
+use Rattle.standard_streams.proofs.Sending.{last-bytes, last-next, all-sent}
 use Rattle.print_schedule.proofs.print_last.Statement.{statement}
 use Rattle.print_schedule.proofs.print_last.Tie as tie
 

@@ -3,7 +3,7 @@ use borrow.Author.Needs.{needs}
 use native.Mathlib.Omega.{arith}
 use Rattle.rules.specs.Schedule.{refusalLine}
 use Rattle.schedule.proofs.Whole.{refusal-short}
-use Rattle.print_schedule.proofs.Printing.{last-line}
+use Rattle.standard_streams.proofs.Sending.{last-line}
 use Rattle.print_schedule.proofs.print_refusal.Statement.{statement}
 use Rattle.print_schedule.proofs.print_refusal.Tie as tie
 
@@ -11,7 +11,7 @@ print-last-requires : tie.Need-print-last-requires
 unfolding refusalLine
 print-last-requires c κs =
     let s = c .before .before .before .before .before .before .before in
-    last-line _ _ _ (s .pre) (omega arith) (refusal-short (s .args .reason) (s .args .place) (omega (arith, s .fits .place))) (c .before .before .before .refusal-line .ensures)
+    last-line _ _ _ _ (s .pre) (omega arith) (refusal-short (s .args .reason) (s .args .place) (omega (arith, s .fits .place))) (omega arith) (c .before .before .before .refusal-line .ensures)
 
 pub print-refusal-spec : {M : Type 1} → statement M
 print-refusal-spec = tie.close (tie.spec (λ c. search needs) (λ c κs. search needs) (λ c. search needs) print-last-requires (λ c. search needs))

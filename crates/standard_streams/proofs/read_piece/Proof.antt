@@ -1,8 +1,8 @@
 -- `read_piece`: nothing came, or a piece that `feed` takes.
 use borrow.Author.Needs.{needs}
-use Rattle.print_schedule.specs.Reading.{moreHeld, allHeld, failed}
-use Rattle.print_schedule.proofs.read_piece.Statement.{statement}
-use Rattle.print_schedule.proofs.read_piece.Tie as tie
+use Rattle.standard_streams.specs.Reading.{moreHeld, allHeld, failed}
+use Rattle.standard_streams.proofs.read_piece.Statement.{statement}
+use Rattle.standard_streams.proofs.read_piece.Tie as tie
 
 returns : tie.Need-returns
 returns c = λ d m input held. failed

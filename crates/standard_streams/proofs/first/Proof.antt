@@ -2,8 +2,8 @@
 use mathlib.Core.Path.{refl, sym}
 use native.Mathlib.Omega.{arith}
 use lib.Seq.{take-all, length-take-le}
-use Rattle.print_schedule.proofs.first.Statement.{statement}
-use Rattle.print_schedule.proofs.first.Tie as tie
+use Rattle.standard_streams.proofs.first.Statement.{statement}
+use Rattle.standard_streams.proofs.first.Tie as tie
 
 returns : tie.Need-returns
 returns c = let a = c .before .args in sym (take-all (a .n) (a .bytes .now) (c .if1 .taken))

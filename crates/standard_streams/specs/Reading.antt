@@ -4,8 +4,8 @@ use mathlib.Core.List.{List}
 use Prim.Native.Nat.{ℕ}
 use Rattle.input.specs.declared.Progress.{Progress}
 use Rattle.input.specs.Reading.{reading, readingOf}
-use Rattle.print_schedule.specs.declared.Taken.{Taken}
-use Rattle.print_schedule.specs.declared.Taken.the-variants.{More, All, Failed}
+use Rattle.standard_streams.specs.declared.Taken.{Taken}
+use Rattle.standard_streams.specs.declared.Taken.the-variants.{More, All, Failed}
 
 -- buffers that held d and m hold all of some input: whatever was read, every piece of it, in order
 pub data Holds (d m d′ m′ : List ℕ) : Taken → Type 0 where

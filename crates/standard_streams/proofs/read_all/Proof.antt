@@ -6,11 +6,11 @@ use native.Mathlib.Omega.{arith}
 use lib.ListN.{length}
 use Rattle.input.specs.declared.Progress.{Progress}
 use Rattle.input.specs.Reading.{reading, readingOf}
-use Rattle.print_schedule.specs.declared.Taken.{Taken}
-use Rattle.print_schedule.specs.declared.Taken.the-variants.{More}
-use Rattle.print_schedule.specs.Reading.{Holds, moreHeld, failed}
-use Rattle.print_schedule.proofs.read_all.Statement.{statement}
-use Rattle.print_schedule.proofs.read_all.Tie as tie
+use Rattle.standard_streams.specs.declared.Taken.{Taken}
+use Rattle.standard_streams.specs.declared.Taken.the-variants.{More}
+use Rattle.standard_streams.specs.Reading.{Holds, moreHeld, failed}
+use Rattle.standard_streams.proofs.read_all.Statement.{statement}
+use Rattle.standard_streams.proofs.read_all.Tie as tie
 
 abbrev Inv-loop : tie.InvT-loop
 Inv-loop device₀ manifest₀ at₀ left₀ device manifest at left = Holds device₀ manifest₀ device manifest (More at) × ((length device ≡ length device₀) × (length manifest ≡ length manifest₀))
@@ -23,7 +23,7 @@ held-then : {d m d′ m′ d″ m″ : List ℕ} {at : Progress} {r : Taken} →
 held-then {d} {m} (moreHeld input held) next = next d m input held
 
 loop-holds : tie.Need-loop-holds Inv-loop μ-loop
-loop-holds c = let a = c .before .before .before .args in (moreHeld [] (c .start .ensures (a .device .now) (a .manifest .now)), (refl, refl))
+loop-holds c = let a = c .before .before .before .args in (moreHeld [] (c .start .ensures (a .line .now) (a .rest .now)), (refl, refl))
 
 same-length : tie.Need-same-length Inv-loop μ-loop
 same-length c = let r = c .before .before .before .before .before in r .read-piece .kept .1 .0 ∙ r .before .before .before .before .loop .inv .1 .0
