@@ -15,7 +15,7 @@ use Rattle.rules.specs.Schedule.{beforeFeed, afterFeed}
 use Rattle.rules.proofs.Lists.{when-true, when-false}
 use Rattle.rules.proofs.Within.{false-not-true}
 use Rattle.input.specs.declared.Progress.{Progress}
-use Rattle.input.specs.Reading.{Reading, reading, keptDevice, keptManifest, hasFeed, readingOf, fedBy, fed, Fed, isFull}
+use Rattle.input.specs.Reading.{Reading, reading, keptLine, keptRest, hasFeed, readingOf, fedBy, fed, Fed, isFull}
 
 -- ---- The line feed in a piece
 
@@ -140,10 +140,10 @@ module _ (m xs : List ℕ) where
 -- ---- A reading and one more piece
 
 same-reading : {b b′ : Bool} {k k′ n n′ : ℕ} {d d′ m m′ : List ℕ} → b ≡ b′ → k ≡ k′ → n ≡ n′ → d ≡ d′ → m ≡ m′
-    → reading (record { met = b; device = k; manifest = n }) d m ≡ reading (record { met = b′; device = k′; manifest = n′ }) d′ m′
-same-reading b k n d m = λ i. reading (record { met = b i; device = k i; manifest = n i }) (d i) (m i)
+    → reading (record { met = b; line = k; rest = n }) d m ≡ reading (record { met = b′; line = k′; rest = n′ }) d′ m′
+same-reading b k n d m = λ i. reading (record { met = b i; line = k i; rest = n i }) (d i) (m i)
 
-pub nothing-read : (d m : List ℕ) → reading (record { met = false; device = 0; manifest = 0 }) d m ≡ readingOf d m []
+pub nothing-read : (d m : List ℕ) → reading (record { met = false; line = 0; rest = 0 }) d m ≡ readingOf d m []
 unfolding readingOf hasFeed beforeFeed afterFeed over
 nothing-read d m = same-reading refl (omega arith) (omega arith) refl refl
 
@@ -153,7 +153,7 @@ unfolding fed fedBy readingOf
 fed-more piece d m input = go (hasFeed input) refl
   where
     at : Progress
-    at = record { met = hasFeed input; device = min (length d) (length (beforeFeed input)); manifest = min (length m) (length (afterFeed input)) }
+    at = record { met = hasFeed input; line = min (length d) (length (beforeFeed input)); rest = min (length m) (length (afterFeed input)) }
 
     go : (b : Bool) → hasFeed input ≡ b → fedBy b piece at (over d 0 (beforeFeed input)) (over m 0 (afterFeed input)) ≡ readingOf d m (input ++ piece)
     go true e =
@@ -170,27 +170,27 @@ fed-more piece d m input = go (hasFeed input) refl
         (kept-more m (afterFeed input) (afterFeed piece) ∙ ap (over m 0) (sym (r .after)))
 
 -- as much as fits is kept
-pub kept-device : (d m input : List ℕ) → keptDevice (readingOf d m input) ≡ take (length d) (beforeFeed input)
-unfolding keptDevice readingOf
-kept-device d m input = kept-part d (beforeFeed input)
+pub kept-line : (d m input : List ℕ) → keptLine (readingOf d m input) ≡ take (length d) (beforeFeed input)
+unfolding keptLine readingOf
+kept-line d m input = kept-part d (beforeFeed input)
 
-pub kept-manifest : (d m input : List ℕ) → keptManifest (readingOf d m input) ≡ take (length m) (afterFeed input)
-unfolding keptManifest readingOf
-kept-manifest d m input = kept-part m (afterFeed input)
+pub kept-rest : (d m input : List ℕ) → keptRest (readingOf d m input) ≡ take (length m) (afterFeed input)
+unfolding keptRest readingOf
+kept-rest d m input = kept-part m (afterFeed input)
 
--- where 65,536 bytes of the manifest are kept, and the buffer has no more, what follows makes no difference
-manifestCount : Reading → ℕ
-manifestCount (reading p d m) = p .manifest
+-- where 65,536 bytes of the rest are kept, and the buffer has no more, what follows makes no difference
+restCount : Reading → ℕ
+restCount (reading p d m) = p .rest
 
 pub full-same : (d m input : List ℕ) {p : Progress} {d′ m′ : List ℕ} → length m ≡ 65536 → reading p d′ m′ ≡ readingOf d m input → isFull p ≡ true → (more : List ℕ) → readingOf d m (input ++ more) ≡ reading p d′ m′
-unfolding readingOf manifestCount
+unfolding readingOf restCount
 full-same d m input {p} size r full more = go (hasFeed input) refl ∙ sym r
   where
     rest : List ℕ
     rest = afterFeed input
 
     long : 65536 ≤ min (length m) (length rest)
-    long = omega (arith, leb-true 65536 (p .manifest) full, ap manifestCount r)
+    long = omega (arith, leb-true 65536 (p .rest) full, ap restCount r)
 
     go : (b : Bool) → hasFeed input ≡ b → readingOf d m (input ++ more) ≡ readingOf d m input
     go true e =
@@ -210,12 +210,12 @@ abbrev Keeps : (buffer buffer′ : List ℕ) → (kept : ℕ) → (bytes : List 
 Keeps b b′ k bs n = (n ≡ min (length b) (k + length bs)) × (b′ ≡ over b k bs)
 
 module _ (piece d m : List ℕ) (at : Progress) where
-  pub fed-after : {m′ : List ℕ} {n : ℕ} → at .met ≡ true → Keeps m m′ (at .manifest) piece n → Fed piece (reading at d m) (reading (record { met = true; device = at .device; manifest = n }) d m′)
+  pub fed-after : {m′ : List ℕ} {n : ℕ} → at .met ≡ true → Keeps m m′ (at .rest) piece n → Fed piece (reading at d m) (reading (record { met = true; line = at .line; rest = n }) d m′)
   unfolding fed fedBy
   fed-after met k = fed-so (rw met (same-reading refl refl (k .0) refl (k .1)))
 
-  pub fed-before : {d′ m′ rest : List ℕ} {e k n : ℕ} → at .met ≡ false → e ≡ length (beforeFeed piece) → Keeps d d′ (at .device) (take e piece) k → rest ≡ drop (e + 1) piece → Keeps m m′ (at .manifest) rest n
-      → Fed piece (reading at d m) (reading (record { met = ltb e (length piece); device = k; manifest = n }) d′ m′)
+  pub fed-before : {d′ m′ rest : List ℕ} {e k n : ℕ} → at .met ≡ false → e ≡ length (beforeFeed piece) → Keeps d d′ (at .line) (take e piece) k → rest ≡ drop (e + 1) piece → Keeps m m′ (at .rest) rest n
+      → Fed piece (reading at d m) (reading (record { met = ltb e (length piece); line = k; rest = n }) d′ m′)
   unfolding fed fedBy
   fed-before {rest = rest} {e = e} met place name back text =
       let s = split piece in
@@ -225,5 +225,5 @@ module _ (piece d m : List ℕ) (at : Progress) where
       fed-so
       (rw met
       (same-reading there
-      (name .0 ∙ ap (λ (l : List ℕ). min (length d) (at .device + length l)) front) (text .0 ∙ ap (λ (l : List ℕ). min (length m) (at .manifest + length l)) later)
-      (name .1 ∙ ap (over d (at .device)) front) (text .1 ∙ ap (over m (at .manifest)) later)))
+      (name .0 ∙ ap (λ (l : List ℕ). min (length d) (at .line + length l)) front) (text .0 ∙ ap (λ (l : List ℕ). min (length m) (at .rest + length l)) later)
+      (name .1 ∙ ap (over d (at .line)) front) (text .1 ∙ ap (over m (at .rest)) later)))

@@ -23,8 +23,8 @@ use Rattle.rules.proofs.Lists.{Each, noneLeft, also}
 use Rattle.syntax.proofs.Texts.{other-length}
 use Rattle.syntax.proofs.StringsRead.{Short, numbered-short, short-strings, strings-read}
 use Rattle.syntax.proofs.Whole.{too-long, before-the-run}
-use Rattle.input.specs.Reading.{Reading, keptDevice, keptManifest, readingOf}
-use Rattle.input.proofs.Feeding.{kept-device, kept-manifest}
+use Rattle.input.specs.Reading.{Reading, keptLine, keptRest, readingOf}
+use Rattle.input.proofs.Feeding.{kept-line, kept-rest}
 
 -- ---- The device name: no string of a sound manifest has more than 255 bytes
 
@@ -95,8 +95,8 @@ unfolding schedule
 kept-same input = same-text (afterFeed input) (beforeFeed input)
 
 -- buffers of 256 and of 65,536 bytes that hold an input have what its schedule needs
-pub kept-schedule : (d m input : List ℕ) {r : Reading} → length d ≡ 256 → length m ≡ 65536 → r ≡ readingOf d m input → textOf (manifestOf (keptManifest r) .strings) (compiled (keptManifest r) (keptDevice r) 65535 65535 65536) ≡ schedule input
+pub kept-schedule : (d m input : List ℕ) {r : Reading} → length d ≡ 256 → length m ≡ 65536 → r ≡ readingOf d m input → textOf (manifestOf (keptRest r) .strings) (compiled (keptRest r) (keptLine r) 65535 65535 65536) ≡ schedule input
 kept-schedule d m input {r} device manifest e =
-    let name : keptDevice r ≡ take 256 (beforeFeed input) = ap keptDevice e ∙ kept-device d m input ∙ ap (λ (n : ℕ). take n (beforeFeed input)) device in
-    let text : keptManifest r ≡ take 65536 (afterFeed input) = ap keptManifest e ∙ kept-manifest d m input ∙ ap (λ (n : ℕ). take n (afterFeed input)) manifest in
+    let name : keptLine r ≡ take 256 (beforeFeed input) = ap keptLine e ∙ kept-line d m input ∙ ap (λ (n : ℕ). take n (beforeFeed input)) device in
+    let text : keptRest r ≡ take 65536 (afterFeed input) = ap keptRest e ∙ kept-rest d m input ∙ ap (λ (n : ℕ). take n (afterFeed input)) manifest in
     rw (name, text) (sym (kept-same input))

@@ -1,4 +1,4 @@
-// Standard input, which comes in pieces, as a device name and a manifest: "reads the device name, a line feed, then the manifest".
+// Standard input, which comes in pieces, as a first line and the rest: the printer "reads the device name, a line feed, then the manifest".
 ghost use mathlib.Core.Path.{_≡_};
 ghost use mathlib.Core.List.{List, []};
 ghost use Prim.Native.Nat.{ℕ, _+_, min};
@@ -10,18 +10,18 @@ ghost use Rattle.input.specs.Reading.{reading, readingOf, isFull, Fed};
 // How far the input is read: whether the line feed was met, and how many bytes of each part are kept.
 pub struct Progress {
     pub met: bool,
-    pub device: usize,
-    pub manifest: usize,
+    pub line: usize,
+    pub rest: usize,
 }
 
 // Nothing is read yet.
 pub fn start() -> Progress
-    ensures { λ r. ⌜ ((device manifest : List ℕ) → reading r device manifest ≡ readingOf device manifest []) ⌝ }
+    ensures { λ r. ⌜ ((line rest : List ℕ) → reading r line rest ≡ readingOf line rest []) ⌝ }
 {
     Progress {
         met: false,
-        device: 0,
-        manifest: 0,
+        line: 0,
+        rest: 0,
     }
 }
 
@@ -66,30 +66,30 @@ fn keep(buffer: &mut [u8], kept: usize, bytes: &[u8]) -> usize
 }
 
 // Takes one more piece of the input. What does not fit the buffers is dropped.
-pub fn feed(piece: &[u8], at: Progress, device: &mut [u8], manifest: &mut [u8]) -> Progress
-    ensures { λ r. ⌜ Fed (now (piece .entry)) (reading at (now (device .entry)) (now (manifest .entry))) (reading r (now (device .exit)) (now (manifest .exit))) ⌝ }
+pub fn feed(piece: &[u8], at: Progress, line: &mut [u8], rest: &mut [u8]) -> Progress
+    ensures { λ r. ⌜ Fed (now (piece .entry)) (reading at (now (line .entry)) (now (rest .entry))) (reading r (now (line .exit)) (now (rest .exit))) ⌝ }
 {
     if at.met {
-        let all = keep(manifest, at.manifest, piece);
+        let all = keep(rest, at.rest, piece);
         return Progress {
             met: true,
-            device: at.device,
-            manifest: all,
+            line: at.line,
+            rest: all,
         };
     }
     let e = feed_place(piece);
-    let name = keep(device, at.device, &piece[..e]);
-    let rest = keep(manifest, at.manifest, after(piece, e));
+    let before = keep(line, at.line, &piece[..e]);
+    let behind = keep(rest, at.rest, after(piece, e));
     Progress {
         met: e < piece.len(),
-        device: name,
-        manifest: rest,
+        line: before,
+        rest: behind,
     }
 }
 
-// Whether 65,536 bytes of the manifest are kept: it is too long then, whatever follows.
+// Whether 65,536 bytes of the rest are kept: a manifest or a text is too long then, whatever follows.
 pub fn is_full(at: Progress) -> bool
     ensures { λ r. ⌜ r ≡ isFull at ⌝ }
 {
-    65536 <= at.manifest
+    65536 <= at.rest
 }

@@ -20,7 +20,7 @@ use Rattle.rules.specs.Schedule.{entryLines, stepsLine, refusalLine, textOf, sc
 use Rattle.rules.proofs.Laws.{catalog-within}
 use Rattle.syntax.specs.Strings.{indexed}
 use Rattle.input.specs.declared.Progress.{Progress}
-use Rattle.input.specs.Reading.{reading, readingOf, keptDevice, keptManifest}
+use Rattle.input.specs.Reading.{reading, readingOf, keptLine, keptRest}
 use Rattle.input.proofs.Kept.{kept-schedule}
 use Rattle.catalog.specs.Making.{stored}
 use Rattle.schedule.specs.declared.Position.{Position}
@@ -137,6 +137,6 @@ module _ (m device : List ℕ) where
 -- ---- The input that was read
 
 -- what buffers of 256 and 65,536 bytes keep of an input has the schedule of the input
-pub read-text : (d m input : List ℕ) (p : Progress) (device manifest : List ℕ) → length d ≡ 256 → length m ≡ 65536 → reading p device manifest ≡ readingOf d m input → scheduleText (take (p .manifest) manifest) (take (p .device) device) ≡ schedule input
-unfolding scheduleText keptDevice keptManifest
+pub read-text : (d m input : List ℕ) (p : Progress) (device manifest : List ℕ) → length d ≡ 256 → length m ≡ 65536 → reading p device manifest ≡ readingOf d m input → scheduleText (take (p .rest) manifest) (take (p .line) device) ≡ schedule input
+unfolding scheduleText keptLine keptRest
 read-text d m input p device manifest name text e = kept-schedule d m input name text e

@@ -133,7 +133,7 @@ fn print_read(at: Progress, device: &[u8], manifest: &[u8], sent: &mut u64) -> b
     requires { ⌜ now sent ≡ 0 ⌝ }
     ensures { λ r. ⌜ ((d m input : List ℕ) → length d ≡ 256 → length m ≡ 65536 → reading at (now (device .entry)) (now (manifest .entry)) ≡ readingOf d m input → r ≡ true → now (sent .exit) ≡ length (schedule input)) ⌝ }
 {
-    print_schedule(first(manifest, at.manifest), first(device, at.device), sent)
+    print_schedule(first(manifest, at.rest), first(device, at.line), sent)
 }
 
 fn main() {

@@ -13,7 +13,7 @@ same-length c = search needs
 returns : tie.Need-returns
 returns c =
     let a = c .before .before .before .before .before .before .before .before .args in
-    fed-after (a .piece .now) (a .device .now) (a .manifest .now) (a .at) (c .before .before .before .before .if1 .taken) (c .before .before .keep .ensures)
+    fed-after (a .piece .now) (a .line .now) (a .rest .now) (a .at) (c .before .before .before .before .if1 .taken) (c .before .before .keep .ensures)
 
 slice-aggregate-keep : tie.Need-slice-aggregate-keep
 slice-aggregate-keep c =
@@ -31,7 +31,7 @@ returns-2 : tie.Need-returns-2
 returns-2 c =
     let b = c .before .before .before .before .before .before .before in
     let a = b .before .before .before .before .before .before .before .before .args in
-    fed-before (a .piece .now) (a .device .now) (a .manifest .now) (a .at) (b .before .before .before .before .if1 .left) (b .before .before .before .feed-place .ensures)
+    fed-before (a .piece .now) (a .line .now) (a .rest .now) (a .at) (b .before .before .before .before .if1 .left) (b .before .before .before .feed-place .ensures)
     (b .keep2 .ensures) (c .before .before .before .after .ensures) (c .before .before .keep3 .ensures)
 
 pub feed-spec : {M : Type 1} → statement M
