@@ -28,7 +28,7 @@ use Rattle.input.proofs.Feeding.{kept-line, kept-rest}
 
 -- ---- The device name: no string of a sound manifest has more than 255 bytes
 
-same-name : (x device : List ℕ) → length x ≤ 255 → sameBytes x (take 256 device) ≡ sameBytes x device
+pub same-name : (x device : List ℕ) → length x ≤ 255 → sameBytes x (take 256 device) ≡ sameBytes x device
 same-name x device short = go (leb (length device) 256) refl
   where
     go : (b : Bool) → leb (length device) 256 ≡ b → sameBytes x (take 256 device) ≡ sameBytes x device

@@ -25,7 +25,7 @@ use catalog::layout::ENTRY_TYPE;
 use labels::Labels;
 use values::Reason;
 
-mod pieces; // pieces.rt: a line made of pieces
+pub mod pieces; // pieces.rt: a line made of pieces
 mod subjects; // subjects.rt: what stands at a position
 
 // A line of a catalog: the place of its entry, and the place in it where the next attribute begins.
