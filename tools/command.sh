@@ -41,6 +41,9 @@ reason() {
     21) echo "an attribute is named twice in one body" ;;
     22) echo "a 513th cell is needed" ;;
     23) echo "the finished entry passes the output's end or 65,535 bytes in all" ;;
+    24) echo "the text is outside the notation or its limits" ;;
+    25) echo "a constant stands past line 255, where the first line is line 0" ;;
+    26) echo "a label is below an earlier constant's, the notation cannot spell a name, a 25 names no built-in type, or a 27 names one" ;;
     *) echo "a number that the papers do not have" ;;
     esac
 }
@@ -115,13 +118,15 @@ cut_short() { fail "what the program $root/target/bin/$1 wrote was cut short"; }
 
 # ---- Files
 
-# FILE: it can be read, and standard output is there.
-check_files() {
+# FILE: it can be read.
+check_file() {
     [ -e "$1" ] || fail "there is no file $1"
     [ ! -d "$1" ] || fail "$1 is a folder"
     [ -r "$1" ] || fail "the file $1 cannot be read"
-    (: >&1) 2>/dev/null || fail "standard output is closed"
 }
+
+# Standard output is there.
+check_output() { (: >&1) 2>/dev/null || fail "standard output is closed"; }
 
 # A folder for temporary files, and its removal.
 make_room() {
@@ -131,7 +136,13 @@ make_room() {
 }
 
 # FILE COPY: no program needs more of a file than its first 65,536 bytes: one so long is refused, whatever follows.
-copy_start() { head -c 65536 -- "$1" >"$2" || fail "the file $1 cannot be read, or there is no room for a copy of it; TMPDIR names the folder to use"; }
+copy_start() { head -c 65536 <"$1" >"$2" || fail "the file $1 cannot be read, or there is no room for a copy of it; TMPDIR names the folder to use"; }
+
+# FILE: how many bytes it has
+size_of() { wc -c <"$1" | tr -d ' '; }
+
+# FILE: whether it is a text. A tagged manifest begins with byte 01, and no text does; an empty file is a text.
+is_text() { [ "$(head -c 1 "$1" | od -An -tu1 | tr -d ' ')" != 1 ]; }
 
 # PATTERN: whether all of standard input is one line like this, its line feed included
 one_line() {
@@ -142,3 +153,110 @@ one_line() {
 }
 # FILE: whether it holds the line of a refusal
 is_refusal() { one_line 'refused [0-9][0-9]* at [0-9][0-9]*' <"$1"; }
+
+# ---- The program for texts
+
+build_texts() { build manifest_text 'the program for texts' 'several minutes'; }
+
+# FILE: whether it holds a whole result: "written", a length, a line feed and so many bytes. The length is in `length` then.
+is_result() {
+    IFS= read -r header <"$1" || return 1
+    length=${header#written }
+    case $header in
+    "written $length") ;;
+    *) return 1 ;;
+    esac
+    case $length in
+    0 | [1-9] | [1-9][0-9] | [1-9][0-9][0-9] | [1-9][0-9][0-9][0-9] | [1-9][0-9][0-9][0-9][0-9]) ;;
+    *) return 1 ;;
+    esac
+    [ "$(size_of "$1")" -eq $((${#header} + 1 + length)) ]
+}
+
+# CALL FILE RESULT: converts a text or prints a manifest into the file RESULT, and returns 0; or returns 1, with the refusal in `number` and `place`.
+ask_texts() {
+    ask manifest_text "$1" "$2" "$3.answer"
+    if is_refusal "$3.answer"; then
+        read -r _ number _ place <"$3.answer"
+        return 1
+    fi
+    is_result "$3.answer" || cut_short manifest_text
+    tail -c "$length" "$3.answer" >"$3" || fail "there is no room for the result; TMPDIR names the folder to use"
+}
+
+# TEXT OFFSET: prints the place in a text of what became the field at an offset of its tagged form; nothing where the program cannot tell.
+text_place() {
+    { printf 'place %s\n' "$2" && cat "$1"; } 2>/dev/null | run manifest_text 2>/dev/null >"$room/place" || return 0
+    if one_line 'place [0-9][0-9]*' <"$room/place"; then sed 's/^place //' "$room/place"; fi
+}
+
+# ---- What is wrong in a file
+
+# NAME WORDS: tells it of the file that the user calls NAME.
+tell() { printf '%s: %s\n' "$1" "$2" >&2 || :; }
+
+# COLUMN: a line, as standard input has it, and a caret below the byte in this column. Of a long line a part is shown. Bytes that steer a terminal show as "?"; tabs
+# stay, also before the caret; of a character with several bytes only the first moves the caret.
+show_line() {
+    { LC_ALL=C tr '\015' ' ' | LC_ALL=C tr '\000-\010\012-\037\177' '[?*]' && echo; } | LC_ALL=C awk -v column="$1" '{
+        first = 1
+        if (80 < column) {
+            first = column - 60
+            while (first < column && substr($0, first, 1) ~ /[\200-\277]/) first++
+            before = "..."
+        }
+        count = 120
+        while (substr($0, first + count, 1) ~ /[\200-\277]/) count++
+        if (first + count <= length($0)) behind = "..."
+        margin = substr($0, first, column - first)
+        gsub(/[\200-\277]/, "", margin)
+        gsub(/[^\t]/, " ", margin)
+        print "    " before substr($0, first, count) behind
+        print "    " (before ? "   " : "") margin "^"
+    }'
+}
+
+# NAME TEXT PLACE WORDS: tells it of a byte of a text: its line and column, both from 1, the words, and the line with a caret below the byte.
+tell_at() {
+    lines=$(head -c "$3" "$2" | LC_ALL=C tr -dc '\n' | wc -c)
+    before=$(head -n "$lines" "$2" | wc -c)
+    column=$(($3 - before + 1))
+    {
+        printf '%s:%s:%s: %s\n' "$1" $((lines + 1)) "$column" "$4" &&
+            tail -c +$((before + 1)) "$2" | head -n 1 | tr -d '\n' | show_line "$column"
+    } >&2 || :
+}
+
+# TEXT: whether its first byte begins the token at fault, where it is refused 24 at 0: behind a space that token is one byte further on. A length's place stays 0.
+begins_with_fault() {
+    { printf ' ' && head -c 65534 "$1"; } >"$room/shifted" || fail "there is no room for temporary files; TMPDIR names the folder to use"
+    ! ask_texts convert "$room/shifted" "$room/shifted.result" && [ "$number $place" = '24 1' ]
+}
+
+# NAME TEXT NUMBER PLACE: why the text was not converted.
+explain_text() {
+    size=$(size_of "$2")
+    if [ "$3 $4" != '24 0' ]; then
+        words=$(reason "$3")
+        if [ "$3 $4" = "24 $size" ]; then words="$words: it ends here, where more must follow"; fi
+        tell_at "$1" "$2" "$4" "$words"
+    elif [ "$size" -gt 65535 ]; then
+        tell "$1" "the text is longer than 65,535 bytes"
+    elif ! is_text "$2"; then
+        tell "$1" "$(reason 24): it begins with byte 01, as a tagged manifest does"
+    elif begins_with_fault "$2"; then
+        tell_at "$1" "$2" 0 "$(reason 24)"
+    else
+        tell "$1" "the tagged form of this text is longer than 65,535 bytes"
+    fi
+}
+
+# NAME MANIFEST NUMBER PLACE: why the tagged manifest was refused.
+explain_manifest() {
+    case "$3 $4" in
+    '1 '* | '2 '*) tell "$1" "$(reason "$3")" ;;
+    '26 0') tell "$1" "the text of this manifest is longer than 65,535 bytes" ;;
+    '3 0') if is_text "$2"; then tell "$1" "$(reason 3): it does not begin with byte 01, as a tagged manifest does"; else tell "$1" "$(reason 3); it concerns the field at byte 0"; fi ;;
+    *) tell "$1" "$(reason "$3"); it concerns the field at byte $4" ;;
+    esac
+}
