@@ -6,7 +6,7 @@ use native.Mathlib.Omega.{arith}
 use native.Mathlib.Numerals.{add-one}
 use lib.ListN.{length, length-append}
 use Rattle.rules.specs.Bytes.{two}
-use Rattle.rules.specs.Fields.{field, wrap, write, writeAll}
+use Rattle.rules.specs.Fields.{wrap, write, writeAll}
 use Rattle.notation.specs.Quoted.{stringFrom}
 use Rattle.notation.specs.Convert.{stringFields}
 use Rattle.interner.specs.Strings.{restOf, fromCode, Stepped}

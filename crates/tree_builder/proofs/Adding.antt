@@ -1,8 +1,8 @@
 -- A part of one level comes last: what the state and the output then stand for. Assumes nothing.
-use mathlib.Core.Path.{_≡_, refl, sym, ap, _∙_}
+use mathlib.Core.Path.{_≡_, sym, ap, _∙_}
 use mathlib.Core.Bool.{true, false}
-use mathlib.Core.List.{List, [], _∷_, _++_}
-use mathlib.Core.Option.{Option, none, some}
+use mathlib.Core.List.{List, _++_}
+use mathlib.Core.Option.{Option, none}
 use Prim.Native.Nat.{ℕ, suc, _+_, _≤_, _<_, max}
 use native.Mathlib.Omega.{arith}
 use borrow.Author.Tests.{le-leb, lt-leb}
@@ -12,9 +12,9 @@ use Rattle.rules.specs.Fields.{write}
 use Rattle.notation.specs.Building.{Piece, Node, Nodes, _▸_, height, tallest, Frame, frame, Build, build, added}
 use Rattle.notation.specs.Convert.{orLater, lateIn, numbered}
 use Rattle.tree_builder.specs.declared.Building.{Building}
-use Rattle.tree_builder.specs.Open.{low, Holds, openBytes, lateOpen, lateNumber}
+use Rattle.tree_builder.specs.Open.{low, openBytes, lateOpen, lateNumber}
 use Rattle.tree_builder.specs.State.{withPart}
-use Rattle.tree_builder.specs.Shows.{LastPart, LastWord, Shown, Shows, Made}
+use Rattle.tree_builder.specs.Shows.{LastPart, Shown, Shows, Made}
 use Rattle.tree_builder.proofs.Stores.{low-append, low-length, holds-more, kept-behind}
 use Rattle.tree_builder.proofs.Bytes.{open-more}
 use Rattle.tree_builder.proofs.Slots.{around-higher}

@@ -1,13 +1,13 @@
 -- The bytes of open fields, as parts, heads and headers come. Assumes nothing.
 use mathlib.Core.Path.{_≡_, refl, sym, ap, _∙_}
 use mathlib.Core.List.{List, [], _∷_, _++_, append-assoc, append-nil}
-use Prim.Native.Nat.{ℕ, zero, suc, _+_, _%_, _/_, _^_, _≤_, _<_}
+use Prim.Native.Nat.{ℕ, zero, suc, _%_, _/_, _^_, _<_}
 use native.Mathlib.Omega.{arith}
-use lib.ListN.{length, length-append}
+use lib.ListN.{length}
 use Rattle.wire.specs.Numbers.{highBytes}
-use Rattle.rules.specs.Fields.{Field, field, Fields, none as noFields, more, wrap, write, writeAll}
-use Rattle.notation.specs.Building.{Piece, byte, name, Node, node, Nodes, empty, _▸_, leaf, Frame, frame}
-use Rattle.notation.specs.Convert.{pieceBytes, headBytes, numbered, numberedOnto}
+use Rattle.rules.specs.Fields.{Fields, none as noFields, more, wrap, write, writeAll}
+use Rattle.notation.specs.Building.{Piece, Node, Nodes, empty, _▸_, leaf, Frame, frame}
+use Rattle.notation.specs.Convert.{headBytes, numbered, numberedOnto}
 use Rattle.tree_builder.specs.Open.{low, opening, partsBytes, aroundBytes, headEnd, openBytes}
 use Rattle.tree_builder.proofs.Stores.{low-append}
 

@@ -1,15 +1,15 @@
 -- A field ends: its length is stored, and the field around it comes from its slot. Assumes nothing.
 use mathlib.Core.Path.{_≡_, refl, sym, ap, _∙_}
 use mathlib.Core.List.{List, [], _∷_, _++_, append-assoc}
-use mathlib.Core.Option.{Option, none, some}
-use Prim.Native.Nat.{ℕ, suc, _+_, _-_, _*_, _/_, _%_, _≤_, _<_, max}
+use mathlib.Core.Option.{none}
+use Prim.Native.Nat.{ℕ, suc, _+_, _-_, _/_, _%_, _≤_, _<_}
 use native.Mathlib.Omega.{arith}
 use lib.ListN.{length, length-append}
 use Rattle.wire.specs.Numbers.{highBytes}
 use Rattle.wire.specs.Runs.{over}
 use Rattle.wire.proofs.Laws.{high-length}
 use Rattle.rules.specs.Fields.{wrap, write}
-use Rattle.notation.specs.Building.{Piece, Node, node, Nodes, _▸_, tallest, Frame, frame, Build, build, Action, close, act}
+use Rattle.notation.specs.Building.{Piece, node, Nodes, _▸_, tallest, Frame, frame, Build, build, close, act}
 use Rattle.notation.specs.Tokens.{Lexeme}
 use Rattle.notation.specs.Convert.{headBytes, numbered}
 use Rattle.tree_builder.specs.declared.Building.{Building}

@@ -1,7 +1,7 @@
 -- Bytes put before all parts of the field being read: a name of it, or a parent. Assumes nothing.
 use mathlib.Core.Path.{_≡_, refl, sym, ap, _∙_}
 use mathlib.Core.List.{List, [], _∷_, _++_, append-assoc, append-nil}
-use mathlib.Core.Option.{Option, none, some}
+use mathlib.Core.Option.{Option, none}
 use Prim.Native.Nat.{ℕ, suc, _+_, _-_, _≤_, _<_, max}
 use native.Mathlib.Omega.{arith}
 use borrow.Author.Tests.{le-leb, lt-leb}
@@ -10,16 +10,16 @@ use Rattle.wire.specs.Numbers.{highBytes}
 use Rattle.wire.specs.Runs.{bytesAt, over}
 use Rattle.wire.proofs.Laws.{high-length}
 use Rattle.rules.specs.Fields.{Fields, none as noFields, more, write, writeAll}
-use Rattle.notation.specs.Building.{Piece, byte, name, Node, node, Nodes, empty, _▸_, leaf, height, tallest, Frame, frame, Build, build, named, parentFirst, act, inFront, addedFirst, spelled}
-use Rattle.notation.specs.Tokens.{Lexeme, placeOf, tokenOf}
+use Rattle.notation.specs.Building.{Piece, byte, name, Node, node, Nodes, empty, _▸_, leaf, height, tallest, Frame, frame, build, named, parentFirst, act, inFront, addedFirst, spelled}
+use Rattle.notation.specs.Tokens.{placeOf, tokenOf}
 use Rattle.notation.specs.Convert.{labelIn, lateIn, lateAmong, orLater, headBytes, pieceBytes, numbered, numberedOnto}
 use Rattle.tree_builder.specs.declared.Building.{Building}
 use Rattle.tree_builder.specs.declared.Step.the-variants.{Did, No}
 use Rattle.tree_builder.specs.Open.{low, Holds, partsBytes, aroundBytes, opening, headEnd, openBytes, lateAround, lateOpen, lateNumber}
 use Rattle.tree_builder.specs.State.{raised, withPart}
-use Rattle.tree_builder.specs.Shows.{numberIn, LastPart, Shown, Shows, Made, Answers, Does, AName}
+use Rattle.tree_builder.specs.Shows.{numberIn, LastPart, Shown, Shows, Answers, Does, AName}
 use Rattle.tree_builder.proofs.Stores.{low-append, low-length, holds-inserted, kept-lifted}
-use Rattle.tree_builder.proofs.Bytes.{low-high, open-none}
+use Rattle.tree_builder.proofs.Bytes.{low-high}
 use Rattle.tree_builder.proofs.Slots.{around-higher}
 use Rattle.tree_builder.proofs.Late.{late-inner}
 use Rattle.tree_builder.proofs.Ready.{body-short}

@@ -1,9 +1,8 @@
 -- The ways of the functions that add a field of one token. Assumes nothing.
 use mathlib.Core.Path.{_≡_, refl, sym, ap, _∙_}
-use mathlib.Core.Bool.{true, false}
+use mathlib.Core.Bool.{true}
 use mathlib.Core.List.{List, [], _∷_, _++_, map}
-use mathlib.Core.Option.{Option, none, some}
-use Prim.Native.Nat.{ℕ, suc, _+_, _%_, _/_, _^_, _≤_, _<_}
+use Prim.Native.Nat.{ℕ, _+_, _%_, _/_, _^_, _≤_, _<_}
 use native.Mathlib.Omega.{arith}
 use borrow.Author.Tests.{le-leb}
 use lib.IntN.{ℤ}
@@ -12,14 +11,14 @@ use Rattle.wire.specs.Numbers.{highBytes, word64}
 use Rattle.wire.specs.Runs.{over}
 use Rattle.wire.proofs.Laws.{then-store}
 use Rattle.rules.specs.Fields.{write}
-use Rattle.notation.specs.Tokens.{Lexeme, lexeme, placeOf}
-use Rattle.notation.specs.Building.{Piece, byte, name, Node, Nodes, _▸_, leaf, height, tallest, Frame, frame, Build, build, Action, void, constant, read, act, added, constantNode, variableNode}
-use Rattle.notation.specs.Convert.{labelIn, orLater, lateIn, lateAmong, pieceBytes, headBytes, numbered}
+use Rattle.notation.specs.Tokens.{Lexeme, placeOf}
+use Rattle.notation.specs.Building.{Piece, byte, name, Node, _▸_, leaf, height, tallest, frame, build, void, constant, read, act, added, constantNode, variableNode}
+use Rattle.notation.specs.Convert.{lateIn, lateAmong, pieceBytes, headBytes, numbered}
 use Rattle.tree_builder.specs.declared.Building.{Building}
 use Rattle.tree_builder.specs.declared.Step.the-variants.{Did, No}
-use Rattle.tree_builder.specs.Open.{low, lateOpen, lateNumber}
+use Rattle.tree_builder.specs.Open.{low, lateNumber}
 use Rattle.tree_builder.specs.State.{withPart, lateWith}
-use Rattle.tree_builder.specs.Shows.{numberIn, LastPart, LastWord, Shown, Shows, Made, Answers, Does, AnyToken, AnInteger, ABoolean, AString, AVariable, AClassVariable}
+use Rattle.tree_builder.specs.Shows.{numberIn, LastPart, Shown, Shows, Answers, Does, AnyToken, AnInteger, ABoolean, AString, AVariable, AClassVariable}
 use Rattle.tree_builder.proofs.Stores.{low-append, low-length, kept-behind}
 use Rattle.tree_builder.proofs.Bytes.{low-high, low-leaf}
 use Rattle.tree_builder.proofs.Late.{late-plain, late-constant}

@@ -1,7 +1,7 @@
 -- A field begins: what the state, the slots and the output then stand for. Assumes nothing.
 use mathlib.Core.Path.{_≡_, refl, sym, ap, _∙_}
-use mathlib.Core.List.{List, [], _∷_, _++_, append-nil}
-use mathlib.Core.Option.{Option, none, some}
+use mathlib.Core.List.{List, [], _∷_, _++_}
+use mathlib.Core.Option.{none}
 use Prim.Native.Nat.{ℕ, suc, _+_, _*_, _≤_, _<_, max}
 use native.Mathlib.Omega.{arith}
 use borrow.Author.Tests.{le-leb, lt-leb}
@@ -9,14 +9,14 @@ use lib.ListN.{length, length-append}
 use Rattle.wire.specs.Numbers.{highBytes}
 use Rattle.wire.specs.Runs.{over}
 use Rattle.wire.proofs.Laws.{high-length}
-use Rattle.notation.specs.Building.{Piece, Nodes, empty, _▸_, tallest, Frame, frame, Build, build, begun}
+use Rattle.notation.specs.Building.{Piece, Nodes, empty, tallest, Frame, frame, Build, build, begun}
 use Rattle.notation.specs.Convert.{labelIn, headBytes}
 use Rattle.tree_builder.specs.declared.Building.{Building}
 use Rattle.tree_builder.specs.Open.{low, Holds, aroundBytes, headEnd, openBytes, lateOpen, lateNumber}
 use Rattle.tree_builder.specs.State.{slotIn, slotNumber, openedAt}
 use Rattle.tree_builder.specs.Shows.{Around, LastPart, Shown, Shows, Made, Ready}
 use Rattle.tree_builder.proofs.Stores.{low-append, low-length, holds-more, kept-behind}
-use Rattle.tree_builder.proofs.Bytes.{low-header, around-open, head-end, inner-open, open-none}
+use Rattle.tree_builder.proofs.Bytes.{low-header, around-open, head-end, open-none}
 use Rattle.tree_builder.proofs.Slots.{slot-back, around-kept, around-higher}
 use Rattle.tree_builder.proofs.Late.{late-begun}
 use Rattle.tree_builder.proofs.Ready.{body-short}

@@ -1,14 +1,14 @@
 -- A state that shows something is ready for every action, as long as the fill is low. Assumes nothing.
-use mathlib.Core.Path.{_≡_, ap, _∙_}
+use mathlib.Core.Path.{ap}
 use mathlib.Core.List.{List, [], _∷_, _++_}
-use Prim.Native.Nat.{ℕ, suc, _+_, _≤_, _<_}
+use Prim.Native.Nat.{ℕ, _+_, _≤_, _<_}
 use native.Mathlib.Omega.{arith}
 use lib.ListN.{length, length-append}
 use Rattle.notation.specs.Building.{Piece, Nodes, Frame, frame, Build, build}
 use Rattle.notation.specs.Convert.{headBytes}
 use Rattle.tree_builder.specs.declared.Building.{Building}
 use Rattle.tree_builder.specs.Open.{partsBytes, aroundBytes, opening, headEnd, openBytes}
-use Rattle.tree_builder.specs.Shows.{Shown, Shows, Ready}
+use Rattle.tree_builder.specs.Shows.{Shows, Ready}
 use Rattle.tree_builder.proofs.Bytes.{around-open, inner-open}
 
 module _ (table : List (List ℕ)) where

@@ -1,10 +1,10 @@
 -- The ways of the functions that open and close round brackets. Assumes nothing.
-use mathlib.Core.Path.{_≡_, refl, sym, ap, _∙_}
+use mathlib.Core.Path.{_≡_, refl}
 use mathlib.Core.List.{List}
 use Prim.Native.Nat.{ℕ, zero, suc, _+_, _-_, _≤_, _<_}
 use native.Mathlib.Omega.{arith}
 use borrow.Author.Tests.{lt-ltb, le-ltb}
-use Rattle.notation.specs.Building.{Piece, Nodes, Frame, frame, Build, build, enter, leave, act}
+use Rattle.notation.specs.Building.{Piece, Nodes, Frame, frame, build, enter, leave, act}
 use Rattle.tree_builder.specs.declared.Building.{Building}
 use Rattle.tree_builder.specs.declared.Step.the-variants.{Did, No}
 use Rattle.tree_builder.specs.Shows.{LastPart, LastWord, Shown, Shows, Answers, Does, AnyToken}

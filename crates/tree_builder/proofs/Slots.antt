@@ -1,5 +1,5 @@
 -- The slots of the fields around. Assumes nothing.
-use mathlib.Core.Path.{_≡_, refl, sym, ap, _∙_}
+use mathlib.Core.Path.{_≡_, ap, _∙_}
 use mathlib.Core.List.{List, [], _∷_}
 use Prim.Native.Nat.{ℕ, suc, _+_, _*_, _≤_, _<_, max}
 use native.Mathlib.Omega.{arith}
@@ -9,7 +9,7 @@ use Rattle.wire.specs.Runs.{bytesAt, over}
 use Rattle.wire.proofs.Laws.{stored-back, stored-outside}
 use Rattle.notation.specs.Building.{tallest, Frame, frame}
 use Rattle.tree_builder.specs.State.{slotIn}
-use Rattle.tree_builder.specs.Shows.{Slot, Around}
+use Rattle.tree_builder.specs.Shows.{Around}
 
 -- a slot is read back
 pub slot-back : (m : List ℕ) (i n : ℕ) {m′ : List ℕ} → 8 * i + 8 ≤ length m → n < 18446744073709551616 → m′ ≡ over m (8 * i) (highBytes 8 n) → slotIn m′ i ≡ n

@@ -1,23 +1,21 @@
 -- Before the first token and behind the last one; and a resource, which begins as any field. Assumes nothing.
 use mathlib.Core.Path.{_≡_, refl, sym, ap, _∙_}
 use mathlib.Core.Bool.{false}
-use mathlib.Core.List.{List, [], _∷_, _++_}
+use mathlib.Core.List.{List, [], _∷_}
 use Prim.Native.Nat.{ℕ, suc, _+_, _%_, _≤_, _<_}
 use native.Mathlib.Omega.{arith}
-use lib.ListN.{length, take, getD}
-use lib.Seq.{take-at}
+use lib.ListN.{length, take}
 use Rattle.wire.specs.Runs.{over}
 use Rattle.wire.proofs.Laws.{over-front, over-length}
 use Rattle.rules.specs.EditRule.{IsBytes}
 use Rattle.rules.specs.Fields.{none as noFields, write, writeAll}
-use Rattle.notation.specs.Tokens.{Lexeme, tokenOf}
-use Rattle.notation.specs.Building.{Nodes, tallest, Frame, frame, Build, build, start, begin, beginResource, resourceTag, spelled, act}
-use Rattle.notation.specs.Convert.{orLater, lateAmong, headBytes, numbered, numberedOnto}
+use Rattle.notation.specs.Tokens.{tokenOf}
+use Rattle.notation.specs.Building.{Nodes, tallest, frame, build, start, begin, beginResource, resourceTag, spelled, act}
+use Rattle.notation.specs.Convert.{lateAmong, headBytes, numbered, numberedOnto}
 use Rattle.tree_builder.specs.declared.Building.{Building}
 use Rattle.tree_builder.specs.declared.Step.{Step}
-use Rattle.tree_builder.specs.Open.{low, Holds, opening, partsBytes, aroundBytes, headEnd, openBytes, lateAround, lateOpen, lateNumber}
-use Rattle.tree_builder.specs.Shows.{LastPart, Around, Shown, Shows, Answers, Does, AnyToken}
-use Rattle.tree_builder.proofs.Stores.{low-length}
+use Rattle.tree_builder.specs.Open.{low, opening, partsBytes, aroundBytes, headEnd, openBytes, lateAround, lateOpen, lateNumber}
+use Rattle.tree_builder.specs.Shows.{LastPart, Around, Shows, Does, AnyToken}
 use Rattle.tree_builder.proofs.Adding.{false-not-true}
 
 -- nothing is read yet

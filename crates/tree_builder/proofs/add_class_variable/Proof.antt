@@ -2,8 +2,8 @@
 use Rattle.tree_builder.specs.Shows.{AClassVariable}
 use lib.ListN.{length-append}
 use Rattle.tree_builder.proofs.Leaves.{read-refused, class-made}
-use Prim.Native.Nat.{_+_, _%_}
-use mathlib.Core.List.{_∷_, [], _++_}
+use Prim.Native.Nat.{_+_}
+use mathlib.Core.List.{_∷_, _++_}
 use Rattle.wire.specs.Numbers.{highBytes}
 use Rattle.wire.proofs.Laws.{then-store, high-length}
 use native.Mathlib.Omega.{arith}

@@ -1,6 +1,5 @@
 -- `add_name`: the parts are moved up, and the name comes before them.
 use Rattle.tree_builder.proofs.Heading.{name-made}
-use native.Mathlib.Omega.{arith}
 use borrow.Author.Needs.{needs}
 use Rattle.tree_builder.proofs.add_name.Statement.{statement}
 use Rattle.tree_builder.proofs.add_name.Tie as tie

@@ -1,8 +1,8 @@
 -- `add_variable`: 32 fields are around, or a header and a name are stored.
 use Rattle.tree_builder.specs.Shows.{AVariable}
 use Rattle.tree_builder.proofs.Leaves.{read-refused, variable-made}
-use Prim.Native.Nat.{_+_, _%_}
-use mathlib.Core.List.{_∷_, [], _++_}
+use Prim.Native.Nat.{_+_}
+use mathlib.Core.List.{_∷_}
 use Rattle.wire.specs.Numbers.{highBytes}
 use Rattle.wire.proofs.Laws.{then-store, high-length}
 use native.Mathlib.Omega.{arith}

@@ -1,5 +1,5 @@
 -- `around`: no part, too deep, or a header before the last part.
-use mathlib.Core.List.{_∷_, []}
+use mathlib.Core.List.{[]}
 use Rattle.tree_builder.proofs.Lifting.{flat-refused, deep-refused, plain-made}
 use native.Mathlib.Omega.{arith}
 use borrow.Author.Needs.{needs}

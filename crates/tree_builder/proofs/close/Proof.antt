@@ -3,7 +3,6 @@ use Rattle.tree_builder.proofs.Closing.{close-refused, close-made}
 use Rattle.notation.specs.Building.{act}
 use Rattle.tree_builder.specs.State.{slotIn}
 use Rattle.tree_builder.specs.Shows.{Does, Answers}
-use mathlib.Core.Path.{_∙_, ap}
 use native.Mathlib.Omega.{arith}
 use borrow.Author.Needs.{needs}
 use Rattle.tree_builder.proofs.close.Statement.{statement}

@@ -2,7 +2,7 @@
 use Rattle.wire.specs.Runs.{over}
 use Rattle.wire.specs.Numbers.{highBytes}
 use mathlib.Core.Path.{ap, _∙_}
-use mathlib.Core.List.{_∷_, []}
+use mathlib.Core.List.{_∷_}
 use borrow.Author.Needs.{needs}
 use Rattle.tree_builder.proofs.lift.Statement.{statement}
 use Rattle.tree_builder.proofs.lift.Tie as tie

@@ -3,7 +3,7 @@ use Rattle.tree_builder.proofs.Heading.{parent-refused, parent-only, pa
 use Rattle.wire.proofs.Laws.{then-store, high-length}
 use Rattle.wire.specs.Numbers.{highBytes}
 use Prim.Native.Nat.{_+_}
-use mathlib.Core.List.{_∷_, []}
+use mathlib.Core.List.{_∷_}
 use native.Mathlib.Omega.{arith}
 use borrow.Author.Needs.{needs}
 use Rattle.tree_builder.proofs.parent_first.Statement.{statement}

@@ -6,12 +6,6 @@ use Rattle.converter.proofs.Doing.{by-other, code-around, code-void, co
 use borrow.Author.Needs.{needs}
 use Rattle.converter.proofs.actions.do_action.Statement.{statement}
 use Rattle.converter.proofs.actions.do_action.Tie as tie
-use Rattle.converter.proofs.actions.do_action.Reads as reads
-use Rattle.converter.proofs.actions.do_action.Lts as lts
-use Rattle.converter.proofs.actions.do_plain.Reads as do-plain-reads
-use Rattle.tree_builder.proofs.add_void.Reads as add-void-reads
-use Rattle.tree_builder.proofs.around_operator.Reads as around-operator-reads
-use Rattle.tree_builder.proofs.begin.Reads as begin-reads
 
 cast-around-operator : tie.Need-cast-around-operator
 cast-around-operator c = search needs

@@ -9,18 +9,6 @@ use Rattle.converter.proofs.Doing.{by-constant, by-known, by-other, cod
 use borrow.Author.Needs.{needs}
 use Rattle.converter.proofs.actions.do_plain.Statement.{statement}
 use Rattle.converter.proofs.actions.do_plain.Tie as tie
-use Rattle.converter.proofs.actions.do_plain.Reads as reads
-use Rattle.converter.proofs.actions.do_plain.Lts as lts
-use Rattle.converter.proofs.actions.add_constant.Reads as add-constant-reads
-use Rattle.converter.proofs.actions.add_variable.Reads as add-variable-reads
-use Rattle.tree_builder.proofs.add_name.Reads as add-name-reads
-use Rattle.tree_builder.proofs.around.Reads as around-reads
-use Rattle.tree_builder.proofs.begin.Reads as begin-reads
-use Rattle.tree_builder.proofs.close.Reads as close-reads
-use Rattle.tree_builder.proofs.enter.Reads as enter-reads
-use Rattle.tree_builder.proofs.instead.Reads as instead-reads
-use Rattle.tree_builder.proofs.leave.Reads as leave-reads
-use Rattle.tree_builder.proofs.parent_first.Reads as parent-first-reads
 
 add-constant-requires : tie.Need-add-constant-requires
 add-constant-requires c κs = search needs

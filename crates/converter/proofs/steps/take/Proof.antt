@@ -4,11 +4,6 @@ use borrow.Author.Needs.{needs}
 use Rattle.converter.proofs.Passing.{none-left, may-leave, out-stuck, Going, going-first, top-within, going-next}
 use Rattle.converter.proofs.steps.take.Statement.{statement}
 use Rattle.converter.proofs.steps.take.Tie as tie
-use Rattle.converter.proofs.steps.take.Reads as reads
-use Rattle.converter.proofs.steps.take.Lts as lts
-use Rattle.converter.proofs.steps.leave_out.Reads as leave-out-reads
-use Rattle.converter.proofs.steps.take_row.Reads as take-row-reads
-use Rattle.parse_table.proofs.table.row.Reads as row-reads
 
 abbrev Inv-loop : tie.InvT-loop
 Inv-loop out₀ frames₀ stack₀ top token names n₀ building₀ out frames stack n building = Going stack₀ frames₀ out₀ building₀ n₀ token names stack frames out building n

@@ -4,10 +4,6 @@ use Rattle.converter.proofs.Taking.{stands-row, row-room, row-stuck, ro
 use borrow.Author.Needs.{needs}
 use Rattle.converter.proofs.steps.take_row.Statement.{statement}
 use Rattle.converter.proofs.steps.take_row.Tie as tie
-use Rattle.converter.proofs.steps.take_row.Reads as reads
-use Rattle.converter.proofs.steps.take_row.Lts as lts
-use Rattle.converter.proofs.actions.do_actions.Reads as do-actions-reads
-use Rattle.parse_table.proofs.stack.push.Reads as push-reads
 
 do-actions-requires : tie.Need-do-actions-requires
 do-actions-requires c κs = let p = c .before .before .before .before .before .pre in stands-row _ _ _ _ _ _ _ _ (p .1) (omega arith) (p .0)
