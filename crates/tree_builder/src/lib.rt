@@ -5,7 +5,7 @@ ghost use mathlib.Core.List.{List, [], _∷_, _++_};
 ghost use mathlib.Core.Bool.{true};
 ghost use Prim.Native.Nat.{ℕ, _+_, _-_, _*_, _%_, _≤_, _<_, max};
 ghost use lib.ListN.{length};
-ghost use Rattle.wire.specs.Numbers.{highBytes, word64};
+ghost use Rattle.wire.specs.Numbers.{highBytes};
 ghost use Rattle.wire.specs.Runs.{bytesAt, over};
 ghost use Rattle.notation.specs.Building.{start, begin as beginAction, close as closeAction, constant as constantAction, named as namedAction, parentFirst as parentAction, around as aroundAction, instead as insteadAction, byte, read as readAction, enter as enterAction, leave as leaveAction, void as voidAction};
 ghost use Rattle.tree_builder.specs.declared.Step.the-variants.{Did};
