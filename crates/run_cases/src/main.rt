@@ -1,5 +1,5 @@
 // Compiles, converts or prints the cases on standard input, a case to a line, and writes an answer line for each. The formats are those of `reference batch` and
-// `reference text-batch` (README.md).
+// `reference text-batch` (docs/CASES.md).
 ghost use Prim.Native.Nat.{_≤_};
 ghost use lib.ListN.{length};
 
