@@ -1,6 +1,7 @@
-# Holds docs/NOTATION.md against Puppet's own parser; `tools/check_with_puppet` builds what is needed and runs it:
-#   ruby tools/check_with_puppet.rb REFERENCE PAGE SEED [--known]
-# REFERENCE is the program made apart, whose reading of a text is ours; PAGE is docs/NOTATION.md.
+# Holds docs/NOTATION.md against Puppet's own parser; `tools/check_with_puppet` builds what is needed and runs it in the
+# repository's folder:
+#   ruby tools/check_with_puppet.rb REFERENCE SEED [--known]
+# REFERENCE is the program made apart, whose reading of a text is ours.
 # Puppet only parses and checks here. Nothing is compiled, and no facts of the machine are asked for.
 # Exit status: 0 all as expected, 1 a difference that is not on the list, 2 anything else.
 
@@ -10,6 +11,8 @@ require_relative 'puppet_trees'
 require_relative 'puppet_differences'
 require_relative 'puppet_expressions'
 
+PAGE = 'docs/NOTATION.md'.freeze
+EXAMPLES = 'examples/*.pp'.freeze
 PRINTED = 300
 DRAWN = 8000
 WRITTEN = 500
@@ -175,11 +178,18 @@ class Check
     puts "known differences: #{DIFFERENCES.length}, with #{count} texts"
   end
 
-  def page(path)
-    texts = examples(path)
-    stop("#{path}: #{texts.length} examples where three are expected") unless texts.length == 3
+  def page
+    texts = examples(PAGE)
+    stop("#{PAGE}: #{texts.length} examples where three are expected") unless texts.length == 3
     compare(texts + ALIKE).each { |comparison| expect(comparison, [:alike]) }
     puts "texts to be read alike: the page's #{texts.length} examples, #{ALIKE.length} chosen by hand"
+  end
+
+  def example_files
+    paths = Dir[EXAMPLES].sort
+    stop("no #{EXAMPLES}") if paths.empty?
+    compare(paths.map { |path| File.binread(path) }).each { |comparison| expect(comparison, [:alike]) }
+    puts "example files to be read alike: #{paths.length} (#{paths.join(', ')})"
   end
 
   # Random manifests as they are printed, until enough of them have no known difference.
@@ -276,13 +286,15 @@ class Check
   end
 end
 
-def check_all(program, page, seed, *words)
+def check_all(program, seed, *words)
   check = Check.new(Reference.new(program), PuppetReader.new, Integer(seed))
   say "Puppet #{Puppet.version}, seed #{seed}"
   say 'the list of known differences'
   check.differences(words == ['--known'])
   say 'texts chosen by hand'
-  check.page(page)
+  check.page
+  say 'examples'
+  check.example_files
   say 'expressions'
   check.expressions
   say 'printed texts'
