@@ -13,6 +13,8 @@ require_relative 'puppet_expressions'
 
 PAGE = 'docs/NOTATION.md'.freeze
 EXAMPLES = 'examples/*.pp'.freeze
+CASES = 'crates/run_cases/stdin'.freeze
+ANSWERS = 'crates/run_cases/stdout'.freeze
 PRINTED = 300
 DRAWN = 8000
 WRITTEN = 500
@@ -58,6 +60,11 @@ def stop(text)
   exit 2
 end
 
+# A byte string as cases and answers write it: hexadecimal, `-` if it is empty.
+def bytes_of(word)
+  [word.to_s.delete('-')].pack('H*')
+end
+
 # Our side: many calls of the program made apart in one run of it.
 class Reference
   def initialize(program)
@@ -73,7 +80,7 @@ class Reference
     lines = inputs.map { |input| "#{call} 65535 65536 #{input.empty? ? '-' : input.unpack1('H*')}\n" }
     out = run('text-batch', input: lines.join).lines(chomp: true)
     stop("#{out.length} answers to #{inputs.length} cases") unless out.length == inputs.length
-    out.map { |line| line.start_with?('ok') ? [line.split[1].to_s.delete('-')].pack('H*') : nil }
+    out.map { |line| line.start_with?('ok') ? bytes_of(line.split[1]) : nil }
   end
 
   private
@@ -141,13 +148,33 @@ class Comparison
   end
 end
 
+# How many printed texts have no known difference, how many have one or more, and how many have each.
+class Tally
+  attr_reader :plain
+  attr_accessor :trees
+
+  def initialize
+    @plain = @with_difference = @trees = 0
+    @known = Hash.new(0)
+  end
+
+  def count(held)
+    held.each { |difference| @known[difference.name] += 1 }
+    held.empty? ? @plain += 1 : @with_difference += 1
+  end
+
+  def show(title)
+    puts "#{title}: #{plain} without a known difference, #{@with_difference} with one or more; trees compared: #{trees}"
+    @known.sort.each { |name, count| puts "  #{name}: #{count}" }
+  end
+end
+
 class Check
   def initialize(reference, reader, seed)
     @reference = reference
     @reader = reader
     @seed = seed
     @unexpected = 0
-    @trees = 0
   end
 
   attr_reader :unexpected
@@ -192,23 +219,25 @@ class Check
     puts "example files to be read alike: #{paths.length} (#{paths.join(', ')})"
   end
 
+  # The texts that the stored cases print.
+  def stored
+    tally = Tally.new
+    texts = stored_texts
+    stop("#{CASES}: no printed text") if texts.empty?
+    compare(texts).each { |comparison| expect_printed(comparison, tally) }
+    tally.show("stored printed texts, #{texts.length} (#{texts.uniq.length} different)")
+  end
+
   # Random manifests as they are printed, until enough of them have no known difference.
   def printed
-    known = Hash.new(0)
-    plain = with_difference = 0
+    tally = Tally.new
     texts('print').each_slice(50) do |texts|
-      break if plain >= PRINTED
+      break if tally.plain >= PRINTED
 
-      compare(texts).each do |comparison|
-        held = in_manifest(comparison)
-        held.each { |difference| known[difference.name] += 1 }
-        held.empty? ? plain += 1 : with_difference += 1
-        expect(comparison, outcomes(held)) && expect_tree(comparison, held)
-      end
+      compare(texts).each { |comparison| expect_printed(comparison, tally) }
     end
-    stop("only #{plain} printed texts without a known difference") if plain < PRINTED
-    puts "printed texts: #{plain} without a known difference, #{with_difference} with one or more; trees compared: #{@trees}"
-    known.sort.each { |name, count| puts "  #{name}: #{count}" }
+    stop("only #{tally.plain} printed texts without a known difference") if tally.plain < PRINTED
+    tally.show('printed texts of random manifests')
   end
 
   # Random texts by the grammar, spelled in all ways it allows. One that has a known difference may be read alike all the same.
@@ -251,6 +280,23 @@ class Check
     blocks.map { |lines| lines.map { |line| line.sub(/^    /, '') }.join.strip }.grep(/\A\$fee = 40$/)
   end
 
+  # Each answer stands on the line of its case.
+  def stored_texts
+    cases, answers = [CASES, ANSWERS].map { |path| File.readlines(path, chomp: true) }
+    stop("#{answers.length} lines in #{ANSWERS} for #{cases.length} in #{CASES}") unless answers.length == cases.length
+    pairs = cases.zip(answers).select { |line, answer| line.start_with?('print ') && answer.start_with?('ok ') }
+    pairs.map { |_, answer| bytes_of(answer.split[1]) }
+  end
+
+  # A printed text meets what the differences that its manifest has say, and nothing else. It is never refused here.
+  def expect_printed(comparison, tally)
+    return expect(comparison, [:alike]) unless comparison.manifest
+
+    held = in_manifest(comparison)
+    tally.count(held)
+    expect(comparison, outcomes(held)) && expect_tree(comparison, held, tally)
+  end
+
   def in_manifest(comparison)
     DIFFERENCES.select { |difference| difference.in_manifest&.call(comparison.manifest) }
   end
@@ -268,10 +314,10 @@ class Check
   end
 
   # Where the differences tell which tree Puppet's parser makes, it is that one, also if the checker refuses it.
-  def expect_tree(comparison, held)
+  def expect_tree(comparison, held, tally)
     return unless comparison.puppet.tree && held.all?(&:there)
 
-    @trees += 1
+    tally.trees += 1
     tree = held.reduce(comparison.manifest.tree) { |changed, difference| difference.there.call(changed) }
     return if spell(tree) == spell(comparison.puppet.tree)
 
@@ -281,7 +327,7 @@ class Check
 
   # Random texts, printed from manifests or written by the grammar.
   def texts(call)
-    inputs = @reference.generate(@seed, DRAWN).map(&:split).select { |words| words[0] == call }.map { |words| [words[3].delete('-')].pack('H*') }
+    inputs = @reference.generate(@seed, DRAWN).map(&:split).select { |words| words[0] == call }.map { |words| bytes_of(words[3]) }
     (call == 'print' ? @reference.answers('print', inputs).compact : inputs).reject(&:empty?).uniq
   end
 end
@@ -297,7 +343,9 @@ def check_all(program, seed, *words)
   check.example_files
   say 'expressions'
   check.expressions
-  say 'printed texts'
+  say 'stored printed texts'
+  check.stored
+  say 'printed texts of random manifests'
   check.printed
   say 'random texts'
   check.written
