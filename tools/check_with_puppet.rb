@@ -148,23 +148,25 @@ class Comparison
   end
 end
 
-# How many printed texts have no known difference, how many have one or more, and how many have each.
+# How many printed texts have no known difference, how many have one or more, what these meet, and how many have each.
 class Tally
   attr_reader :plain
   attr_accessor :trees
 
   def initialize
-    @plain = @with_difference = @trees = 0
+    @plain = @trees = 0
     @known = Hash.new(0)
+    @met = Hash.new(0)
   end
 
-  def count(held)
+  def count(comparison, held)
     held.each { |difference| @known[difference.name] += 1 }
-    held.empty? ? @plain += 1 : @with_difference += 1
+    held.empty? ? @plain += 1 : @met[comparison.outcome] += 1
   end
 
   def show(title)
-    puts "#{title}: #{plain} without a known difference, #{@with_difference} with one or more; trees compared: #{trees}"
+    met = @met.sort.map { |outcome, count| "#{outcome} #{count}" }.join(', ')
+    puts "#{title}: #{plain} without a known difference, #{@met.values.sum} with one or more (#{met}); trees compared: #{trees}"
     @known.sort.each { |name, count| puts "  #{name}: #{count}" }
   end
 end
@@ -293,7 +295,7 @@ class Check
     return expect(comparison, [:alike]) unless comparison.manifest
 
     held = in_manifest(comparison)
-    tally.count(held)
+    tally.count(comparison, held)
     expect(comparison, outcomes(held)) && expect_tree(comparison, held, tally)
   end
 
