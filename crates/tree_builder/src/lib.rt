@@ -13,6 +13,7 @@ ghost use Rattle.tree_builder.specs.State.{slotNumber, openedAt, withPar
 ghost use Rattle.tree_builder.specs.Shows.{Shows, Does, AnyToken, AnInteger, AString, ABoolean, IsWord, AName, AVariable, AClassVariable, Ready};
 
 // The field being read, what is open around it, and how far the output is filled.
+// The fields of eight bytes come first: there are no gaps between fields, and one at an odd offset makes each copy slow.
 pub struct Building {
     pub brackets: usize, // round brackets that are open
     pub depth: usize, // fields around
@@ -23,9 +24,9 @@ pub struct Building {
     pub last: usize, // where the last part starts
     pub height: usize, // and its height
     pub late: usize, // the place + 1 of the first constant on a line past 255, or 0
-    pub word: bool, // the last part is a string constant just read:
-    pub name: u16, // its name
-    pub before: usize, // and what `late` was before it
+    pub before: usize, // what it was before a string constant just read
+    pub name: u16, // and that string's name
+    pub word: bool, // whether the last part is such a constant
 }
 
 // What an action answers: the new state, or that it passes a limit.
@@ -48,9 +49,9 @@ pub fn nothing() -> Building
         last: 0,
         height: 0,
         late: 0,
-        word: false,
-        name: 0,
         before: 0,
+        name: 0,
+        word: false,
     }
 }
 
@@ -101,9 +102,9 @@ fn opened(s: Building, start: usize, body: usize, fill: usize, tall: usize, late
         last: body,
         height: tall,
         late,
-        word: false,
-        name: 0,
         before: 0,
+        name: 0,
+        word: false,
     }
 }
 
@@ -145,9 +146,9 @@ fn closed(s: Building, slot: u64) -> Building
         last: s.start,
         height,
         late: s.late,
-        word: false,
-        name: 0,
         before: 0,
+        name: 0,
+        word: false,
     }
 }
 
@@ -182,9 +183,9 @@ fn with_part(s: Building, size: usize, late: usize) -> Building
         last: s.fill,
         height: 1,
         late,
-        word: false,
-        name: 0,
         before: 0,
+        name: 0,
+        word: false,
     }
 }
 
@@ -322,9 +323,9 @@ fn raised_by(s: Building, head: usize, size: usize) -> Building
         last: s.last + size,
         height: s.height,
         late: s.late,
-        word: false,
-        name: 0,
         before: 0,
+        name: 0,
+        word: false,
     }
 }
 
