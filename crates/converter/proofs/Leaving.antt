@@ -1,5 +1,5 @@
 -- A symbol is left out: what is done then looks at no token. Assumes nothing.
-use mathlib.Core.Path.{_≡_, refl, ap, subst}
+use mathlib.Core.Path.{_≡_, refl, _∙_, ap, subst}
 use mathlib.Core.Bool.{true, false}
 use mathlib.Core.List.{List, [], _∷_}
 use mathlib.Core.Option.{Option, none, some}
@@ -7,18 +7,31 @@ use native.Mathlib.Omega.{arith}
 use Prim.Native.Nat.{ℕ, _+_, _^_, _≤_, _<_}
 use Rattle.lexer.specs.declared.Token.{Token}
 use Rattle.notation.specs.Tokens.{Lexeme}
-use Rattle.notation.specs.Building.{Action, close, void, acts}
+use Rattle.notation.specs.Building.{Build, Action, close, void, acts}
 use Rattle.notation.specs.Grammar.{Symbol, sign, aName, expression, operators, readOrWord, closeBracket, one, maybe, further, statements, block, otherwise, branches, items, classRest, parameters, defaultValue, aConstant, inherits, parent, devices, device, moreDevices, ends, leftOut}
 use Rattle.tree_builder.specs.declared.Building.{Building}
 use Rattle.tree_builder.specs.declared.Step.{Step}
-use Rattle.tree_builder.specs.declared.Step.the-variants.{No}
+use Rattle.tree_builder.specs.declared.Step.the-variants.{Did, No}
+use Rattle.tree_builder.specs.Shows.{Shows}
 use Rattle.parse_table.specs.Codes.{actionsIn, leftOutIn}
 use Rattle.parse_table.specs.declared.table.LeftOut.{LeftOut}
-use Rattle.parse_table.proofs.Answers.{out-allowed, out-needed}
+use Rattle.parse_table.proofs.Answers.{out-allowed, out-needed, no-action}
 use Rattle.converter.specs.declared.actions.Names.{Names}
 use Rattle.converter.specs.Doing.{Suits, SuitsAll, filled, AllAnswered, noInstead, DoesAll, Stands}
-use Rattle.converter.specs.Stepping.{withoutIt, leftBehind, Leavable, LeavesOut}
+use Rattle.converter.specs.Stepping.{Steppable}
 use Rattle.converter.proofs.Sequence.{no-other, answered-more}
+
+-- what comes of a tree where a symbol is left out
+abbrev pub withoutIt : Option (List Action) → Lexeme → Build → Option Build
+withoutIt none x f = none
+withoutIt (some ds) x f = acts ds x f
+
+unfoldable pub leftBehind : Symbol → Lexeme → Build → Option Build
+leftBehind s x f = withoutIt (leftOut s) x f
+
+-- what leaving it out does, at any token
+unfoldable pub LeavesOut : Symbol → Building → (frames out : List ℕ) → Step → (frames′ out′ : List ℕ) → Type 0
+LeavesOut k s m out a m′ out′ = (table : List (List ℕ)) (f : Build) (x : Lexeme) → Shows table s m out f → AllAnswered table (s .fill + 12) a m′ out′ (leftBehind k x f)
 
 -- actions that look at no token: at most one, which closes a field or adds an empty one
 pub data Plain : List Action → Type 0 where
@@ -85,19 +98,24 @@ module _ (k : Symbol) (r : LeftOut) (told : leftOutIn r ≡ leftOut k) (s : Buil
     plain-actions : Plain (actionsIn (r .actions))
     plain-actions = subst PlainOut (out-allowed r told may) (out-plain k)
 
+    -- it has no actions
+    pub leaves-none : r .actions ≡ 0 → LeavesOut k s m out (Did s) m out
+    unfolding LeavesOut AllAnswered leftBehind acts
+    leaves-none e table f x shows = record { made = f; is = ap (λ (o : Option (List Action)). withoutIt o x f) (out-allowed r told may ∙ ap (λ (n : ℕ). some (actionsIn n)) e ∙ ap some no-action); shows = shows; grown = omega arith }
+
     module _ (t : Token) (ns : Names) where
-      -- then its actions may be done
-      pub stands-left : r .actions < 2 ^ 32 → Leavable m out s t ns → Stands m out s (r .actions) t ns
-      stands-left small h =
+      -- its actions may be done
+      pub stands-left : (st : List ℕ) (top : ℕ) → r .actions < 2 ^ 32 → Steppable st m out s top t ns → Stands m out s (r .actions) t ns
+      stands-left st top small h =
           let others = no-other (r .actions) small (plain-once (actionsIn (r .actions)) plain-actions) in
           record {
             table = h .table;
             tree = h .tree;
             token = h .token;
-            shows = h .shows;
+            shows = h .standing .shows;
             suits = plain-suits t ns (actionsIn (r .actions)) (h .table) (h .token) plain-actions;
             slots = h .slots;
-            low = omega (arith, h .low, plain-short (s .fill) (actionsIn (r .actions)) plain-actions);
+            low = omega (arith, h .standing .low, plain-short (s .fill) (actionsIn (r .actions)) plain-actions);
             place = h .place;
             word = λ e. absurd (others .0 e);
             once = others .1;

@@ -24,7 +24,8 @@ use Rattle.converter.specs.declared.actions.Names.{Names}
 use Rattle.converter.specs.declared.steps.Taken.{Taken}
 use Rattle.converter.specs.declared.steps.Taken.the-variants.{Stuck}
 use Rattle.converter.specs.Doing.{AllMade, AllAnswered}
-use Rattle.converter.specs.Stepping.{withoutIt, leftBehind, Leavable, LeavesOut, WordOnTop, WordFor, Standing, TakenSo, Steppable, Steps}
+use Rattle.converter.specs.Stepping.{WordOnTop, WordFor, Standing, TakenSo, Steppable, Steps}
+use Rattle.converter.proofs.Leaving.{withoutIt, leftBehind, LeavesOut}
 use Rattle.converter.proofs.Taking.{words-after}
 
 -- what follows where a symbol is left out
@@ -64,10 +65,6 @@ module _ (st m out : List ℕ) (s : Building) (top : ℕ) (t : Token) (ns : Name
   pub none-left : top ≡ 0 → Steps t ns s top st m out Stuck st m out
   unfolding Steps TakenSo stackOf step
   none-left e table f x z = ap (λ (n : ℕ). step (stackOf st n) x f) e
-
-  -- what leaving one out asks for
-  pub may-leave : Steppable st m out s top t ns → Leavable m out s t ns
-  may-leave h = record { table = h .table; tree = h .tree; token = h .token; shows = h .standing .shows; slots = h .slots; low = omega (arith, h .standing .low); place = h .place }
 
   module _ (some-top : 0 < top) (w : Row) (told : rowIn w ≡ rowOf (symbolOf (byte st (top - 1))) (t .kind)) (other : w .taken ≡ false) where
     abbrev topSymbol : Symbol

@@ -11,7 +11,7 @@ use Rattle.rules.proofs.Lists.{both-left, both-right}
 use Rattle.notation.specs.Tokens.{Lexeme, kind, tokenOf, endOfText, malformed}
 use Rattle.notation.specs.Building.{Build, acts}
 use Rattle.notation.specs.Grammar.{Entry, arm, attribute, parameter, Symbol, sign, aName, expression, operators, readOrWord, closeBracket, one, maybe, further, statements, block, otherwise, branches, items, classRest, parameters, defaultValue, aConstant, inherits, parent, devices, device, moreDevices, ends, Row, row, binds, rowOf, leftOut, manifest, stuck, to, toward, step}
-use Rattle.converter.specs.Stepping.{leftBehind}
+use Rattle.converter.proofs.Leaving.{leftBehind}
 use Rattle.converter.proofs.RowFacts.{isPlain, allPlain, row-plain}
 use Rattle.converter.proofs.Taking.{step-taken}
 use Rattle.converter.proofs.Passing.{onward, step-left}

@@ -1,7 +1,5 @@
 // A step of the grammar's machine: one token.
-ghost use Prim.Native.Nat.{_<_};
-ghost use Rattle.parse_table.specs.Codes.{symbolOf};
-ghost use Rattle.converter.specs.Stepping.{Leavable, LeavesOut, Steppable, TakenRow, Steps};
+ghost use Rattle.converter.specs.Stepping.{Steppable, TakenRow, Steps};
 use crate::actions::Names;
 use crate::actions::do_actions;
 use lexer::Token;
@@ -22,25 +20,6 @@ pub struct Machine {
 pub enum Taken {
     To(Machine),
     Stuck,
-}
-
-// The symbol on top takes nothing of this kind: it is left out, if it may be.
-fn leave_out(
-    out: &mut [u8],
-    frames: &mut [u8],
-    s: Building,
-    symbol: u8,
-    token: Token,
-    names: Names,
-) -> Step
-    requires { ⌜ Leavable (now frames) (now out) s token names ⌝ }
-    ensures { λ r. ⌜ LeavesOut (symbolOf symbol) s (now (frames .entry)) (now (out .entry)) r (now (frames .exit)) (now (out .exit)) ⌝ }
-{
-    let left = left_out(symbol);
-    if left.allowed {
-        return do_actions(out, frames, s, left.actions, token, names);
-    }
-    Step::No
 }
 
 // The symbol on top takes the token: its actions are done, and the row's symbols come in its place.
@@ -69,7 +48,8 @@ fn take_row(
     }
 }
 
-// One token: from the top on, symbols that do not take it are left out, up to the one that does.
+// One token: from the top on, symbols that do not take it are left out, up to the one that does. Most of them have no actions then: the state is
+// not copied for these.
 pub fn take(
     out: &mut [u8],
     frames: &mut [u8],
@@ -90,11 +70,18 @@ pub fn take(
         if w.taken {
             return take_row(out, frames, stack, building, n, token, names, w);
         }
-        match leave_out(out, frames, building, symbol, token, names) {
+        n = n - 1;
+        let left = left_out(symbol);
+        if !left.allowed {
+            return Taken::Stuck;
+        }
+        if left.actions == 0 {
+            continue;
+        }
+        match do_actions(out, frames, building, left.actions, token, names) {
             Step::Did(next) => building = next,
             Step::No => return Taken::Stuck,
         }
-        n = n - 1;
     }
     Taken::Stuck
 }

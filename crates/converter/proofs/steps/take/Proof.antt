@@ -1,7 +1,10 @@
 -- `take`: the symbols that are left out one after the other, up to the one that takes the token.
+use mathlib.Core.Path.{refl}
 use native.Mathlib.Omega.{arith}
 use borrow.Author.Needs.{needs}
-use Rattle.converter.proofs.Passing.{none-left, may-leave, out-stuck, Going, going-first, top-within, going-next}
+use borrow.Author.Tests.{not-true, not-false}
+use Rattle.converter.proofs.Leaving.{leaves-needed, stands-left, leaves-done, leaves-none}
+use Rattle.converter.proofs.Passing.{none-left, out-stuck, Going, going-first, top-within, going-next}
 use Rattle.converter.proofs.steps.take.Statement.{statement}
 use Rattle.converter.proofs.steps.take.Tie as tie
 
@@ -38,14 +41,11 @@ same-length-3 c = search needs
 returns : tie.Need-returns Inv-loop μ-loop
 returns c = c .before .before .before .before .before .before .before .before .before .before .before .before .before .before .loop .inv .goes-on _ _ _ _ (c .before .before .before .before .before .before .take-row .ensures)
 
-leave-out-requires : tie.Need-leave-out-requires Inv-loop μ-loop
-leave-out-requires c κs = may-leave _ _ _ _ _ _ _ (c .before .before .before .before .before .before .loop .inv .ready)
+sub-n : tie.Need-sub-n Inv-loop μ-loop
+sub-n c = search needs
 
-enum-known-next : tie.Need-enum-known-next Inv-loop μ-loop
-enum-known-next c = search needs
-
-enum-told : tie.Need-enum-told Inv-loop μ-loop
-enum-told c = search needs
+left-out-requires : tie.Need-left-out-requires Inv-loop μ-loop
+left-out-requires c κs = search needs
 
 same-length-4 : tie.Need-same-length-4 Inv-loop μ-loop
 same-length-4 c = search needs
@@ -57,16 +57,28 @@ same-length-6 : tie.Need-same-length-6 Inv-loop μ-loop
 same-length-6 c = search needs
 
 returns-2 : tie.Need-returns-2 Inv-loop μ-loop
-returns-2 c = c .before .before .before .before .before .before .before .before .before .before .before .before .before .loop .inv .goes-on _ _ _ _ (out-stuck _ _ _ _ _ _ _ (omega arith) (c .before .before .before .before .before .before .before .before .before .before .row .result) (c .before .before .before .before .before .before .before .before .before .before .row .ensures) (c .before .before .before .before .before .before .before .before .before .if1 .left) _ _ _ (c .enum-told .given .1) (c .before .before .before .before .before .before .leave-out .ensures))
-
-sub-n : tie.Need-sub-n Inv-loop μ-loop
-sub-n c = search needs
+returns-2 c = c .before .before .before .before .before .before .before .loop .inv .goes-on _ _ _ _ (out-stuck _ _ _ _ _ _ _ (omega arith) (c .before .before .before .before .row .result) (c .before .before .before .before .row .ensures) (c .before .before .before .if1 .left) _ _ _ refl (leaves-needed _ (c .before .before .left-out .result) (c .before .before .left-out .ensures) _ _ _ (not-true _ (c .if2 .taken))))
 
 loop-less : tie.Need-loop-less Inv-loop μ-loop
 loop-less c = search needs
 
 loop-again : tie.Need-loop-again Inv-loop μ-loop
-loop-again c = going-next _ _ _ _ _ _ _ _ _ _ _ _ (c .before .before .before .before .before .before .before .before .before .before .before .before .before .before .loop .inv) (omega arith) (c .before .before .before .before .before .before .before .before .before .before .before .row .result) (c .before .before .before .before .before .before .before .before .before .before .before .row .ensures) (c .before .before .before .before .before .before .before .before .before .before .if1 .left) _ _ _ _ (c .before .next .given .1) (c .before .before .before .before .before .before .before .leave-out .ensures) (search needs) (search needs)
+loop-again c = going-next _ _ _ _ _ _ _ _ _ _ _ _ (c .before .before .before .before .before .before .before .before .before .loop .inv) (omega arith) (c .before .before .before .before .before .before .row .result) (c .before .before .before .before .before .before .row .ensures) (c .before .before .before .before .before .if1 .left) _ _ _ _ refl (leaves-none _ (c .before .before .before .before .left-out .result) (c .before .before .before .before .left-out .ensures) _ _ _ (not-false _ (c .before .before .if2 .left)) (c .if3 .taken)) refl refl
+
+do-actions-requires : tie.Need-do-actions-requires Inv-loop μ-loop
+do-actions-requires c κs = stands-left _ (c .before .before .before .before .before .before .left-out .result) (c .before .before .before .before .before .before .left-out .ensures) _ _ _ (not-false _ (c .before .before .before .before .if2 .left)) _ _ _ _ (omega arith) (c .before .before .before .before .before .before .before .before .before .before .before .loop .inv .ready)
+
+enum-known-next : tie.Need-enum-known-next Inv-loop μ-loop
+enum-known-next c = search needs
+
+loop-less-2 : tie.Need-loop-less-2 Inv-loop μ-loop
+loop-less-2 c = search needs
+
+loop-again-2 : tie.Need-loop-again-2 Inv-loop μ-loop
+loop-again-2 c = going-next _ _ _ _ _ _ _ _ _ _ _ _ (c .before .before .before .before .before .before .before .before .before .before .before .before .before .before .before .before .before .before .before .loop .inv) (omega arith) (c .before .before .before .before .before .before .before .before .before .before .before .before .before .before .before .before .row .result) (c .before .before .before .before .before .before .before .before .before .before .before .before .before .before .before .before .row .ensures) (c .before .before .before .before .before .before .before .before .before .before .before .before .before .before .before .if1 .left) _ _ _ _ (c .before .next .given .1) (leaves-done _ (c .before .before .before .before .before .before .before .before .before .before .before .before .before .before .left-out .result) (c .before .before .before .before .before .before .before .before .before .before .before .before .before .before .left-out .ensures) _ _ _ (not-false _ (c .before .before .before .before .before .before .before .before .before .before .before .before .if2 .left)) _ _ _ _ _ (c .before .before .before .before .before .before .before .do-actions .ensures .0)) (search needs) (search needs)
+
+enum-told : tie.Need-enum-told Inv-loop μ-loop
+enum-told c = search needs
 
 same-length-7 : tie.Need-same-length-7 Inv-loop μ-loop
 same-length-7 c = search needs
@@ -78,7 +90,19 @@ same-length-9 : tie.Need-same-length-9 Inv-loop μ-loop
 same-length-9 c = search needs
 
 returns-3 : tie.Need-returns-3 Inv-loop μ-loop
-returns-3 c = c .before .loop .inv .goes-on _ _ _ _ (none-left _ _ _ _ _ _ _ (omega arith))
+returns-3 c = c .before .before .before .before .before .before .before .before .before .before .before .before .before .before .before .before .before .before .loop .inv .goes-on _ _ _ _ (out-stuck _ _ _ _ _ _ _ (omega arith) (c .before .before .before .before .before .before .before .before .before .before .before .before .before .before .before .row .result) (c .before .before .before .before .before .before .before .before .before .before .before .before .before .before .before .row .ensures) (c .before .before .before .before .before .before .before .before .before .before .before .before .before .before .if1 .left) _ _ _ (c .enum-told .given .1) (leaves-done _ (c .before .before .before .before .before .before .before .before .before .before .before .before .before .left-out .result) (c .before .before .before .before .before .before .before .before .before .before .before .before .before .left-out .ensures) _ _ _ (not-false _ (c .before .before .before .before .before .before .before .before .before .before .before .if2 .left)) _ _ _ _ _ (c .before .before .before .before .before .before .do-actions .ensures .0)))
+
+same-length-10 : tie.Need-same-length-10 Inv-loop μ-loop
+same-length-10 c = search needs
+
+same-length-11 : tie.Need-same-length-11 Inv-loop μ-loop
+same-length-11 c = search needs
+
+same-length-12 : tie.Need-same-length-12 Inv-loop μ-loop
+same-length-12 c = search needs
+
+returns-4 : tie.Need-returns-4 Inv-loop μ-loop
+returns-4 c = c .before .loop .inv .goes-on _ _ _ _ (none-left _ _ _ _ _ _ _ (omega arith))
 
 pub take-spec : {M : Type 1} → statement M
 take-spec =
@@ -95,17 +119,24 @@ take-spec =
     same-length-2
     same-length-3
     returns
-    leave-out-requires
-    enum-known-next
-    enum-told
+    sub-n
+    left-out-requires
     same-length-4
     same-length-5
     same-length-6
     returns-2
-    sub-n
     loop-less
     loop-again
+    do-actions-requires
+    enum-known-next
+    loop-less-2
+    loop-again-2
+    enum-told
     same-length-7
     same-length-8
     same-length-9
-    returns-3)
+    returns-3
+    same-length-10
+    same-length-11
+    same-length-12
+    returns-4)
