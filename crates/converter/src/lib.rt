@@ -1,6 +1,88 @@
 // The converter: from a text in the notation to a manifest.
+ghost use Prim.Native.Nat.{_≤_};
+ghost use lib.ListN.{length};
+ghost use Rattle.notation.specs.Convert.{converted};
+ghost use Rattle.interner.specs.Table.{strings};
+ghost use Rattle.text_answers.specs.Leaving.{Leaves};
+ghost use Rattle.converter.specs.Reading.{TextRead};
+ghost use Rattle.converter.specs.Converting.{Converts, Passable, Measured, Fitting, Begins};
+use crate::text::ReadText;
+use crate::text::read_text;
+use interner::fields::table_size;
+use interner::fields::write_table;
+use notation::Answer;
+use text_answers::accept;
+use text_answers::refuse;
+use values::Reason;
+
 pub mod actions; // actions.rt: the grammar's actions, done to the tree
 pub mod steps; // steps.rt: one token
-pub mod convert; // convert.rt: a whole text
 pub mod strings; // strings.rt: a token's strings in the table
 pub mod text; // text.rt: all tokens of a text
+
+// Once over the text, with room of its own for what is open.
+fn read_pass(text: &[u8], out: &mut [u8], table: &mut [u8], count: usize) -> ReadText
+    requires { ⌜ Passable (now text) (now out) (now table) count ⌝ }
+    ensures { λ r. ⌜ TextRead (now (text .entry)) (strings (now (text .entry)) (now (table .entry)) count) r (now (out .exit)) (now (table .exit)) ⌝ }
+{
+    let mut frames = [0u8; 256];
+    let mut stack = [0u8; 468];
+    read_text(text, out, &mut frames, &mut stack, table, count)
+}
+
+// The table of strings, and the items behind it.
+fn write_manifest(text: &[u8], out: &mut [u8], table: &mut [u8], count: usize, before: usize)
+    requires { ⌜ Fitting (now text) (now table) count before (now out) ⌝ }
+    ensures { λ _. ⌜ Begins (now (text .entry)) (now (out .exit)) ⌝ }
+{
+    write_table(text, table, count, out);
+    read_pass(text, &mut out[before..], table, count);
+}
+
+// A text that was read whole: its manifest, if it is not too long.
+fn finish(
+    text: &[u8],
+    out: &mut [u8],
+    work: &mut [u8],
+    table: &mut [u8],
+    count: usize,
+    fill: usize,
+) -> Answer
+    requires { ⌜ (65536 ≤ length (now work)) × Measured (now text) (now table) count fill ⌝ }
+    ensures { λ r. ⌜ Leaves (converted (now (text .entry)) (length (now (out .entry))) (length (now (work .entry)))) (now (out .entry)) (now (out .exit)) (now (work .entry)) (now (work .exit)) r ⌝ }
+{
+    let before = table_size(text, table, count);
+    let size = before + fill;
+    if 65535 < size {
+        return refuse(Reason::OutsideNotation, 0, out, work);
+    }
+    if out.len() < size {
+        return refuse(Reason::OutsideNotation, 0, out, work);
+    }
+    write_manifest(text, out, table, count, before);
+    accept(size as u16, out, work)
+}
+
+// The manifest of a text, or the first refusal. The first pass writes nothing: it finds a fault, the strings and how long the manifest is. Every byte of
+// `out` and `work` is determined: the manifest and then zeros, or zeros throughout; the memory is zero.
+pub fn convert(text: &[u8], out: &mut [u8], work: &mut [u8]) -> Answer
+    ensures { λ r. ⌜ Converts (now (text .entry)) (now (out .entry)) (now (out .exit)) (now (work .entry)) (now (work .exit)) r ⌝ }
+{
+    if work.len() < 65536 {
+        return refuse(Reason::MemoryTooShort, 0, out, work);
+    }
+    if 65535 < text.len() {
+        return refuse(Reason::OutsideNotation, 0, out, work);
+    }
+    let mut table = [0u8; 2050];
+    let first = read_pass(text, &mut out[0..0], &mut table, 0);
+    match first {
+        ReadText::Fault(place) => refuse(Reason::OutsideNotation, place as u16, out, work),
+        ReadText::Whole { count, late, fill } => {
+            if late != 0 {
+                return refuse(Reason::PastLine255, (late - 1) as u16, out, work);
+            }
+            finish(text, out, work, &mut table, count, fill)
+        }
+    }
+}

@@ -60,7 +60,7 @@ fn text_word(answer: notation::Answer) -> u64
 pub extern "C" fn rigbanut_convert(text: &[u8], out: &mut [u8], work: &mut [u8]) -> u64
     ensures { λ r. ⌜ Tells (convert (now (text .entry)) (length (now (out .entry))) (length (now (work .entry)))) (now (out .exit)) (now (work .exit)) r ⌝ }
 {
-    let answer = converter::convert::convert(text, out, work);
+    let answer = converter::convert(text, out, work);
     text_word(answer)
 }
 

@@ -4,8 +4,8 @@ use native.Mathlib.Omega.{arith}
 use borrow.Author.Needs.{needs}
 use Rattle.text_answers.proofs.Ending.{leaves-as}
 use Rattle.converter.proofs.Converting.{too-long, measurable, over-65535, over-output, written, fitting}
-use Rattle.converter.proofs.convert.finish.Statement.{statement}
-use Rattle.converter.proofs.convert.finish.Tie as tie
+use Rattle.converter.proofs.finish.Statement.{statement}
+use Rattle.converter.proofs.finish.Tie as tie
 
 table-size-requires : tie.Need-table-size-requires
 table-size-requires c κs = measurable (c .before .before .before .before .before .pre .1)

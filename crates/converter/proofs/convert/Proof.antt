@@ -4,8 +4,8 @@ use native.Mathlib.Omega.{arith}
 use borrow.Author.Needs.{needs}
 use Rattle.converter.proofs.Converting.{short-memory, long-text, not-read, late-constant, converts, converts-from}
 use Rattle.converter.proofs.TwoPasses.{first-passable, fault-low, fault-first, whole-found, items-read, late-found, late-low, measured-so}
-use Rattle.converter.proofs.convert.convert.Statement.{statement}
-use Rattle.converter.proofs.convert.convert.Tie as tie
+use Rattle.converter.proofs.convert.Statement.{statement}
+use Rattle.converter.proofs.convert.Tie as tie
 
 returns : tie.Need-returns
 returns c = converts _ (short-memory _ _ _ (c .before .before .before .before .before .before .before .if1 .taken)) refl refl (c .before .before .before .before .refuse .ensures)

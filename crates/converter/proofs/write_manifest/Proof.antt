@@ -3,8 +3,8 @@ use native.Mathlib.Omega.{arith}
 use borrow.Author.Needs.{needs}
 use Rattle.converter.proofs.Converting.{writable, items-fit, passable}
 use Rattle.converter.proofs.TwoPasses.{manifest-begins}
-use Rattle.converter.proofs.convert.write_manifest.Statement.{statement}
-use Rattle.converter.proofs.convert.write_manifest.Tie as tie
+use Rattle.converter.proofs.write_manifest.Statement.{statement}
+use Rattle.converter.proofs.write_manifest.Tie as tie
 
 write-table-requires : tie.Need-write-table-requires
 write-table-requires c κs = writable (c .before .before .before .before .before .pre)
