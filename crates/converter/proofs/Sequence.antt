@@ -155,3 +155,16 @@ module _ (t : Token) (ns : Names) (s : Building) (m out : List ℕ) where
             word = λ e. absurd (no .0 e);
             once = no .1;
           }
+
+-- ---- The only one
+
+module _ (t : Token) (s : Building) (n : ℕ) (some-left : n ≡ 0 → ⊥) (small : n < 2 ^ 32) (only : n / 256 ≡ 0) where
+  -- what it answers is the answer
+  pub only-done : (ns : Names) (m out : List ℕ) (a : Step) (m₁ out₁ : List ℕ) → FirstDoes t ns s m out n some-left small a m₁ out₁ → DoesAll t ns (actionsIn n) s m out a m₁ out₁
+  only-done ns m out No m₁ out₁ does = first-stopped t ns s m out n some-left small No m₁ out₁ refl does
+  only-done ns m out (Did next) m₁ out₁ does =
+      then-others t ns s m out n some-left small (Did next) next m₁ out₁ (Did next) m₁ out₁ refl does (none-done t ns next m₁ out₁ (n / 256) only)
+
+  pub only-reads : (a : Step) → WordRead (actionOf (n % 256)) t a → WordsRead (actionsIn n) t s a
+  only-reads No read = stopped-reads t s n some-left small
+  only-reads (Did next) read = then-reads t s n some-left small (Did next) next (Did next) refl read (none-read t next (n / 256) only)

@@ -115,6 +115,7 @@ fn do_action(
 }
 
 // Actions, a byte each with the first one lowest. Nothing comes of them if one passes a limit.
+// The answer of the last one is the answer: another call, with none left, would only copy the state.
 pub fn do_actions(
     out: &mut [u8],
     frames: &mut [u8],
@@ -129,7 +130,11 @@ pub fn do_actions(
     if actions == 0 {
         return Step::Did(s);
     }
-    match do_action(out, frames, s, actions % 256, token, names) {
+    let first = do_action(out, frames, s, actions % 256, token, names);
+    if actions < 256 {
+        return first;
+    }
+    match first {
         Step::Did(next) => do_actions(out, frames, next, actions / 256, token, names),
         Step::No => Step::No,
     }

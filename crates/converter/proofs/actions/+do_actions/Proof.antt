@@ -1,6 +1,6 @@
--- `do_actions`: none is left, the first one stops, or the others follow it.
+-- `do_actions`: none is left, the first one is the only one, it stops, or the others follow it.
 use native.Mathlib.Omega.{arith}
-use Rattle.converter.proofs.Sequence.{none-done, none-read, first-stopped, stopped-reads, then-others, then-reads, able-first, stands-next}
+use Rattle.converter.proofs.Sequence.{none-done, none-read, first-stopped, stopped-reads, then-others, then-reads, able-first, stands-next, only-done, only-reads}
 use Prim.Native.Nat.{ℕ, _<_}
 use borrow.Author.Needs.{needs}
 use borrow.Fn.Kinds.{In}
@@ -39,32 +39,6 @@ do-actions-do-action-requires : (t : ℕ) → do-actions-lts.Need-do-action-requ
 ) (do-actions-at t) do-actions.Post
 do-actions-do-action-requires t c κs = (able-first _ _ _ _ _ _ (c .before .before .if1 .left) (omega arith) (c .before .before .before .before .before .pre .1), omega arith)
 
-do-actions-enum-known-next : (t : ℕ) → do-actions-lts.Need-enum-known-next (
-  do-action-reads.Asked,
-  do-action-reads.Learnt,
-  do-actions-below t,
-  do-actions.Post,
-) (do-actions-at t) do-actions.Post
-do-actions-enum-known-next t c = search needs
-
-do-actions-do-actions-requires : (t : ℕ) → do-actions-lts.Need-do-actions-requires (
-  do-action-reads.Asked,
-  do-action-reads.Learnt,
-  do-actions-below t,
-  do-actions.Post,
-) (do-actions-at t) do-actions.Post
-do-actions-do-actions-requires t c κs =
-    let p = c .before .before .before .before .before .before .before .before .before .before .before .before .before .before .before .pre in
-    (omega (arith, p .0, c .before .before .before .before .before .before .before .before .before .before .before .before .if1 .left), stands-next _ _ _ _ _ _ (c .before .before .before .before .before .before .before .before .before .before .before .before .if1 .left) (omega arith) (p .1) _ _ _ _ (c .before .before .before .next .given .1) (c .before .before .before .before .before .before .before .before .before .do-action .ensures .0) (search needs))
-
-do-actions-enum-told : (t : ℕ) → do-actions-lts.Need-enum-told (
-  do-action-reads.Asked,
-  do-action-reads.Learnt,
-  do-actions-below t,
-  do-actions.Post,
-) (do-actions-at t) do-actions.Post
-do-actions-enum-told t c = search needs
-
 do-actions-same-length : (t : ℕ) → do-actions-lts.Need-same-length (
   do-action-reads.Asked,
   do-action-reads.Learnt,
@@ -87,8 +61,34 @@ do-actions-returns-2 : (t : ℕ) → do-actions-lts.Need-returns-2 (
   do-actions-below t,
   do-actions.Post,
 ) (do-actions-at t) do-actions.Post
-do-actions-returns-2 t c =
-    (then-others _ _ _ _ _ _ (c .before .before .before .before .before .before .before .before .before .before .before .before .before .before .before .before .before .if1 .left) (omega arith) _ _ _ _ _ _ _ (c .before .before .before .before .before .before .before .before .next .given .1) (c .before .before .before .before .before .before .before .before .before .before .before .before .before .before .do-action .ensures .0) (c .before .before .before .before .do-actions .ensures .0), then-reads _ _ _ (c .before .before .before .before .before .before .before .before .before .before .before .before .before .before .before .before .before .if1 .left) (omega arith) _ _ _ (c .before .before .before .before .before .before .before .before .next .given .1) (c .before .before .before .before .before .before .before .before .before .before .before .before .before .before .do-action .ensures .1) (c .before .before .before .before .do-actions .ensures .1))
+do-actions-returns-2 t c = (only-done _ _ _ (c .before .before .before .before .before .before .before .before .if1 .left) (omega arith) (omega arith) _ _ _ _ _ _ (c .before .before .before .before .before .do-action .ensures .0), only-reads _ _ _ (c .before .before .before .before .before .before .before .before .if1 .left) (omega arith) (omega arith) _ (c .before .before .before .before .before .do-action .ensures .1))
+
+do-actions-enum-known-first : (t : ℕ) → do-actions-lts.Need-enum-known-first (
+  do-action-reads.Asked,
+  do-action-reads.Learnt,
+  do-actions-below t,
+  do-actions.Post,
+) (do-actions-at t) do-actions.Post
+do-actions-enum-known-first t c = search needs
+
+do-actions-do-actions-requires : (t : ℕ) → do-actions-lts.Need-do-actions-requires (
+  do-action-reads.Asked,
+  do-action-reads.Learnt,
+  do-actions-below t,
+  do-actions.Post,
+) (do-actions-at t) do-actions.Post
+do-actions-do-actions-requires t c κs =
+    let p = c .before .before .before .before .before .before .before .before .before .before .before .before .before .before .before .before .pre in
+    let n = c .before .before .before .before .before .before .before .before .before .before .before .before .before .if1 .left in
+    (omega (arith, p .0, n), stands-next _ _ _ _ _ _ n (omega arith) (p .1) _ _ _ _ (c .before .before .before .first .given .1) (c .before .before .before .before .before .before .before .before .before .before .do-action .ensures .0) (search needs))
+
+do-actions-enum-told : (t : ℕ) → do-actions-lts.Need-enum-told (
+  do-action-reads.Asked,
+  do-action-reads.Learnt,
+  do-actions-below t,
+  do-actions.Post,
+) (do-actions-at t) do-actions.Post
+do-actions-enum-told t c = search needs
 
 do-actions-same-length-3 : (t : ℕ) → do-actions-lts.Need-same-length-3 (
   do-action-reads.Asked,
@@ -112,7 +112,35 @@ do-actions-returns-3 : (t : ℕ) → do-actions-lts.Need-returns-3 (
   do-actions-below t,
   do-actions.Post,
 ) (do-actions-at t) do-actions.Post
-do-actions-returns-3 t c = (first-stopped _ _ _ _ _ _ (c .before .before .before .before .before .before .before .before .before .if1 .left) (omega arith) _ _ _ (c .enum-told .given .1) (c .before .before .before .before .before .before .do-action .ensures .0), stopped-reads _ _ _ (c .before .before .before .before .before .before .before .before .before .if1 .left) (omega arith))
+do-actions-returns-3 t c =
+    let n = c .before .before .before .before .before .before .before .before .before .before .before .before .before .before .before .before .before .before .if1 .left in
+    let small = c .before .before .before .before .before .before .before .before .before .before .before .before .before .before .before .before .before .before .before .before .before .fits .actions in
+    let first = c .before .before .before .before .before .before .before .before .first .given .1 in
+    (then-others _ _ _ _ _ _ n (omega (arith, small)) _ _ _ _ _ _ _ first (c .before .before .before .before .before .before .before .before .before .before .before .before .before .before .before .do-action .ensures .0) (c .before .before .before .before .do-actions .ensures .0), then-reads _ _ _ n (omega (arith, small)) _ _ _ first (c .before .before .before .before .before .before .before .before .before .before .before .before .before .before .before .do-action .ensures .1) (c .before .before .before .before .do-actions .ensures .1))
+
+do-actions-same-length-5 : (t : ℕ) → do-actions-lts.Need-same-length-5 (
+  do-action-reads.Asked,
+  do-action-reads.Learnt,
+  do-actions-below t,
+  do-actions.Post,
+) (do-actions-at t) do-actions.Post
+do-actions-same-length-5 t c = search needs
+
+do-actions-same-length-6 : (t : ℕ) → do-actions-lts.Need-same-length-6 (
+  do-action-reads.Asked,
+  do-action-reads.Learnt,
+  do-actions-below t,
+  do-actions.Post,
+) (do-actions-at t) do-actions.Post
+do-actions-same-length-6 t c = search needs
+
+do-actions-returns-4 : (t : ℕ) → do-actions-lts.Need-returns-4 (
+  do-action-reads.Asked,
+  do-action-reads.Learnt,
+  do-actions-below t,
+  do-actions.Post,
+) (do-actions-at t) do-actions.Post
+do-actions-returns-4 t c = (first-stopped _ _ _ _ _ _ (c .before .before .before .before .before .before .before .before .before .before .if1 .left) (omega arith) _ _ _ (c .enum-told .given .1) (c .before .before .before .before .before .before .before .do-action .ensures .0), stopped-reads _ _ _ (c .before .before .before .before .before .before .before .before .before .before .if1 .left) (omega arith))
 
 pub +do-actions-spec : {M : Type 1} → statement M
 +do-actions-spec = close μ-do-actions λ t. do-actions-lts.spec (
@@ -125,12 +153,15 @@ pub +do-actions-spec : {M : Type 1} → statement M
     do-actions.Post
     (do-actions-returns t)
     (do-actions-do-action-requires t)
-    (do-actions-enum-known-next t)
-    (do-actions-do-actions-requires t)
-    (do-actions-enum-told t)
     (do-actions-same-length t)
     (do-actions-same-length-2 t)
     (do-actions-returns-2 t)
+    (do-actions-enum-known-first t)
+    (do-actions-do-actions-requires t)
+    (do-actions-enum-told t)
     (do-actions-same-length-3 t)
     (do-actions-same-length-4 t)
     (do-actions-returns-3 t)
+    (do-actions-same-length-5 t)
+    (do-actions-same-length-6 t)
+    (do-actions-returns-4 t)
