@@ -13,7 +13,7 @@ ghost use Rattle.tree_builder.specs.State.{slotNumber, openedAt, withPar
 ghost use Rattle.tree_builder.specs.Shows.{Shows, Does, AnyToken, AnInteger, AString, ABoolean, IsWord, AName, AVariable, AClassVariable, Ready};
 
 // The field being read, what is open around it, and how far the output is filled.
-// The fields of eight bytes come first: there are no gaps between fields, and one at an odd offset makes each copy slow.
+// The fields of eight bytes come first, so that no gap lies between fields: with gaps each copy takes longer, as measured.
 pub struct Building {
     pub brackets: usize, // round brackets that are open
     pub depth: usize, // fields around
