@@ -5,28 +5,25 @@ use mathlib.Core.Bool.{Bool, true}
 use mathlib.Core.List.{List, [], _∷_, _++_}
 use lib.ListN.{length, take}
 use Rattle.values.specs.Numbers.{numberOf}
-use Rattle.rules.specs.Bytes.{pick}
-use Rattle.rules.specs.Compile.{sameBytes}
 use Rattle.rules.specs.Schedule.{decimal, refusalLine, beforeFeed, afterFeed}
 use Rattle.notation.specs.declared.Answer.{Answer}
 use Rattle.notation.specs.declared.Answer.the-variants.{Written, Refused}
 use Rattle.notation.specs.Convert.{Effect, convert}
 use Rattle.notation.specs.Printer.{print}
+use Rattle.text_places.specs.Places.{PlaceTold}
 use Rattle.manifest_text.specs.declared.Command.{Command}
-use Rattle.manifest_text.specs.declared.Command.the-variants.{Convert, Print, Unknown}
+use Rattle.manifest_text.specs.declared.Command.the-variants.{Convert, Print, Place, Unknown}
+use Rattle.manifest_text.specs.Commands.{commandOf}
 
--- ---- The first line: what is asked for
+-- ---- Results and refusals
 
-unfoldable pub commandOf : (line : List ℕ) → Command
-commandOf line =
-    pick (sameBytes (99 ∷ 111 ∷ 110 ∷ 118 ∷ 101 ∷ 114 ∷ 116 ∷ []) line) Convert  -- convert
-    (pick (sameBytes (112 ∷ 114 ∷ 105 ∷ 110 ∷ 116 ∷ []) line) Print Unknown)  -- print
-
--- ---- The answer
+-- a word, a number, a line feed, and bytes
+unfoldable pub numberedText : (word : List ℕ) → (number : ℕ) → (bytes : List ℕ) → List ℕ
+numberedText word number bytes = word ++ (decimal number ++ (10 ∷ bytes))
 
 -- "written", how many bytes there are, a line feed, and the bytes
 unfoldable pub writtenText : List ℕ → List ℕ
-writtenText bytes = 119 ∷ 114 ∷ 105 ∷ 116 ∷ 116 ∷ 101 ∷ 110 ∷ 32 ∷ decimal (length bytes) ++ (10 ∷ bytes)
+writtenText bytes = numberedText (119 ∷ 114 ∷ 105 ∷ 116 ∷ 116 ∷ 101 ∷ 110 ∷ 32 ∷ []) (length bytes) bytes
 
 -- for what a call answered, and left in its output
 unfoldable pub answerText : Answer → (output : List ℕ) → List ℕ
@@ -36,16 +33,38 @@ answerText (Refused r p) output = refusalLine (numberOf r) p
 unfoldable pub effectText : Effect → List ℕ
 effectText e = answerText (e .answer) (e .outputAfter)
 
--- 65,535 bytes of output and 65,536 of memory are lent; for another first line nothing is written
-unfoldable pub answerFor : Command → (given : List ℕ) → List ℕ
-answerFor Convert given = effectText (convert given 65535 65536)
-answerFor Print given = effectText (print given 65535 65536)
-answerFor Unknown given = []
+-- ---- Places
 
--- the first line, a line feed, then what is given
-unfoldable pub toolAnswer : (input : List ℕ) → List ℕ
-toolAnswer input = answerFor (commandOf (beforeFeed input)) (afterFeed input)
+-- "place", the place, and a line feed
+unfoldable pub placeLine : (place : ℕ) → List ℕ
+placeLine place = numberedText (112 ∷ 108 ∷ 97 ∷ 99 ∷ 101 ∷ 32 ∷ []) place []
+
+-- the line of the place that is told with a log of 262,144 bytes. It is determined wherever a text gives a manifest that is not too long, and a field of that manifest begins at
+-- the offset. It is left free, below 65,536, where the text is refused, where its manifest is longer than 65,535 bytes, and where no field begins at the offset
+pub record PlaceAnswer (given : List ℕ) (field : ℕ) (answer : List ℕ) : Type 0 where
+  pub place : ℕ
+  pub told : PlaceTold given field 262144 place
+  pub line : answer ≡ placeLine place
+
+-- ---- Answers
+
+-- whether this is an answer. 65,535 bytes of output and 65,536 of memory are lent; for an unknown first line nothing is written
+unfoldable pub Answers : Command → (given answer : List ℕ) → Type 0
+Answers Convert given answer = answer ≡ effectText (convert given 65535 65536)
+Answers Print given answer = answer ≡ effectText (print given 65535 65536)
+Answers (Place field) given answer = PlaceAnswer given field answer
+Answers Unknown given answer = answer ≡ []
+
+-- an answer of which something is so
+pub record AnAnswer (command : Command) (given : List ℕ) (Is : List ℕ → Type 0) : Type 0 where
+  pub answer : List ℕ
+  pub right : Answers command given answer
+  pub so : Is answer
 
 -- what is told is that all was sent
 abbrev pub AllSent : Command → (given : List ℕ) → (sent : ℕ) → (told : Bool) → Type 0
-AllSent command given sent told = told ≡ true → sent ≡ length (answerFor command given)
+AllSent command given sent told = told ≡ true → AnAnswer command given (λ a. sent ≡ length a)
+
+-- the same of an input: the first line, a line feed, then what is given
+abbrev pub InputSent : (input : List ℕ) → (sent : ℕ) → (told : Bool) → Type 0
+InputSent input sent told = AllSent (commandOf (beforeFeed input)) (afterFeed input) sent told

@@ -1,6 +1,7 @@
 // Manifests as people write them: reads a line, a line feed and then bytes from standard input. Where the line is `convert` the bytes are a text, and its tagged form is
 // the result; where it is `print` they are a tagged manifest, and its text is. Writes "written", the result's length and a line feed, then the result, so that a reader
-// can tell whether it is whole; or the line of a refusal.
+// can tell whether it is whole; or the line of a refusal. Where the line is `place`, a space and an offset in decimal, the bytes are a text: writes "place" and the
+// place in the text of the field at that offset of its tagged form.
 ghost use mathlib.Core.Path.{_≡_};
 ghost use mathlib.Core.Bool.{true};
 ghost use mathlib.Core.List.{List};
@@ -14,7 +15,9 @@ ghost use Rattle.catalog.specs.Making.{stored};
 ghost use Rattle.input.specs.Reading.{reading, readingOf};
 ghost use Rattle.schedule.specs.Appending.{fitted};
 ghost use Rattle.standard_streams.specs.Sending.{ComesNext, Left, LastLine};
-ghost use Rattle.manifest_text.specs.Answers.{commandOf, writtenText, answerText, answerFor, toolAnswer, AllSent};
+ghost use Rattle.text_places.specs.Places.{PlaceTold};
+ghost use Rattle.manifest_text.specs.Commands.{withDigit, offsetOf, placeAsked, commandOf};
+ghost use Rattle.manifest_text.specs.Answers.{numberedText, answerText, AnAnswer, AllSent, InputSent};
 use input::Progress;
 use libc::STDERR_FILENO;
 use notation::Answer;
@@ -27,13 +30,62 @@ use standard_streams::first;
 use standard_streams::read_all;
 use standard_streams::send;
 use syntax::strings::same_bytes;
+use text_places::places::field_place;
 use values::Reason;
 
 // What the first line asks for.
 pub enum Command {
     Convert,
     Print,
+    Place { field: usize },
     Unknown,
+}
+
+// ---- The first line
+
+// The number n with one digit more; 100,000 where the byte is no digit or there are too many.
+fn with_digit(n: usize, byte: u8) -> usize
+    ensures { λ r. ⌜ r ≡ withDigit n byte ⌝ }
+{
+    if byte < 48 {
+        return 100000;
+    }
+    if 57 < byte {
+        return 100000;
+    }
+    if 9999 < n {
+        return 100000;
+    }
+    n * 10 + (byte - 48) as usize
+}
+
+// The number that the one to five digits behind `place ` spell; 100,000 where there is none.
+fn offset_of(line: &[u8]) -> usize
+    ensures { λ r. ⌜ r ≡ offsetOf (now (line .entry)) ⌝ }
+{
+    if line.len() < 7 {
+        return 100000;
+    }
+    if 11 < line.len() {
+        return 100000;
+    }
+    let mut n: usize = 0;
+    let mut i: usize = 6;
+    while i < line.len() {
+        n = with_digit(n, line[i]);
+        i += 1;
+    }
+    n
+}
+
+fn place_asked(line: &[u8]) -> Command
+    ensures { λ r. ⌜ r ≡ placeAsked (now (line .entry)) ⌝ }
+{
+    let field = offset_of(line);
+    if 99999 < field {
+        return Command::Unknown;
+    }
+    Command::Place { field: field }
 }
 
 fn command_of(line: &[u8]) -> Command
@@ -44,6 +96,9 @@ fn command_of(line: &[u8]) -> Command
     }
     if same_bytes(b"print", line) {
         return Command::Print;
+    }
+    if same_bytes(b"place ", first(line, 6)) {
+        return place_asked(line);
     }
     Command::Unknown
 }
@@ -64,11 +119,19 @@ fn print_given(given: &[u8], out: &mut [u8; 65535]) -> Answer
     printer::print(given, out, &mut work)
 }
 
-// ---- Writing: `sent` bytes of the answer to `command` for `given` are written out. Nothing but `write` changes `sent`, or writes to standard output.
+// The place in a text of the field at an offset of its tagged form. The log is long enough for every text that is converted.
+fn place_given(given: &[u8], field: usize) -> usize
+    ensures { λ r. ⌜ PlaceTold (now (given .entry)) field 262144 r ⌝ }
+{
+    let mut log = [0u8; 262144];
+    field_place(given, field, &mut log)
+}
+
+// ---- Writing: `sent` bytes of an answer to `command` for `given` are written out. Nothing but `write` changes `sent`, or writes to standard output.
 
 // Writes out what comes next, or tells on standard error that it cannot.
 fn write(text: &[u8], command: Command, given: &[u8], sent: &mut u64) -> bool
-    requires { ⌜ ComesNext (answerFor command (now given)) (now sent) (now text) ⌝ }
+    requires { ⌜ AnAnswer command (now given) (λ a. ComesNext a (now sent) (now text)) ⌝ }
     ensures { λ r. ⌜ (r ≡ true → now (sent .exit) ≡ now (sent .entry) + length (now (text .entry))) ⌝ }
 {
     send(text, sent)
@@ -76,7 +139,7 @@ fn write(text: &[u8], command: Command, given: &[u8], sent: &mut u64) -> bool
 
 // The whole answer, in its buffer.
 fn write_all(written: Written, text: &[u8], command: Command, given: &[u8], sent: &mut u64) -> bool
-    requires { ⌜ LastLine (answerFor command (now given)) (now sent) written (now text) ⌝ }
+    requires { ⌜ AnAnswer command (now given) (λ a. LastLine a (now sent) written (now text)) ⌝ }
     ensures { λ r. ⌜ AllSent command (now (given .entry)) (now (sent .exit)) r ⌝ }
 {
     match written {
@@ -85,28 +148,35 @@ fn write_all(written: Written, text: &[u8], command: Command, given: &[u8], sent
     }
 }
 
-// "written", the length, and the bytes.
-fn written_text(bytes: &[u8], text: &mut [u8]) -> Written
-    ensures { λ r. ⌜ stored r (now (text .exit)) ≡ fitted (writtenText (now (bytes .entry))) (length (now (text .entry))) ⌝ }
+// A word, a number, a line feed, and bytes.
+fn numbered_text(word: &[u8], number: u64, bytes: &[u8], text: &mut [u8]) -> Written
+    ensures { λ r. ⌜ stored r (now (text .exit)) ≡ fitted (numberedText (now (word .entry)) number (now (bytes .entry))) (length (now (text .entry))) ⌝ }
 {
-    let word = put_text(text, 0, b"written ");
-    let number = put_number(text, word, bytes.len() as u64);
-    let feed = put_text(text, number, b"\n");
-    let end = put_text(text, feed, bytes);
+    let digits = put_text(text, 0, word);
+    let feed = put_number(text, digits, number);
+    let behind = put_text(text, feed, b"\n");
+    let end = put_text(text, behind, bytes);
     finish(text, end)
 }
 
-fn write_result(bytes: &[u8], command: Command, given: &[u8], sent: &mut u64) -> bool
-    requires { ⌜ (Left (answerFor command (now given)) (now sent) (writtenText (now bytes))) × (length (now bytes) ≤ 65535) ⌝ }
+fn write_numbered(
+    word: &[u8],
+    number: u64,
+    bytes: &[u8],
+    command: Command,
+    given: &[u8],
+    sent: &mut u64,
+) -> bool
+    requires { ⌜ (AnAnswer command (now given) (λ a. Left a (now sent) (numberedText (now word) number (now bytes)))) × (length (now word) ≤ 8) × (length (now bytes) ≤ 65535) ⌝ }
     ensures { λ r. ⌜ AllSent command (now (given .entry)) (now (sent .exit)) r ⌝ }
 {
     let mut text = [0u8; 65600];
-    let written = written_text(bytes, &mut text);
+    let written = numbered_text(word, number, bytes, &mut text);
     write_all(written, &text, command, given, sent)
 }
 
 fn write_refusal(reason: Reason, place: u16, command: Command, given: &[u8], sent: &mut u64) -> bool
-    requires { ⌜ Left (answerFor command (now given)) (now sent) (refusalLine (numberOf reason) place) ⌝ }
+    requires { ⌜ AnAnswer command (now given) (λ a. Left a (now sent) (refusalLine (numberOf reason) place)) ⌝ }
     ensures { λ r. ⌜ AllSent command (now (given .entry)) (now (sent .exit)) r ⌝ }
 {
     let mut line = [0u8; 2048];
@@ -122,16 +192,14 @@ fn write_answer(
     given: &[u8],
     sent: &mut u64,
 ) -> bool
-    requires { ⌜ Left (answerFor command (now given)) (now sent) (answerText answer (now out)) ⌝ }
+    requires { ⌜ AnAnswer command (now given) (λ a. Left a (now sent) (answerText answer (now out))) ⌝ }
     ensures { λ r. ⌜ AllSent command (now (given .entry)) (now (sent .exit)) r ⌝ }
 {
     match answer {
-        Answer::Written { length } => write_result(
-            first(out, length as usize),
-            command,
-            given,
-            sent,
-        ),
+        Answer::Written { length } => {
+            let bytes = first(out, length as usize);
+            write_numbered(b"written ", bytes.len() as u64, bytes, command, given, sent)
+        }
         Answer::Refused { reason, place } => write_refusal(reason, place, command, given, sent),
     }
 }
@@ -141,7 +209,7 @@ fn write_answer(
 fn unknown_line() {
     io::write_all(
         STDERR_FILENO,
-        b"the first line is neither convert nor print\n",
+        b"the first line is neither convert nor print, nor place with an offset\n",
     );
 }
 
@@ -160,6 +228,10 @@ fn answer(command: Command, given: &[u8], sent: &mut u64) -> bool
             let printed = print_given(given, &mut out);
             write_answer(printed, &out, command, given, sent)
         }
+        Command::Place { field } => {
+            let place = place_given(given, field);
+            write_numbered(b"place ", place as u64, b"", command, given, sent)
+        }
         Command::Unknown => {
             unknown_line();
             true
@@ -170,7 +242,7 @@ fn answer(command: Command, given: &[u8], sent: &mut u64) -> bool
 // Answers the input that the buffers hold.
 fn answer_read(at: Progress, line: &[u8], given: &[u8], sent: &mut u64) -> bool
     requires { ⌜ now sent ≡ 0 ⌝ }
-    ensures { λ r. ⌜ ((d m input : List ℕ) → length d ≡ 256 → length m ≡ 65536 → reading at (now (line .entry)) (now (given .entry)) ≡ readingOf d m input → r ≡ true → now (sent .exit) ≡ length (toolAnswer input)) ⌝ }
+    ensures { λ r. ⌜ ((d m input : List ℕ) → length d ≡ 256 → length m ≡ 65536 → reading at (now (line .entry)) (now (given .entry)) ≡ readingOf d m input → InputSent input (now (sent .exit)) r) ⌝ }
 {
     let command = command_of(first(line, at.line));
     answer(command, first(given, at.rest), sent)

@@ -11,7 +11,7 @@ returns : tie.Need-returns
 returns c =
     let a = c .before .before .before .before .before .args in
     let room : length (a .out .now) ≡ 65535 = c .before .before .before .convert-arg .given .0 .1 in
-    let effect = c .before .convert .ensures ∙ ap (λ (n : ℕ). convert (a .given .now) n 65536) room in
+    let effect = c .before .convert .ensures .effect ∙ ap (λ (n : ℕ). convert (a .given .now) n 65536) room in
     (ap (λ (e : Effect). e .answer) effect, ap (λ (e : Effect). e .outputAfter) effect)
 
 pub convert-given-spec : {M : Type 1} → statement M

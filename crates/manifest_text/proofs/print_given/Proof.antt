@@ -12,7 +12,7 @@ returns : tie.Need-returns
 returns c =
     let a = c .before .before .before .before .before .args in
     let room : length (a .out .now) ≡ 65535 = c .before .before .before .print-arg .given .0 .1 in
-    let effect = c .before .print .ensures ∙ ap (λ (n : ℕ). print (a .given .now) n 65536) room in
+    let effect = c .before .print .ensures .effect ∙ ap (λ (n : ℕ). print (a .given .now) n 65536) room in
     (ap (λ (e : Effect). e .answer) effect, ap (λ (e : Effect). e .outputAfter) effect)
 
 pub print-given-spec : {M : Type 1} → statement M
