@@ -184,10 +184,11 @@ ask_texts() {
     tail -c "$length" "$3.answer" >"$3" || fail "there is no room for the result; TMPDIR names the folder to use"
 }
 
-# TEXT OFFSET: prints the place in a text of what became the field at an offset of its tagged form; nothing where the program cannot tell.
+# TEXT OFFSET: the place in a text of the token that became the field at an offset of its tagged form, in `place`.
 text_place() {
-    { printf 'place %s\n' "$2" && cat "$1"; } 2>/dev/null | run manifest_text 2>/dev/null >"$room/place" || return 0
-    if one_line 'place [0-9][0-9]*' <"$room/place"; then sed 's/^place //' "$room/place"; fi
+    ask manifest_text "place $2" "$1" "$room/place"
+    one_line 'place [0-9][0-9]*' <"$room/place" || cut_short manifest_text
+    read -r _ place <"$room/place"
 }
 
 # ---- What is wrong in a file
