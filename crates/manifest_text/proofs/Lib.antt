@@ -1,2 +1,3 @@
 pub mod FirstLine
 pub mod Answering
+pub mod Placed
