@@ -1,14 +1,19 @@
 -- One law for each way through comparing two strings.
-use Prim.Native.Nat.{ℕ, zero, suc, _-_, _<_, _≤_}
-use mathlib.Core.Path.{_≡_, refl, sym, _∙_}
-use mathlib.Core.List.{List}
+use Prim.Native.Nat.{ℕ, zero, suc, _+_, _-_, _<_, _≤_}
+use mathlib.Core.Path.{_≡_, refl, sym, _∙_, ap}
+use mathlib.Core.Bool.{true, false, _&&_}
+use mathlib.Core.List.{List, _∷_}
 use native.Mathlib.Omega.{arith}
-use lib.ListN.{length}
-use borrow.Author.Tests.{lt-ltb, le-ltb}
+use lib.ListN.{length, getD}
+use lib.Dec.{eqb, ltb}
+use borrow.Author.Tests.{lt-ltb, le-ltb, ltb-true, ne-eqb, eq-eqb, eqb-true}
 use Rattle.rules.specs.Check.{ascends}
-use Rattle.interner.specs.Strings.{restOf, fromCode, Stepped, orderOf}
+use Rattle.rules.proofs.Lists.{both-left, both-right}
+use Rattle.notation.specs.Lexing.{inWord}
+use Rattle.interner.specs.Strings.{restOf, fromCode, Stepped, alike, orderOf}
 use Rattle.interner.specs.declared.Order.{Order}
 use Rattle.interner.specs.declared.Order.the-variants.{Before, Same, After}
+use Rattle.interner.proofs.Reading.{word-letter}
 
 -- two strings by the codes of their first bytes and what follows
 module _ (x y : List ℕ) where
@@ -60,3 +65,66 @@ module _ {t : List ℕ} {f g p q a b p′ q′ : ℕ} {whole : Order} (one : Ste
   -- the first string gets shorter
   pub goes-onward : (a ≡ 0 → ⊥) → length t - p′ < length t - p
   goes-onward n = omega (arith, one .onward (omega arith), one .within (omega arith))
+
+-- ---- Two words
+
+-- they go on with the same byte
+pub record Alike (t : List ℕ) (p q : ℕ) : Type 0 where
+  pub one : p < length t
+  pub other : q < length t
+  pub same : getD t p 0 ≡ getD t q 0
+  pub in-word : inWord (getD t p 0) ≡ true
+
+module _ (t : List ℕ) (p q : ℕ) where
+  pub alike-true : true ≡ alike t p q → Alike t p q
+  unfolding alike
+  alike-true e =
+      let same = eqb (getD t p 0) (getD t q 0) in
+      let letter = inWord (getD t p 0) in
+      let behind = both-right (ltb p (length t)) (ltb q (length t) && (same && letter)) (sym e) in
+      let bytes = both-right (ltb q (length t)) (same && letter) behind in
+      record {
+        one = ltb-true p (length t) (both-left (ltb p (length t)) (ltb q (length t) && (same && letter)) (sym e));
+        other = ltb-true q (length t) (both-left (ltb q (length t)) (same && letter) behind);
+        same = eqb-true (getD t p 0) (getD t q 0) (both-left same letter bytes);
+        in-word = both-right same letter bytes;
+      }
+
+  -- a word ends with the text
+  pub one-past : length t ≤ p → false ≡ alike t p q
+  unfolding alike
+  one-past l = rw (le-ltb p (length t) l)
+
+  module _ (l : p < length t) where
+    pub other-past : length t ≤ q → false ≡ alike t p q
+    unfolding alike
+    other-past k = rw (lt-ltb p (length t) l, le-ltb q (length t) k)
+
+    -- the bytes differ, or are the same
+    module _ (k : q < length t) where
+      pub bytes-differ : (getD t p 0 ≡ getD t q 0 → ⊥) → false ≡ alike t p q
+      unfolding alike
+      bytes-differ n = rw (lt-ltb p (length t) l, lt-ltb q (length t) k, ne-eqb (getD t p 0) (getD t q 0) n)
+
+      pub bytes-same : getD t p 0 ≡ getD t q 0 → inWord (getD t p 0) ≡ alike t p q
+      unfolding alike
+      bytes-same e = rw (lt-ltb p (length t) l, lt-ltb q (length t) k, eq-eqb (getD t p 0) (getD t q 0) e)
+
+pub alike-on : {t : List ℕ} {p q : ℕ} {whole : Order} → Alike t p q → orderOf (restOf t 0 p) (restOf t 0 q) ≡ whole → orderOf (restOf t 0 (p + 1)) (restOf t 0 (q + 1)) ≡ whole
+unfolding fromCode
+alike-on {t} {p} {q} h inv =
+    let one : restOf t 0 p ≡ getD t p 0 ∷ restOf t 0 (p + 1) = word-letter t p (h .one) (sym (h .in-word)) in
+    let other : restOf t 0 q ≡ getD t p 0 ∷ restOf t 0 (q + 1) = word-letter t q (h .other) (sym (h .in-word) ∙ ap inWord (h .same)) ∙ ap (λ (n : ℕ). n ∷ restOf t 0 (q + 1)) (sym (h .same)) in
+    sym (same-first (restOf t 0 (p + 1)) (restOf t 0 (q + 1)) (suc (getD t p 0)) (omega arith)) ∙ (rw (one, other) at inv)
+
+-- what is left at first are the whole strings
+module _ (t : List ℕ) (f g p q : ℕ) {x y : List ℕ} where
+  pub whole-order : restOf t f p ≡ x → restOf t g q ≡ y → orderOf (restOf t f p) (restOf t g q) ≡ orderOf x y
+  whole-order e h = rw (e, h)
+
+  -- of two words
+  pub words-order : (eqb f 0 && eqb g 0) ≡ true → restOf t f p ≡ x → restOf t g q ≡ y → orderOf (restOf t 0 p) (restOf t 0 q) ≡ orderOf x y
+  words-order both e h =
+      let one : f ≡ 0 = eqb-true f 0 (both-left (eqb f 0) (eqb g 0) both) in
+      let other : g ≡ 0 = eqb-true g 0 (both-right (eqb f 0) (eqb g 0) both) in
+      rw (one, other) at (whole-order e h)

@@ -39,9 +39,13 @@ module _ (t : List ℕ) (p : ℕ) where
   unfolding restOf wordFrom
   word-over l e = ended t 0 p (rw (drop-cons t p 0 l, ← e))
 
-  pub word-goes-on : {code behind : ℕ} → p < length t → true ≡ inWord (getD t p 0) → code ≡ getD t p 0 + 1 → code ≤ 256 → behind ≡ p + 1 → Stepped t 0 p code behind
+  -- its next byte, and what follows
+  pub word-letter : p < length t → true ≡ inWord (getD t p 0) → restOf t 0 p ≡ getD t p 0 ∷ restOf t 0 (p + 1)
   unfolding restOf wordFrom
-  word-goes-on l e is s b = rw b (went-on t 0 p (getD t p 0) (rw (add-one, drop-cons t p 0 l, ← e)) is s (omega arith) (omega arith))
+  word-letter l e = rw (add-one, drop-cons t p 0 l, ← e)
+
+  pub word-goes-on : {code behind : ℕ} → p < length t → true ≡ inWord (getD t p 0) → code ≡ getD t p 0 + 1 → code ≤ 256 → behind ≡ p + 1 → Stepped t 0 p code behind
+  word-goes-on l e is s b = rw b (went-on t 0 p (getD t p 0) (word-letter l e) is s (omega arith) (omega arith))
 
 -- ---- A string in quotes
 

@@ -1,11 +1,13 @@
 -- What is left of a string of the text while it is read, and the order of two strings.
 use Prim.Native.Nat.{ℕ, zero, suc, _<_, _≤_}
 use mathlib.Core.Path.{_≡_}
+use mathlib.Core.Bool.{Bool, _&&_}
 use mathlib.Core.List.{List, [], _∷_}
-use lib.Dec.{eqb}
-use lib.ListN.{length, drop}
+use lib.Dec.{eqb, ltb}
+use lib.ListN.{length, drop, getD}
 use Rattle.rules.specs.Bytes.{pick}
 use Rattle.rules.specs.Check.{ascends}
+use Rattle.notation.specs.Lexing.{inWord}
 use Rattle.notation.specs.Quoted.{unquoted, wordFrom}
 use Rattle.interner.specs.declared.Order.{Order}
 use Rattle.interner.specs.declared.Order.the-variants.{Before, Same, After}
@@ -25,6 +27,10 @@ pub record Stepped (t : List ℕ) (quote p code behind : ℕ) : Type 0 where
   pub onward : 0 < code → p < behind
   pub within : 0 < code → behind ≤ length t
   pub small : code ≤ 256
+
+-- whether at p and at q two words go on with the same byte
+unfoldable pub alike : List ℕ → (p q : ℕ) → Bool
+alike t p q = ltb p (length t) && (ltb q (length t) && (eqb (getD t p 0) (getD t q 0) && inWord (getD t p 0)))
 
 -- which of two strings comes first
 unfoldable pub orderOf : List ℕ → List ℕ → Order

@@ -1,0 +1,54 @@
+-- `compare_words`: behind the bytes that they share, the words have the order of the whole ones.
+use Prim.Native.Nat.{_-_}
+use mathlib.Core.Path.{_≡_, refl, sym, _∙_}
+use native.Mathlib.Omega.{arith}
+use lib.ListN.{length}
+use Rattle.interner.specs.Strings.{restOf, orderOf}
+use Rattle.interner.proofs.Comparing.{alike-true, alike-on}
+use Rattle.interner.proofs.compare_words.Statement.{statement}
+use Rattle.interner.proofs.compare_words.Tie as tie
+
+abbrev Inv-loop : tie.InvT-loop
+Inv-loop text a b p₀ q₀ p q = orderOf (restOf text 0 p) (restOf text 0 q) ≡ orderOf (restOf text 0 a) (restOf text 0 b)
+
+abbrev μ-loop : tie.MeasureT-loop
+μ-loop text a b p₀ q₀ p q = length text - p
+
+loop-holds : tie.Need-loop-holds Inv-loop μ-loop
+loop-holds c = refl
+
+go-on-alike-requires : tie.Need-go-on-alike-requires Inv-loop μ-loop
+go-on-alike-requires c κs = tt
+
+add-p : tie.Need-add-p Inv-loop μ-loop
+add-p c = let h = alike-true _ _ _ (sym (c .if1 .taken) ∙ c .before .go-on-alike .ensures) in omega (arith, h .one)
+
+add-q : tie.Need-add-q Inv-loop μ-loop
+add-q c = let h = alike-true _ _ _ (sym (c .if1 .taken) ∙ c .before .go-on-alike .ensures) in omega (arith, h .other)
+
+loop-less : tie.Need-loop-less Inv-loop μ-loop
+loop-less c = let h = alike-true _ _ _ (sym (c .if1 .taken) ∙ c .before .go-on-alike .ensures) in omega (arith, h .one)
+
+loop-again : tie.Need-loop-again Inv-loop μ-loop
+loop-again c = alike-on (alike-true _ _ _ (sym (c .if1 .taken) ∙ c .before .go-on-alike .ensures)) (c .before .before .loop .inv)
+
+compare-rests-requires : tie.Need-compare-rests-requires Inv-loop μ-loop
+compare-rests-requires c κs = tt
+
+returns : tie.Need-returns Inv-loop μ-loop
+returns c = c .compare-rests .ensures ∙ c .before .before .before .loop .inv
+
+pub compare-words-spec : {M : Type 1} → statement M
+compare-words-spec =
+    tie.close
+    (tie.spec
+    Inv-loop
+    μ-loop
+    loop-holds
+    go-on-alike-requires
+    add-p
+    add-q
+    loop-less
+    loop-again
+    compare-rests-requires
+    returns)
