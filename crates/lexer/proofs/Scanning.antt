@@ -1,7 +1,7 @@
 -- Steps of the lexer over the bytes of a text, by their places.
 use Prim.Native.Nat.{ℕ, zero, suc, _+_, _≤_, _<_}
 use mathlib.Core.Path.{_≡_, refl, sym, _∙_, subst}
-use mathlib.Core.Bool.{Bool, true, false, _||_}
+use mathlib.Core.Bool.{Bool, true, false, not, _||_}
 use mathlib.Core.List.{List, [], _∷_, _++_, append-assoc, append-nil}
 use native.Mathlib.Omega.{arith}
 use native.Mathlib.Numerals.{add-one}
@@ -11,9 +11,10 @@ use lib.Seq.{drop-cons, slice, slice-empty, slice-cons}
 use borrow.Author.Tests.{eqb-true, eqb-false}
 use Rattle.rules.specs.Bytes.{pick}
 use Rattle.rules.proofs.Within.{false-not-true}
+use Rattle.rules.proofs.Lists.{either-left, either-right}
 use Rattle.notation.specs.Lexing.{isSpace, inWord, Mode, between, comment, reads, begins, stepByte, finish, lineBehind, lex}
 use Rattle.notation.proofs.Lexing.{lex-step, Gathers}
-use Rattle.lexer.specs.Scanned.{isGap}
+use Rattle.lexer.specs.Scanned.{CommentPart, isGap}
 use Rattle.lexer.specs.Found.{lexFrom, tokensFrom}
 
 -- ---- Tests
@@ -84,6 +85,36 @@ comment-begun t at o line h e = stepped-on t at (between o) (comment o) line h (
 pub comment-passed : (t : List ℕ) (at : ℕ) (o : Bool) (line : ℕ) → at < length t → eqb (getD t at 0) 0x0a ≡ false → lexFrom t at line (comment o) ≡ lexFrom t (at + 1) line (comment o)
 unfolding stepByte
 comment-passed t at o line h e = stepped-on t at (comment o) (comment o) line h (rw e) e
+
+-- some bytes of one, and then more
+pub comment-on : {t : List ℕ} {p q r : ℕ} → CommentPart t p q → CommentPart t q r → CommentPart t p r
+comment-on x y = record { low = omega (arith, x .low, y .low); high = y .high; goes-on = λ o line. x .goes-on o line ∙ y .goes-on o line }
+
+-- four bytes of one
+pub four-passed : (t : List ℕ) (at : ℕ) → at + 4 ≤ length t → not ((eqb (getD t at 0) 10 || eqb (getD t (at + 1) 0) 10) || (eqb (getD t (at + 2) 0) 10 || eqb (getD t (at + 3) 0) 10)) ≡ true → CommentPart t at (at + 4)
+four-passed t at h e =
+    let none : (first || last) ≡ false = not-so (first || last) e in
+    let first-two : first ≡ false = either-left first last none in
+    let last-two : last ≡ false = either-right first last none in
+    comment-on
+    (comment-on (one at (at + 1) refl (omega arith) (either-left (feed at) (feed (at + 1)) first-two)) (one (at + 1) (at + 2) (omega arith) (omega arith) (either-right (feed at) (feed (at + 1)) first-two)))
+    (comment-on (one (at + 2) (at + 3) (omega arith) (omega arith) (either-left (feed (at + 2)) (feed (at + 3)) last-two)) (one (at + 3) (at + 4) (omega arith) (omega arith) (either-right (feed (at + 2)) (feed (at + 3)) last-two)))
+  where
+    feed : ℕ → Bool
+    feed p = eqb (getD t p 0) 10
+
+    first : Bool
+    first = feed at || feed (at + 1)
+
+    last : Bool
+    last = feed (at + 2) || feed (at + 3)
+
+    not-so : (b : Bool) → not b ≡ true → b ≡ false
+    not-so true i = absurd (false-not-true i)
+    not-so false i = refl
+
+    one : (p q : ℕ) → q ≡ p + 1 → p < length t → eqb (getD t p 0) 10 ≡ false → CommentPart t p q
+    one p q is i d = record { low = omega arith; high = omega arith; goes-on = λ o line. subst (λ (n : ℕ). lexFrom t p line (comment o) ≡ lexFrom t n line (comment o)) (sym is) (comment-passed t p o line i d) }
 
 -- a line feed ends a comment, as it would be passed without one
 pub comment-ended : (t : List ℕ) (at : ℕ) (o : Bool) (line : ℕ) → at < length t → getD t at 0 ≡ 0x0a → lexFrom t at line (comment o) ≡ tokensFrom t at line o

@@ -17,6 +17,12 @@ pub record WordRun (t : List ℕ) (at r : ℕ) : Type 0 where
   pub inside : (i : ℕ) → at ≤ i → i < r → inWord (getD t i 0) ≡ true
   pub stops : r < length t → inWord (getD t r 0) ≡ false
 
+-- the comment that goes on at `at` goes on at r
+pub record CommentPart (t : List ℕ) (at r : ℕ) : Type 0 where
+  pub low : at ≤ r
+  pub high : r ≤ length t
+  pub goes-on : (o : Bool) (line : ℕ) → lexFrom t at line (comment o) ≡ lexFrom t r line (comment o)
+
 -- a comment that goes on at `at` ends at r: there the tokens are as if it had been none
 pub record CommentRun (t : List ℕ) (at r : ℕ) : Type 0 where
   pub low : at ≤ r
