@@ -13,7 +13,7 @@ use Rattle.notation.specs.Lexing.{inWord}
 use Rattle.interner.specs.Strings.{restOf, fromCode, Stepped, alike, orderOf}
 use Rattle.interner.specs.declared.Order.{Order}
 use Rattle.interner.specs.declared.Order.the-variants.{Before, Same, After}
-use Rattle.interner.proofs.Reading.{word-letter}
+use Rattle.interner.proofs.Reading.{letter-on}
 
 -- two strings by the codes of their first bytes and what follows
 module _ (x y : List ℕ) where
@@ -110,21 +110,15 @@ module _ (t : List ℕ) (p q : ℕ) where
       unfolding alike
       bytes-same e = rw (lt-ltb p (length t) l, lt-ltb q (length t) k, eq-eqb (getD t p 0) (getD t q 0) e)
 
-pub alike-on : {t : List ℕ} {p q : ℕ} {whole : Order} → Alike t p q → orderOf (restOf t 0 p) (restOf t 0 q) ≡ whole → orderOf (restOf t 0 (p + 1)) (restOf t 0 (q + 1)) ≡ whole
+-- a letter that both go on with decides nothing
+pub alike-on : (f g : ℕ) {t : List ℕ} {p q : ℕ} {whole : Order} → inWord f ≡ false → inWord g ≡ false → Alike t p q → orderOf (restOf t f p) (restOf t g q) ≡ whole → orderOf (restOf t f (p + 1)) (restOf t g (q + 1)) ≡ whole
 unfolding fromCode
-alike-on {t} {p} {q} h inv =
-    let one : restOf t 0 p ≡ getD t p 0 ∷ restOf t 0 (p + 1) = word-letter t p (h .one) (sym (h .in-word)) in
-    let other : restOf t 0 q ≡ getD t p 0 ∷ restOf t 0 (q + 1) = word-letter t q (h .other) (sym (h .in-word) ∙ ap inWord (h .same)) ∙ ap (λ (n : ℕ). n ∷ restOf t 0 (q + 1)) (sym (h .same)) in
-    sym (same-first (restOf t 0 (p + 1)) (restOf t 0 (q + 1)) (suc (getD t p 0)) (omega arith)) ∙ (rw (one, other) at inv)
+alike-on f g {t} {p} {q} no-f no-g h inv =
+    let one : restOf t f p ≡ getD t p 0 ∷ restOf t f (p + 1) = letter-on t f p no-f (h .one) (h .in-word) in
+    let other : restOf t g q ≡ getD t p 0 ∷ restOf t g (q + 1) = letter-on t g q no-g (h .other) (ap inWord (sym (h .same)) ∙ h .in-word) ∙ ap (λ (n : ℕ). n ∷ restOf t g (q + 1)) (sym (h .same)) in
+    sym (same-first (restOf t f (p + 1)) (restOf t g (q + 1)) (suc (getD t p 0)) (omega arith)) ∙ (rw (one, other) at inv)
 
 -- what is left at first are the whole strings
 module _ (t : List ℕ) (f g p q : ℕ) {x y : List ℕ} where
   pub whole-order : restOf t f p ≡ x → restOf t g q ≡ y → orderOf (restOf t f p) (restOf t g q) ≡ orderOf x y
   whole-order e h = rw (e, h)
-
-  -- of two words
-  pub words-order : (eqb f 0 && eqb g 0) ≡ true → restOf t f p ≡ x → restOf t g q ≡ y → orderOf (restOf t 0 p) (restOf t 0 q) ≡ orderOf x y
-  words-order both e h =
-      let one : f ≡ 0 = eqb-true f 0 (both-left (eqb f 0) (eqb g 0) both) in
-      let other : g ≡ 0 = eqb-true g 0 (both-right (eqb f 0) (eqb g 0) both) in
-      rw (one, other) at (whole-order e h)

@@ -1,7 +1,7 @@
 -- One law for each way through reading a string of the text.
 use Prim.Native.Nat.{ℕ, zero, suc, _+_, _<_, _≤_}
-use mathlib.Core.Path.{_≡_, sym, _∙_}
-use mathlib.Core.Bool.{true, false}
+use mathlib.Core.Path.{_≡_, refl, sym, ap, _∙_}
+use mathlib.Core.Bool.{Bool, true, false}
 use mathlib.Core.List.{List, [], _∷_}
 use native.Mathlib.Omega.{arith}
 use native.Mathlib.Numerals.{add-one}
@@ -9,6 +9,7 @@ use lib.ListN.{length, getD, drop, drop-of-length-le, List·getD-eq-default}
 use lib.Seq.{drop-cons}
 use borrow.Author.Tests.{ne-eqb, eq-eqb}
 use Rattle.rules.proofs.Within.{false-not-true}
+use Rattle.lexer.proofs.Scanning.{differs}
 use Rattle.notation.specs.Lexing.{isQuote, inWord}
 use Rattle.notation.specs.Quoted.{escapeOf, unquoted, unescaped, wordFrom, stringFrom}
 use Rattle.interner.specs.Strings.{restOf, fromCode, Stepped}
@@ -81,7 +82,27 @@ module _ (t : List ℕ) (q p : ℕ) (quoted : 0 < q) where
   escaped {n} l e f more n-is is s b =
       rw b (went-on t q p n (escaping l e f ∙ rw (in-quotes (p + 1 + 1), add-one (p + 1), drop-cons t (p + 1) 0 more, n-is)) is s (omega arith) (omega arith))
 
+-- ---- A letter, in quotes or not
+
+pub letter-on : (t : List ℕ) (q p : ℕ) → inWord q ≡ false → p < length t → inWord (getD t p 0) ≡ true → restOf t q p ≡ getD t p 0 ∷ restOf t q (p + 1)
+unfolding unquoted
+letter-on t zero p plain l e = word-letter t p l (sym e)
+letter-on t (suc q) p plain l e =
+    let quoted : 0 < suc q = omega arith in
+    let no-quote : getD t p 0 ≡ suc q → ⊥ = λ i. false-not-true (sym plain ∙ ap inWord (sym i) ∙ e) in
+    let no-backslash : getD t p 0 ≡ 0x5c → ⊥ = λ i. false-not-true (ap inWord (sym i) ∙ e) in
+    in-quotes t (suc q) p quoted p ∙ rw (in-quotes t (suc q) p quoted (p + 1), add-one, drop-cons t p 0 l, ne-eqb _ _ no-quote, ne-eqb _ _ no-backslash)
+
 -- ---- Where a string begins
+
+-- a quote is no letter
+pub quote-no-letter : (c : ℕ) → true ≡ isQuote c → inWord c ≡ false
+unfolding isQuote
+quote-no-letter c q = go (inWord c) refl
+  where
+    go : (b : Bool) → inWord c ≡ b → inWord c ≡ false
+    go true e = absurd (false-not-true (sym (rw (differs inWord c 0x27 e refl, differs inWord c 0x22 e refl) at q)))
+    go false e = e
 
 -- a quote is not 0
 quote-above : (c : ℕ) → true ≡ isQuote c → 0 < c

@@ -28,7 +28,7 @@ pub record Stepped (t : List ℕ) (quote p code behind : ℕ) : Type 0 where
   pub within : 0 < code → behind ≤ length t
   pub small : code ≤ 256
 
--- whether at p and at q two words go on with the same byte
+-- whether at p and at q two strings go on with the same letter, digit or underscore
 unfoldable pub alike : List ℕ → (p q : ℕ) → Bool
 alike t p q = ltb p (length t) && (ltb q (length t) && (eqb (getD t p 0) (getD t q 0) && inWord (getD t p 0)))
 

@@ -1,8 +1,10 @@
 // The table of a text's strings, in lent bytes. It keeps no copies: a string is known by the place in the text where it begins, an opening quote or the first
 // letter of a word. Each place takes two bytes, and the places are sorted by what the strings mean.
 ghost use mathlib.Core.Path.{_≡_};
+ghost use mathlib.Core.Bool.{false};
 ghost use Prim.Native.Nat.{_+_, _<_, _≤_};
 ghost use lib.ListN.{length};
+ghost use Rattle.notation.specs.Lexing.{inWord};
 ghost use Rattle.notation.specs.Quoted.{escapeOf, stringFrom};
 ghost use Rattle.interner.specs.Strings.{restOf, Stepped, alike, orderOf};
 ghost use Rattle.interner.specs.Table.{Searchable, Searched, Moved, Ready, Kept};
@@ -49,7 +51,7 @@ fn letter(c: u8, behind: usize) -> Step
 
 // The string that begins at `p`.
 fn start(text: &[u8], p: usize) -> Cursor
-    ensures { λ r. ⌜ restOf (now (text .entry)) (r .quote) (r .at) ≡ stringFrom (now (text .entry)) p ⌝ }
+    ensures { λ r. ⌜ (restOf (now (text .entry)) (r .quote) (r .at) ≡ stringFrom (now (text .entry)) p) × (inWord (r .quote) ≡ false) ⌝ }
 {
     if text.len() <= p {
         return Cursor { quote: 0, at: p };
@@ -110,7 +112,7 @@ fn next(text: &[u8], quote: u8, at: usize) -> Step
 
 // ---- Two strings
 
-// Whether two words go on with the same byte.
+// Whether two strings go on with the same letter, digit or underscore.
 fn go_on_alike(text: &[u8], p: usize, q: usize) -> bool
     ensures { λ r. ⌜ r ≡ alike (now (text .entry)) p q ⌝ }
 {
@@ -151,9 +153,10 @@ fn compare_rests(text: &[u8], one: u8, other: u8, a: usize, b: usize) -> Order
     }
 }
 
-// Two words. The bytes that they share are passed over first, by a shorter test than a step in each takes.
-fn compare_words(text: &[u8], a: usize, b: usize) -> Order
-    ensures { λ r. ⌜ r ≡ orderOf (restOf (now (text .entry)) 0 a) (restOf (now (text .entry)) 0 b) ⌝ }
+// The same. Letters that both go on with are passed over first, by a shorter test than a step in each takes: no letter ends a string or has another meaning.
+fn compare_behind_letters(text: &[u8], one: u8, other: u8, a: usize, b: usize) -> Order
+    requires { ⌜ (inWord one ≡ false) × (inWord other ≡ false) ⌝ }
+    ensures { λ r. ⌜ r ≡ orderOf (restOf (now (text .entry)) one a) (restOf (now (text .entry)) other b) ⌝ }
 {
     let mut p = a;
     let mut q = b;
@@ -161,7 +164,7 @@ fn compare_words(text: &[u8], a: usize, b: usize) -> Order
         p += 1;
         q += 1;
     }
-    compare_rests(text, 0, 0, p, q)
+    compare_rests(text, one, other, p, q)
 }
 
 // The strings that begin at `a` and at `b`.
@@ -170,10 +173,7 @@ pub fn compare(text: &[u8], a: usize, b: usize) -> Order
 {
     let first = start(text, a);
     let second = start(text, b);
-    if (first.quote == 0) & (second.quote == 0) {
-        return compare_words(text, first.at, second.at);
-    }
-    compare_rests(text, first.quote, second.quote, first.at, second.at)
+    compare_behind_letters(text, first.quote, second.quote, first.at, second.at)
 }
 
 // ---- The table

@@ -1,6 +1,6 @@
--- `compare`: both strings are words, or one is in quotes.
+-- `compare`: what is left of both strings at first is the whole of them.
 use mathlib.Core.Path.{_∙_}
-use Rattle.interner.proofs.Comparing.{whole-order, words-order}
+use Rattle.interner.proofs.Comparing.{whole-order}
 use Rattle.interner.proofs.compare.Statement.{statement}
 use Rattle.interner.proofs.compare.Tie as tie
 
@@ -10,17 +10,11 @@ start-requires c κs = tt
 start-requires-2 : tie.Need-start-requires-2
 start-requires-2 c κs = tt
 
-compare-words-requires : tie.Need-compare-words-requires
-compare-words-requires c κs = tt
+compare-behind-letters-requires : tie.Need-compare-behind-letters-requires
+compare-behind-letters-requires c κs = (c .before .start .ensures .1, c .start2 .ensures .1)
 
 returns : tie.Need-returns
-returns c = c .compare-words .ensures ∙ words-order _ _ _ _ _ (c .before .if1 .taken) (c .before .before .before .before .before .start .ensures) (c .before .before .before .before .start2 .ensures)
-
-compare-rests-requires : tie.Need-compare-rests-requires
-compare-rests-requires c κs = tt
-
-returns-2 : tie.Need-returns-2
-returns-2 c = c .compare-rests .ensures ∙ whole-order _ _ _ _ _ (c .before .before .before .before .before .start .ensures) (c .before .before .before .before .start2 .ensures)
+returns c = c .compare-behind-letters .ensures ∙ whole-order _ _ _ _ _ (c .before .before .start .ensures .0) (c .before .start2 .ensures .0)
 
 pub compare-spec : {M : Type 1} → statement M
 compare-spec =
@@ -28,7 +22,5 @@ compare-spec =
     (tie.spec
     start-requires
     start-requires-2
-    compare-words-requires
-    returns
-    compare-rests-requires
-    returns-2)
+    compare-behind-letters-requires
+    returns)

@@ -23,7 +23,7 @@ start-requires : tie.Need-start-requires Inv-loop μ-loop
 start-requires c κs = tt
 
 loop-holds : tie.Need-loop-holds Inv-loop μ-loop
-loop-holds c = (rw (c .start .ensures), rw (c .start .ensures))
+loop-holds c = (rw (c .start .ensures .0), rw (c .start .ensures .0))
 
 next-requires : tie.Need-next-requires Inv-loop μ-loop
 next-requires c κs = tt

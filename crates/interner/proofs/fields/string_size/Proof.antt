@@ -19,7 +19,7 @@ start-requires : tie.Need-start-requires Inv-loop μ-loop
 start-requires c κs = tt
 
 loop-holds : tie.Need-loop-holds Inv-loop μ-loop
-loop-holds c = (omega (arith, ap length (c .start .ensures)), omega arith, omega arith)
+loop-holds c = (omega (arith, ap length (c .start .ensures .0)), omega arith, omega arith)
 
 next-requires : tie.Need-next-requires Inv-loop μ-loop
 next-requires c κs = tt
