@@ -13,8 +13,6 @@ pub struct Field {
     pub tag: u8,
     pub parts: Vec<Part>,
     pub mark: Option<&'static str>,
-    /// The place of the token that brought it, if a text did.
-    pub token: usize,
     /// A length to write in place of the true one.
     pub length: Option<u16>,
 }
@@ -33,7 +31,6 @@ impl Field {
             tag,
             parts: Vec::new(),
             mark: None,
-            token: 0,
             length: None,
         }
     }
@@ -41,12 +38,6 @@ impl Field {
     /// Gives the field a mark, for [`Built::place`].
     pub fn at(mut self, mark: &'static str) -> Field {
         self.mark = Some(mark);
-        self
-    }
-
-    /// The token at that place brought the field.
-    pub fn brought(mut self, token: usize) -> Field {
-        self.token = token;
         self
     }
 
@@ -94,8 +85,6 @@ pub struct Built {
     marks: BTreeMap<&'static str, u16>,
     /// The offset of every field in rising order, with its tag.
     pub fields: Vec<(usize, u8)>,
-    /// The place of the token that brought each of them.
-    pub tokens: Vec<usize>,
 }
 
 impl Built {
@@ -171,7 +160,6 @@ fn collect(field: &Field, strings: &mut BTreeSet<Vec<u8>>) {
 fn write(field: &Field, strings: &[Vec<u8>], built: &mut Built) {
     let place = built.bytes.len();
     built.fields.push((place, field.tag));
-    built.tokens.push(field.token);
     if let Some(mark) = field.mark {
         built.marks.insert(mark, place as u16);
     }

@@ -53,15 +53,6 @@ pub fn convert(text: &[u8], output: usize, memory: usize) -> Written {
     Ok(Manifest::new(items).build().bytes)
 }
 
-/// Every field of a text's manifest: its offset, and the place of the token
-/// that brought it. The table of strings came with none: 0.
-pub fn places(text: &[u8]) -> Result<Vec<(usize, usize)>, Refused> {
-    convert(text, LONGEST, LEAST_MEMORY)?;
-    let built = Manifest::new(Parser::new(text).manifest()?).build();
-    let offsets = built.fields.iter().map(|field| field.0);
-    Ok(offsets.zip(built.tokens.iter().copied()).collect())
-}
-
 /// How many bytes a field takes, its header included.
 fn size(field: &Field) -> usize {
     let parts = field.parts.iter().map(|part| match part {
@@ -151,12 +142,6 @@ impl<'t> Parser<'t> {
             None => self.lexer.next()?,
         };
         Ok(&self.ahead.insert(lexeme).token)
-    }
-
-    /// The place of the token that comes next.
-    fn here(&mut self) -> Parsed<usize> {
-        self.peek()?;
-        Ok(self.ahead.as_ref().map_or(0, |lexeme| lexeme.place))
     }
 
     fn take(&mut self) -> Parsed<Lexeme<'t>> {
@@ -256,10 +241,10 @@ impl<'t> Parser<'t> {
     }
 
     fn node(&mut self) -> Parsed<Field> {
-        let node = Field::new(0x30).brought(self.take()?.place);
-        let place = self.here()?;
+        self.take()?;
+        let node = Field::new(0x30);
         let node = match self.takes(Token::Keyword("default"))? {
-            true => node.field(default().brought(place)),
+            true => node.field(default()),
             false => node.fields(self.devices()?),
         };
         Ok(node.field(self.block(2)?))
@@ -286,31 +271,28 @@ impl<'t> Parser<'t> {
             _ => return Err(misplaced(&lexeme)),
         };
         self.string(name, lexeme.place)?;
-        Ok(Field::new(0x31).name(name).brought(lexeme.place))
+        Ok(Field::new(0x31).name(name))
     }
 
     fn type_definition(&mut self) -> Parsed<Field> {
-        let place = self.take()?.place;
+        self.take()?;
         let (name, _) = self.name()?;
         let parameters = self.parameters()?;
         let definition = Field::new(0x32).name(name).fields(parameters);
-        Ok(definition.field(self.block(2)?).brought(place))
+        Ok(definition.field(self.block(2)?))
     }
 
-    /// `class` at the top: a definition, or a class with attributes. The token
-    /// behind tells which, and brings it.
+    /// `class` at the top: a definition, or a class with attributes.
     fn class_item(&mut self) -> Parsed<Field> {
         self.take()?;
-        let place = self.here()?;
         if *self.peek()? == Token::Sign("{") {
-            return Ok(self.class_with_attributes(1)?.brought(place));
+            return self.class_with_attributes(1);
         }
         let (name, _) = self.name()?;
         let parameters = self.parameters()?;
-        let mut definition = Field::new(0x34).name(name).brought(place);
+        let mut definition = Field::new(0x34).name(name);
         if self.takes(Token::Keyword("inherits"))? {
-            let (name, place) = self.name()?;
-            definition = definition.field(parent(name).brought(place));
+            definition = definition.field(parent(self.name()?.0));
         }
         Ok(definition.fields(parameters).field(self.block(2)?))
     }
@@ -339,7 +321,7 @@ impl<'t> Parser<'t> {
             true => Some(self.constant(3)?),
             false => None,
         };
-        Ok(parameter(name, default).brought(lexeme.place))
+        Ok(parameter(name, default))
     }
 }
 
@@ -353,14 +335,14 @@ impl<'t> Parser<'t> {
         while !self.sign_comes("}")? {
             statements.push(self.statement(depth + 1)?);
         }
-        Ok(block(statements).brought(place))
+        Ok(block(statements))
     }
 
     /// A statement of that depth, which its first token brings.
     fn statement(&mut self, depth: usize) -> Parsed<Field> {
         let lexeme = self.take()?;
         brings(depth, lexeme.place)?;
-        let statement = match lexeme.token {
+        match lexeme.token {
             Token::Variable(name) => self.assignment(name, lexeme.place, depth),
             Token::Name(name) => self.resource(name, lexeme.place, depth),
             Token::Keyword("if") => self.condition(depth),
@@ -368,8 +350,7 @@ impl<'t> Parser<'t> {
             Token::Keyword("class") => self.class_with_attributes(depth),
             Token::Keyword("include") => Ok(include(self.name()?.0)),
             _ => Err(misplaced(&lexeme)),
-        };
-        Ok(statement?.brought(lexeme.place))
+        }
     }
 
     fn assignment(&mut self, name: &[u8], place: usize, depth: usize) -> Parsed<Field> {
@@ -378,14 +359,13 @@ impl<'t> Parser<'t> {
         Ok(assign(name, self.expression(depth + 1)?))
     }
 
-    /// "without `else` the second block is an empty 20". That one comes with
-    /// the token that is no `else`.
+    /// "without `else` the second block is an empty 20".
     fn condition(&mut self, depth: usize) -> Parsed<Field> {
         let test = self.expression(depth + 1)?;
         let then = self.block(depth + 1)?;
         let otherwise = match self.takes(Token::Keyword("else"))? {
             true => self.block(depth + 1)?,
-            false => block(vec![]).brought(self.here()?),
+            false => block(vec![]),
         };
         Ok(Field::new(0x22).field(test).field(then).field(otherwise))
     }
@@ -394,10 +374,9 @@ impl<'t> Parser<'t> {
         let mut case = Field::new(0x23).field(self.expression(depth + 1)?);
         self.sign("{")?;
         while !self.sign_comes("}")? {
-            let place = self.here()?;
             let pattern = self.pattern(depth + 2)?;
             self.sign(":")?;
-            let branch = Field::new(0x24).field(pattern).brought(place);
+            let branch = Field::new(0x24).field(pattern);
             case = case.field(branch.field(self.block(depth + 2)?));
         }
         Ok(case)
@@ -442,7 +421,7 @@ impl<'t> Parser<'t> {
         let (name, place) = self.name()?;
         brings(depth, place)?;
         self.sign("=>")?;
-        Ok(given(name, self.expression(depth + 1)?).brought(place))
+        Ok(given(name, self.expression(depth + 1)?))
     }
 }
 
@@ -474,7 +453,6 @@ impl<'t> Parser<'t> {
                 Operator::Binary(byte) => binary_of(byte, left, self.grown(depth + 1, level + 1)?),
                 Operator::Select => self.selector(left, depth)?,
             };
-            left.field.token = place;
         }
         Ok(left)
     }
@@ -485,13 +463,11 @@ impl<'t> Parser<'t> {
         let mut height = 1 + scrutinee.height;
         let mut selector = Field::new(0x19).field(scrutinee.field);
         loop {
-            let place = self.here()?;
             let pattern = self.pattern(depth + 2)?;
             self.sign("=>")?;
             let chosen = self.grown(depth + 2, LOOSEST)?;
             height = height.max(2 + chosen.height);
-            let arm = Field::new(0x1A).field(pattern).field(chosen.field);
-            selector = selector.field(arm.brought(place));
+            selector = selector.field(Field::new(0x1A).field(pattern).field(chosen.field));
             if !self.comma_or("}")? || self.sign_comes("}")? {
                 return Ok(Grown {
                     field: selector,
@@ -509,7 +485,7 @@ impl<'t> Parser<'t> {
             return self.bracketed(place, depth);
         }
         brings(depth, place)?;
-        let mut operand = match lexeme.token {
+        match lexeme.token {
             Token::Sign("!") => Ok(not_of(self.operand(depth + 1)?)),
             Token::Variable(name) => {
                 self.string(name, place)?;
@@ -526,9 +502,7 @@ impl<'t> Parser<'t> {
             }
             Token::Name(name) => self.name_operand(name, &lexeme, depth),
             _ => Ok(leaf(self.constant_of(lexeme)?)),
-        }?;
-        operand.field.token = place;
-        Ok(operand)
+        }
     }
 
     fn bracketed(&mut self, place: usize, depth: usize) -> Parsed<Grown> {
@@ -567,14 +541,13 @@ impl<'t> Parser<'t> {
         }
         let place = self.take()?.place;
         brings(depth, place)?;
-        Ok(default().brought(place))
+        Ok(default())
     }
 
     fn constant(&mut self, depth: usize) -> Parsed<Field> {
         let lexeme = self.take()?;
-        let place = lexeme.place;
-        brings(depth, place)?;
-        Ok(self.constant_of(lexeme)?.brought(place))
+        brings(depth, lexeme.place)?;
+        self.constant_of(lexeme)
     }
 
     fn constant_of(&mut self, lexeme: Lexeme<'t>) -> Parsed<Field> {

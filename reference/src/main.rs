@@ -34,7 +34,6 @@
 //!
 //! reference convert < text          the manifest of a text
 //! reference print < manifest        the text of a manifest
-//! reference text-places < text      the offset of each field of its manifest, and the place of its token
 //! reference text-batch < cases      a text case to a line in; an answer to a line out
 //! reference text-generate SEED COUNT   random text cases
 //! reference text-histogram SEED COUNT  how often each answer occurs among them, and why

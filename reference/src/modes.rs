@@ -16,7 +16,7 @@ use std::time::{Duration, Instant};
 
 const USAGE: &str = "use: reference schedule | batch | default-last | generate SEED COUNT | \
                      histogram SEED COUNT | time SEED COUNT | named NAME | named --list | \
-                     time-named [NAME] | convert | print | text-places | text-batch | \
+                     time-named [NAME] | convert | print | text-batch | \
                      text-generate SEED COUNT | text-histogram SEED COUNT | \
                      round-trip SEED COUNT | text-named NAME | text-named --list | \
                      time-text [NAME]";
@@ -36,7 +36,6 @@ pub fn run(arguments: &[String]) -> Result<(), String> {
         ["time-named", name] => return time_named(name),
         ["convert"] => return text_modes::one(Call::Convert),
         ["print"] => return text_modes::one(Call::Print),
-        ["text-places"] => return text_modes::places(),
         ["text-batch"] => return text_modes::batch(),
         ["text-generate", seed, count] => text_modes::generate(number(seed)?, number(count)?),
         ["text-histogram", seed, count] => text_modes::histogram(number(seed)?, number(count)?),

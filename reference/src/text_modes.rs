@@ -1,7 +1,6 @@
 //! What the arguments ask of the text notation.
 
-use crate::converter;
-use crate::text_answer::{Refused, Written, LONGEST};
+use crate::text_answer::{Written, LONGEST};
 use crate::text_case::{written_line, Call, TextCase};
 use crate::text_generate::text_cases;
 use crate::text_named::{text_named, TEXT_NAMED};
@@ -25,26 +24,11 @@ pub fn one(call: Call) -> Result<(), String> {
     io::stdin().lock().read_to_end(&mut input).map_err(broken)?;
     match TextCase::of(call, input).answer() {
         Ok(bytes) => io::stdout().lock().write_all(&bytes).map_err(broken),
-        Err(refused) => end_refused(&refused),
+        Err(refused) => {
+            eprintln!("refused {} at {}", refused.number, refused.place);
+            std::process::exit(1)
+        }
     }
-}
-
-fn end_refused(refused: &Refused) -> ! {
-    eprintln!("refused {} at {}", refused.number, refused.place);
-    std::process::exit(1)
-}
-
-/// For each field of the manifest of standard input a line: its offset and the
-/// place of the token that brought it. Refusals as in [`one`].
-pub fn places() -> Result<(), String> {
-    let mut text = Vec::new();
-    io::stdin().lock().read_to_end(&mut text).map_err(broken)?;
-    let places = converter::places(&text).unwrap_or_else(|refused| end_refused(&refused));
-    let mut out = BufWriter::new(io::stdout().lock());
-    for (offset, place) in places {
-        writeln!(out, "{offset} {place}").map_err(broken)?;
-    }
-    out.flush().map_err(broken)
 }
 
 /// Answers each line.
