@@ -63,6 +63,9 @@ pub enum Reason {
     Cells = 22,
     /// 23. The finished entry passes the output's end or 65,535 bytes in all.
     Output = 23,
+    /// 27. The catalog has no such attribute. Only a question meets it; 24 to 26
+    /// are of the text notation.
+    NoAttribute = 27,
 }
 
 impl Reason {

@@ -5,6 +5,7 @@ use crate::answer::{Answer, Reason, Refusal};
 use crate::machine::{self, Finished};
 use crate::reader;
 use crate::tree::Tree;
+use crate::watch::Nobody;
 
 /// "The working memory is shorter than 65,536 bytes."
 pub const LEAST_MEMORY: usize = 65_536;
@@ -36,7 +37,7 @@ fn attempt(
     memory: usize,
 ) -> Result<Finished, Refusal> {
     let tree = read(manifest, memory)?;
-    machine::run(&tree, device, limit, out)
+    machine::run(&tree, device, limit, out, &Nobody)
 }
 
 /// All that comes before running: refusals 1 to 5.

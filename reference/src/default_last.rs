@@ -5,6 +5,7 @@ use crate::case::Case;
 use crate::compile;
 use crate::machine;
 use crate::tree::*;
+use crate::watch::Nobody;
 
 /// Whether the answer would be another if a default matched where it is
 /// reached, so that the patterns behind it were never tried.
@@ -20,7 +21,7 @@ pub fn tells(case: &Case) -> bool {
 /// The steps and the catalog, or the refusal.
 fn run(tree: &Tree, case: &Case) -> Result<(u16, Vec<u8>), Refusal> {
     let mut out = vec![0; case.output];
-    let finished = machine::run(tree, &case.device, case.limit, &mut out)?;
+    let finished = machine::run(tree, &case.device, case.limit, &mut out, &Nobody)?;
     out.truncate(usize::from(finished.length));
     Ok((finished.steps, out))
 }

@@ -28,7 +28,6 @@ impl Labels {
     }
 
     /// Whether the two sets share a label.
-    #[cfg_attr(not(test), allow(dead_code))]
     pub fn meets(&self, other: &Labels) -> bool {
         self.words.iter().zip(other.words).any(|(a, b)| a & b != 0)
     }

@@ -5,6 +5,7 @@ use crate::catalog::{Catalog, Entry};
 use crate::labels::Labels;
 use crate::scopes::{ScopeId, Scopes, NODE, TOP};
 use crate::tree::*;
+use crate::watch::{Origin, Watch};
 
 /// "Built-in types".
 pub const BUILT_IN: [&[u8]; 8] = [
@@ -60,7 +61,7 @@ impl Context {
 
 /// Everything a compile carries along once the manifest is read. Tables by
 /// name have one place for each string, and every name is below their length.
-struct Machine<'t, 'o> {
+struct Machine<'t, 'o, W> {
     built_in: Vec<bool>,
     title: Option<Name>,
     defined: Vec<Option<&'t Definition>>,
@@ -71,6 +72,7 @@ struct Machine<'t, 'o> {
     limit: u16,
     steps: u16,
     catalog: Catalog<'o>,
+    watch: &'o W,
 }
 
 /// The catalog's length and the steps.
@@ -80,7 +82,13 @@ pub struct Finished {
 }
 
 /// Runs a manifest's items in order.
-pub fn run(tree: &Tree, device: &[u8], limit: u16, output: &mut [u8]) -> Result<Finished, Refusal> {
+pub fn run<W: Watch>(
+    tree: &Tree,
+    device: &[u8],
+    limit: u16,
+    output: &mut [u8],
+    watch: &W,
+) -> Result<Finished, Refusal> {
     let mut machine = Machine {
         built_in: tree
             .strings
@@ -95,6 +103,7 @@ pub fn run(tree: &Tree, device: &[u8], limit: u16, output: &mut [u8]) -> Result<
         limit,
         steps: 0,
         catalog: Catalog::new(output),
+        watch,
     };
     let chosen = chosen_node(tree, device);
     for (at, item) in tree.items.iter().enumerate() {
@@ -139,7 +148,7 @@ fn chosen_node(tree: &Tree, device: &[u8]) -> Option<usize> {
 }
 
 /// Definitions and small parts.
-impl<'t> Machine<'t, '_> {
+impl<'t, W: Watch> Machine<'t, '_, W> {
     /// Refusal 8, met when the item runs; "classes and types share one set of
     /// names".
     fn define(&mut self, definition: &'t Definition) -> Result<(), Refusal> {
@@ -190,7 +199,7 @@ impl<'t> Machine<'t, '_> {
 }
 
 /// Statements.
-impl<'t> Machine<'t, '_> {
+impl<'t, W: Watch> Machine<'t, '_, W> {
     /// "blocks count nothing".
     fn block(&mut self, block: &'t Block, context: &Context) -> Result<(), Refusal> {
         for statement in block {
@@ -225,7 +234,7 @@ impl<'t> Machine<'t, '_> {
                 effect,
             } => {
                 let tested = self.evaluate(scrutinee, context.scope)?;
-                let (chosen, tried) = choose(arms, &tested.value);
+                let (chosen, tried) = choose(arms, &tested.value, self.watch);
                 let inside = self.after_test(tested.labels.union(tried), effect, context, place)?;
                 match chosen {
                     Some(block) => self.block(block, &inside),
@@ -271,7 +280,7 @@ impl<'t> Machine<'t, '_> {
         context: &Context,
         place: Place,
     ) -> Result<(), Refusal> {
-        let (title, title_labels) = self.text(&resource.title, context.scope)?;
+        let (title, labels) = self.text(&resource.title, context.scope)?;
         let values = self.values(&resource.attributes, context.scope)?;
         if !self.built_in[usize::from(resource.kind)] {
             return Err(Reason::Unknown.at(place));
@@ -280,7 +289,12 @@ impl<'t> Machine<'t, '_> {
             return Err(Reason::InCatalog.at(place));
         }
         check_named_once(&resource.attributes)?;
-        let labels = title_labels.union(context.path).union(self.trail);
+        let origin = Origin {
+            title: labels,
+            path: context.path,
+            trail: self.trail,
+        };
+        let labels = origin.labels();
         // An attribute stores its value's set with path and trail, which its
         // resource's set holds already: "an attribute's set includes its
         // resource's".
@@ -293,12 +307,13 @@ impl<'t> Machine<'t, '_> {
                 .map(|(attribute, value)| (attribute.name, value.with(labels)))
                 .collect(),
         };
+        self.watch.resource(&entry, origin);
         self.catalog.add(entry).map_err(|reason| reason.at(place))
     }
 }
 
 /// Declarations.
-impl<'t> Machine<'t, '_> {
+impl<'t, W: Watch> Machine<'t, '_, W> {
     /// Reading 11: title and its 15, attributes, 7, 9, 11, 12, 21, the title's
     /// 22 at the 27, for each 33 its 14 and 22.
     fn defined_resource(
@@ -396,7 +411,7 @@ impl<'t> Machine<'t, '_> {
     fn declare(
         &mut self,
         definition: &'t Definition,
-        values: &[Labelled],
+        values: &[Supply],
         context: &Context,
     ) -> Result<(), Refusal> {
         let named = definition.parent.and_then(|parent| self.declared(parent.name));
@@ -411,23 +426,34 @@ impl<'t> Machine<'t, '_> {
     fn run_body(
         &mut self,
         definition: &'t Definition,
-        values: &[Labelled],
+        values: &[Supply],
         body: &Context,
     ) -> Result<(), Refusal> {
-        for (parameter, value) in definition.parameters.list.iter().zip(values) {
-            self.assign(body, parameter.name, *value, parameter.place)?;
+        for (parameter, supply) in definition.parameters.list.iter().zip(values) {
+            let value = match supply {
+                Supply::Given(value) => *value,
+                Supply::Default(constant) => self.constant(constant),
+            };
+            self.assign(body, parameter.name, value, parameter.place)?;
         }
         self.block(&definition.block, body)
     }
 }
 
+/// Where a parameter's value comes from. A default is met only once it is
+/// assigned, which a class declared meanwhile does not come to.
+enum Supply<'t> {
+    Given(Labelled),
+    Default(&'t Constant),
+}
+
 /// A value for each 33, in order: its 26's, or else its default. Refusals 11
 /// at the 26, 12 at the 33, 21 at the later 26, each the first by place.
-fn parameter_values(
-    definition: &Definition,
+fn parameter_values<'t>(
+    definition: &'t Definition,
     attributes: &Attributes,
     given: &[Labelled],
-) -> Result<Vec<Labelled>, Refusal> {
+) -> Result<Vec<Supply<'t>>, Refusal> {
     let parameters = &definition.parameters;
     let unknown = |attribute: &&Attribute| !parameters.contains(attribute.name);
     if let Some(attribute) = attributes.list.iter().find(unknown) {
@@ -437,8 +463,8 @@ fn parameter_values(
     for parameter in &parameters.list {
         let value = attributes
             .position(parameter.name)
-            .and_then(|at| given.get(at).copied());
-        let default = || parameter.default.map(|constant| constant.labelled());
+            .and_then(|at| given.get(at).copied().map(Supply::Given));
+        let default = || parameter.default.as_ref().map(Supply::Default);
         let value = value.or_else(default);
         values.push(value.ok_or(Reason::NoParameterValue.at(parameter.place))?);
     }
@@ -460,13 +486,18 @@ fn check_named_once(attributes: &Attributes) -> Result<(), Refusal> {
 /// default is chosen, every constant was tried. Gives what is chosen, if
 /// anything, and the set of the patterns tried, the matching one among them
 /// (reading 22).
-fn choose<'a, Chosen>(arms: &'a [Arm<Chosen>], value: &Value) -> (Option<&'a Chosen>, Labels) {
+fn choose<'a, Chosen>(
+    arms: &'a [Arm<Chosen>],
+    value: &Value,
+    watch: &impl Watch,
+) -> (Option<&'a Chosen>, Labels) {
     let mut tried = Labels::EMPTY;
     let mut default = None;
     for arm in arms {
         match &arm.pattern {
             Pattern::Default => default = default.or(Some(&arm.chosen)),
             Pattern::Constant(constant) => {
+                watch.constant(constant);
                 tried.join(Labels::one(constant.label));
                 if constant.value == *value {
                     return (Some(&arm.chosen), tried);
@@ -478,21 +509,35 @@ fn choose<'a, Chosen>(arms: &'a [Arm<Chosen>], value: &Value) -> (Option<&'a Cho
 }
 
 /// Expressions.
-impl Machine<'_, '_> {
+impl<W: Watch> Machine<'_, '_, W> {
     fn values(&self, attributes: &Attributes, scope: ScopeId) -> Result<Vec<Labelled>, Refusal> {
         attributes
             .list
             .iter()
-            .map(|attribute| self.evaluate(&attribute.value, scope))
+            .map(|attribute| {
+                self.watch.attribute(attribute.name);
+                self.evaluate(&attribute.value, scope)
+            })
             .collect()
+    }
+
+    fn constant(&self, constant: &Constant) -> Labelled {
+        self.watch.constant(constant);
+        constant.labelled()
     }
 
     fn evaluate(&self, expression: &Expression, scope: ScopeId) -> Result<Labelled, Refusal> {
         let place = expression.place;
         match &expression.form {
-            Form::Constant(constant) => Ok(constant.labelled()),
-            Form::Variable(name) => self.scopes.read(scope, *name).ok_or(Reason::NoValue.at(place)),
-            Form::TopVariable(name) => self.scopes.read_only(TOP, *name).ok_or(Reason::NoValue.at(place)),
+            Form::Constant(constant) => Ok(self.constant(constant)),
+            Form::Variable(name) => self
+                .scopes
+                .read(scope, *name, self.watch)
+                .ok_or(Reason::NoValue.at(place)),
+            Form::TopVariable(name) => self
+                .scopes
+                .read_only(TOP, *name, self.watch)
+                .ok_or(Reason::NoValue.at(place)),
             Form::ClassVariable { class, name } => self.class_variable(*class, *name, place),
             Form::Binary {
                 operator,
@@ -510,7 +555,7 @@ impl Machine<'_, '_> {
             } => self.attribute_read(*kind, *attribute, title, scope, place),
             Form::Selector { scrutinee, arms } => {
                 let tested = self.evaluate(scrutinee, scope)?;
-                let (chosen, tried) = choose(arms, &tested.value);
+                let (chosen, tried) = choose(arms, &tested.value, self.watch);
                 let chosen = chosen.ok_or(Reason::NoMatch.at(place))?;
                 Ok(self.evaluate(chosen, scope)?.with(tested.labels).with(tried))
             }
@@ -522,7 +567,7 @@ impl Machine<'_, '_> {
     fn class_variable(&self, class: Name, name: Name, place: Place) -> Result<Labelled, Refusal> {
         self.find(class, Sort::Class, place)?;
         self.declared(class)
-            .and_then(|scope| self.scopes.read_only(scope, name))
+            .and_then(|scope| self.scopes.read_only(scope, name, self.watch))
             .ok_or(Reason::NoValue.at(place))
     }
 

@@ -1,9 +1,9 @@
 //! The program made apart: device catalogs from a manifest, with label sets.
 //!
 //! It implements the scope paper (document 01), what is asked first in document
-//! 02 (default goes last, manifests as people write them) and our readings of
-//! both, and shares nothing with the compiler it is compared with. Plain Rust, edition 2021, the standard
-//! library only.
+//! 02 (default goes last, manifests as people write them, why a line counts) and
+//! our readings of both, and shares nothing with the compiler it is compared
+//! with. Plain Rust, edition 2021, the standard library only.
 //!
 //! Building, either way:
 //!
@@ -41,6 +41,13 @@
 //! reference text-named NAME         a special text or manifest as a text case
 //! reference text-named --list       the names of those
 //! reference time-text [NAME]        nanoseconds for one convert or print of one, or of each
+//!
+//! reference why-batch < cases       a why case to a line in; an answer to a line out
+//! reference why-generate SEED COUNT    random why cases
+//! reference why-histogram SEED COUNT   how often each answer occurs among them, and when
+//! reference why-named NAME          a special question as a why case
+//! reference why-named --list        the names of those
+//! reference time-why [NAME]         nanoseconds for one question of those, or of each
 //! ```
 //!
 //! A case is a line of five parts with single spaces between them: device,
@@ -53,13 +60,19 @@
 //! is what was written, or `refused NUMBER PLACE`. The calls `convert` and
 //! `print` say `refused NUMBER at PLACE` on standard error and exit with 1.
 //!
-//! The modules, from the bottom: `answer` (answers, the 23 reasons), `labels`,
-//! `tree` (the fields once read), `reader` (refusals 3, 4 and 5), `scopes`,
-//! `catalog`, `machine` (how a manifest runs), `compile` (the call), `schedule`
-//! (the printer). For tests and random cases: `assemble` (manifests from nested
-//! fields), `random`, `program`, `shapes`, `generate`, `special` (named inputs),
-//! `case` (batch lines), `default_last` (which cases tell that a default is
-//! tried last), `modes` (what the arguments ask for).
+//! A why case is a line of eight parts: `why`, device, type, title, attribute,
+//! label, memory length, manifest. Its answer is `among PART PLACE`, where PART
+//! is 1 title expression, 2 path, 3 trail, 4 marks its expression read, 5 value;
+//! `not among`; or `refused NUMBER PLACE`.
+//!
+//! The modules, from the bottom: `answer` (answers, the 23 reasons and 27),
+//! `labels`, `tree` (the fields once read), `reader` (refusals 3, 4 and 5),
+//! `catalog`, `watch` (who looks on), `scopes`, `machine` (how a manifest runs),
+//! `compile` (the call), `schedule` (the printer). For tests and random cases:
+//! `assemble` (manifests from nested fields), `random`, `program`, `shapes`,
+//! `generate`, `special` (named inputs), `case` (batch lines), `default_last`
+//! (which cases tell that a default is tried last), `modes` (what the arguments
+//! ask for).
 //!
 //! The text notation: `text_answer` (answers, refusals 24 to 26), `lexer`
 //! (tokens), `converter`, `walk` (a manifest's fields by offset), `printer`. For
@@ -67,6 +80,11 @@
 //! (texts near limits), `text_trees` (manifests to print), `text_generate`,
 //! `text_named` (named inputs), `text_trips` (there and back), `text_case`
 //! (lines), `text_modes`.
+//!
+//! Questions: `why` (the call). For tests and random cases: `why_shapes`
+//! (manifests to ask about), `why_generate`, `why_tally` (what the answers
+//! show), `why_named`, `why_places`, `why_large` (named questions: parts and
+//! refusals, places, large ones), `why_case` (lines), `why_modes`.
 
 mod answer;
 mod assemble;
@@ -99,6 +117,16 @@ mod text_trees;
 mod text_trips;
 mod tree;
 mod walk;
+mod watch;
+mod why;
+mod why_case;
+mod why_generate;
+mod why_large;
+mod why_modes;
+mod why_named;
+mod why_places;
+mod why_shapes;
+mod why_tally;
 
 #[cfg(test)]
 mod tests;

@@ -11,6 +11,7 @@ use crate::schedule::schedule;
 use crate::special::{named, NAMED};
 use crate::text_case::Call;
 use crate::text_modes;
+use crate::why_modes;
 use std::io::{self, BufRead, BufWriter, Read, Write};
 use std::time::{Duration, Instant};
 
@@ -19,7 +20,9 @@ const USAGE: &str = "use: reference schedule | batch | default-last | generate S
                      time-named [NAME] | convert | print | text-batch | \
                      text-generate SEED COUNT | text-histogram SEED COUNT | \
                      round-trip SEED COUNT | text-named NAME | text-named --list | \
-                     time-text [NAME]";
+                     time-text [NAME] | why-batch | why-generate SEED COUNT | \
+                     why-histogram SEED COUNT | why-named NAME | why-named --list | \
+                     time-why [NAME]";
 
 pub fn run(arguments: &[String]) -> Result<(), String> {
     let words: Vec<&str> = arguments.iter().map(String::as_str).collect();
@@ -44,6 +47,13 @@ pub fn run(arguments: &[String]) -> Result<(), String> {
         ["text-named", name] => return text_modes::print_named(name),
         ["time-text"] => return text_modes::time_all(),
         ["time-text", name] => return text_modes::time(name),
+        ["why-batch"] => return why_modes::batch(),
+        ["why-generate", seed, count] => why_modes::generate(number(seed)?, number(count)?),
+        ["why-histogram", seed, count] => why_modes::histogram(number(seed)?, number(count)?),
+        ["why-named", "--list"] => why_modes::list_names(),
+        ["why-named", name] => return why_modes::print_named(name),
+        ["time-why"] => return why_modes::time_all(),
+        ["time-why", name] => return why_modes::time(name),
         _ => return Err(USAGE.to_string()),
     };
     done.map_err(broken)

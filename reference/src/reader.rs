@@ -480,7 +480,11 @@ impl<'m> Reader<'m> {
                 _ => return Err(Reason::Field.at(field.place)),
             },
         };
-        Ok(Constant { label, value })
+        Ok(Constant {
+            place: field.place,
+            label,
+            value,
+        })
     }
 }
 

@@ -3,6 +3,7 @@
 use crate::answer::Reason;
 use crate::labels::Labels;
 use crate::tree::{Labelled, Name};
+use crate::watch::Watch;
 use std::collections::BTreeMap;
 
 /// "At most 512 exist."
@@ -90,7 +91,7 @@ impl Scopes {
 
     /// "A plain read tries its scope, then the parents upward"; "A read's set is
     /// the stored set and the marks of every scope tried".
-    pub fn read(&self, scope: ScopeId, name: Name) -> Option<Labelled> {
+    pub fn read(&self, scope: ScopeId, name: Name, watch: &impl Watch) -> Option<Labelled> {
         let mut marks = Labels::EMPTY;
         let mut tried = Some(scope);
         while let Some(id) = tried {
@@ -98,6 +99,7 @@ impl Scopes {
             if let Some(cell) = scope.cells.get(&name) {
                 marks.join(cell.mark);
                 if let Some(stored) = cell.value {
+                    watch.read(marks);
                     return Some(stored.with(marks));
                 }
             }
@@ -107,8 +109,9 @@ impl Scopes {
     }
 
     /// A read that tries one scope only: "14 tries top only, 15 the class only".
-    pub fn read_only(&self, scope: ScopeId, name: Name) -> Option<Labelled> {
+    pub fn read_only(&self, scope: ScopeId, name: Name, watch: &impl Watch) -> Option<Labelled> {
         let cell = self.all[scope.0].cells.get(&name)?;
+        watch.read(cell.mark);
         cell.value.map(|stored| stored.with(cell.mark))
     }
 

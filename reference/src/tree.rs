@@ -36,6 +36,7 @@ impl Labelled {
 /// 10, 11 and 12.
 #[derive(Clone, Copy, Debug)]
 pub struct Constant {
+    pub place: Place,
     pub label: u8,
     pub value: Value,
 }

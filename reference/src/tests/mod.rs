@@ -11,6 +11,7 @@ mod lent;
 mod order;
 mod papers_cases;
 mod text;
+mod why;
 
 use crate::answer::Answer;
 use crate::assemble::*;
