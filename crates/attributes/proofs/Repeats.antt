@@ -18,7 +18,7 @@ use Rattle.rules.specs.Evaluate.{any}
 use Rattle.rules.specs.Run.{Given, isGiven, namedOnce}
 use Rattle.catalog.specs.declared.Place.{Place}
 use Rattle.catalog.specs.declared.Place.the-variants.{At, Nothing}
-use Rattle.attributes.specs.Names.{hasName, nameFrom, repeatedIn, isMarked, Marked, Marks, Unmarked, Alike, alikeNone, alike}
+use Rattle.attributes.specs.Names.{hasName, namedIn, nameFrom, repeatedIn, isMarked, Marked, Marks, Unmarked, Alike, alikeNone, alike}
 
 -- ---- The ways of `is_named` and `has_name_from`: what is left from q on says what all of them say
 
@@ -36,6 +36,23 @@ module _ (m : List ℕ) (first end q : ℕ) (f : ℕ → Bool) (left : any f (fi
   pub any-nowhere : end ≤ q → false ≡ any f (fieldsIn m first end)
   unfolding any
   any-nowhere over = ap (any f) (sym (no-fields m q end over)) ∙ left
+
+-- ---- The ways of `find_named`, likewise
+
+module _ (m : List ℕ) (first end q name : ℕ) (left : namedIn m name (fieldsIn m q end) ≡ namedIn m name (fieldsIn m first end)) where
+  named-next : {b : Bool} → q < end → hasName m name q ≡ b → pick b (At q) (namedIn m name (fieldsIn m (endOf m q) end)) ≡ namedIn m name (fieldsIn m first end)
+  unfolding namedIn
+  named-next more is = ap (λ (x : Bool). pick x (At q) (namedIn m name (fieldsIn m (endOf m q) end))) (sym is) ∙ ap (namedIn m name) (sym (field-first m q end more)) ∙ left
+
+  pub named-found : q < end → hasName m name q ≡ true → At q ≡ namedIn m name (fieldsIn m first end)
+  named-found more is = named-next more is
+
+  pub named-further : {r : ℕ} → q < end → hasName m name q ≡ false → r ≡ endOf m q → namedIn m name (fieldsIn m r end) ≡ namedIn m name (fieldsIn m first end)
+  named-further more is next = ap (λ (p : ℕ). namedIn m name (fieldsIn m p end)) next ∙ named-next more is
+
+  pub named-nowhere : end ≤ q → Nothing ≡ namedIn m name (fieldsIn m first end)
+  unfolding namedIn
+  named-nowhere over = ap (namedIn m name) (sym (no-fields m q end over)) ∙ left
 
 module _ (m : List ℕ) (limit q : ℕ) {n : ℕ} (read : n ≡ two m (q + 3)) where
   pub name-past : limit ≤ n → nameFrom m limit q ≡ true

@@ -15,6 +15,11 @@ use Rattle.catalog.specs.declared.Place.the-variants.{At, Nothing}
 abbrev pub hasName : List ℕ → (n q : ℕ) → Bool
 hasName m n q = eqb (two m (q + 3)) n
 
+-- the first of the places whose 26 has the name n
+unfoldable pub namedIn : List ℕ → (n : ℕ) → (places : List ℕ) → Place
+namedIn m n [] = Nothing
+namedIn m n (q ∷ qs) = pick (hasName m n q) (At q) (namedIn m n qs)
+
 -- the 26 at q has a name of `limit` or more
 abbrev pub nameFrom : List ℕ → (limit q : ℕ) → Bool
 nameFrom m limit q = leb limit (two m (q + 3))

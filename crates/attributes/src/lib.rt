@@ -12,7 +12,7 @@ ghost use Rattle.places.specs.At.{StandsAs, Siblings};
 ghost use Rattle.records.specs.Record.{heldOf};
 ghost use Rattle.catalog.specs.Finding.{Below};
 ghost use Rattle.evaluator.specs.Known.{Sized};
-ghost use Rattle.attributes.specs.Names.{hasName, nameFrom, repeatedIn, Marked, Marks, Unmarked};
+ghost use Rattle.attributes.specs.Names.{hasName, namedIn, nameFrom, repeatedIn, Marked, Marks, Unmarked};
 ghost use Rattle.attributes.specs.Table.{HasRow, givenAt, Adds, Fresh};
 ghost use Rattle.attributes.specs.Evaluated.{GivenIn, TitledIn};
 use evaluator::Evaluated;
@@ -49,6 +49,21 @@ pub fn is_named(m: &[u8], first: usize, end: usize, name: u16) -> bool
         q = wire::end_of(m, q);
     }
     false
+}
+
+// The first of the attributes between two places that has this name.
+pub fn find_named(m: &[u8], first: usize, end: usize, name: u16) -> catalog::Place
+    requires { ⌜ end ≤ 65535 ⌝ }
+    ensures { λ r. ⌜ (r ≡ namedIn (now (m .entry)) name (fieldsIn (now (m .entry)) first end)) × Below end r ⌝ }
+{
+    let mut q = first;
+    while q < end {
+        if wire::two_at(m, q + 3) == name {
+            return catalog::Place::At(q);
+        }
+        q = wire::end_of(m, q);
+    }
+    catalog::Place::Nothing
 }
 
 // Whether one of the attributes between two places has a name of `limit` or more.

@@ -43,6 +43,7 @@ unfolding entryBytes entryBody
 entry-is e = refl
 
 pub entry-length : (e : Entry) → length (entryBytes e) ≡ entryAttributes + length (attributesBytes (e .attributes))
+unfolding entryBytes
 entry-length e = entry-size (entryAttributes + length (attributesBytes (e .attributes))) (e .type) (e .title) (e .labels) (e .attributes) refl
 
 module _ (m : List ℕ) {p : ℕ} (e : Entry) (stands : Stands m p (entryBytes e)) where

@@ -9,7 +9,7 @@ use Rattle.values.specs.declared.Labelled.{Labelled}
 use Rattle.wire.specs.Bytes.{pick}
 use Rattle.wire.specs.Runs.{over, zeros}
 use Rattle.rules.specs.State.{Attribute, Entry}
-use Rattle.rules.specs.Catalog.{attributeBytes, attributesBytes, entryBytes}
+use Rattle.rules.specs.Catalog.{attributeBytes, attributesBytes, entryBytes, noParts}
 use Rattle.catalog.specs.Layout.{entryAttributes}
 use Rattle.catalog.specs.declared.Finished.{Finished}
 use Rattle.catalog.specs.declared.Finished.the-variants.{Fits, TooLong}
@@ -21,8 +21,9 @@ pub data Stored (A : Type 0) : Type 0 where
 abbrev pub attribute : (name : ℕ) → Labelled → Attribute
 attribute n x = record { name = n; content = x }
 
+-- as its bytes show it
 abbrev pub entry : (type title : ℕ) → Labels → List Attribute → Entry
-entry t m k ats = record { type = t; title = m; labels = k; attributes = ats }
+entry t m k ats = record { type = t; title = m; labels = k; attributes = ats; parts = λ n. noParts }
 
 -- one more attribute after `size` bytes: it is stored if it fits wholly, and the new size is told either way
 unfoldable pub addAttribute : (rest : List ℕ) → (size : ℕ) → Attribute → Stored ℕ

@@ -44,7 +44,7 @@ pub const LINK_SIZE: usize = 2;
 // The number of a slot that may never have been used: 2 bytes, believed only where the states bear it out.
 pub const HINT: usize = 52768;
 
-// Fifteen words of 2 bytes, each one more than a number, or 0 for none. The first is for the string "title"; nothing uses the others yet.
+// Fifteen words of 2 bytes. The first is one more than the number of the string "title", or 0 for none; the crate `memory` says what the others are.
 pub const WORDS: usize = 52770;
 
 pub const TITLE: usize = WORDS;

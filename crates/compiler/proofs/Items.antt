@@ -1,5 +1,5 @@
 -- One law for each way through `define`, `is_chosen`, `run_item`, `run_items` and `run_manifest`. Assumes nothing.
-use Prim.Native.Nat.{ℕ, _+_, _-_, _<_, _≤_}
+use Prim.Native.Nat.{ℕ, _+_, _-_, _%_, _<_, _≤_}
 use mathlib.Core.Path.{_≡_, refl, sym, ap, _∙_}
 use mathlib.Core.Logic.{_⊎_, inl, inr}
 use mathlib.Core.Bool.{Bool, true, false, not}
@@ -16,7 +16,7 @@ use Rattle.wire.specs.Bytes.{byte, two, endOf, fieldsIn}
 use Rattle.rules.specs.Format.{allowed}
 use Rattle.rules.specs.Check.{stringPlaces, check}
 use Rattle.rules.specs.Outcome.{Outcome, refused, done, _>>=_, refuseIf}
-use Rattle.rules.specs.Tree.{Definition, end, next, Item, node, definition, Statement}
+use Rattle.rules.specs.Tree.{Definition, end, next, Item, node, definition, Statement, Constant}
 use Rattle.rules.specs.State.{Entry, State, Context, Known, takeStep}
 use Rattle.rules.specs.Run.{statementPlace, run, runBlock, declaration, runAtTop, topContext, nodeContext, definedName, definedPlace, isTaken, withDefinition, runItems}
 use Rattle.rules.specs.Fields.{readEach, readField}
@@ -37,7 +37,11 @@ use Rattle.syntax.proofs.NodesRead.{items-for}
 use Rattle.syntax.proofs.NamesKnown.{known-after, items-known}
 use Rattle.wire.proofs.Fields.{no-fields, field-first}
 use Rattle.cells.specs.Memory.{stateOf}
+use Rattle.memory.specs.Words.{askedType, askedTitle, askedName, askedLabel, noteWord}
 use Rattle.memory.proofs.Titles.{title-kept}
+use Rattle.memory.proofs.Words.{words-kept}
+use Rattle.provenance.specs.Notes.{Question, nothingAsked, askedOf, noteFor, Noted}
+use Rattle.provenance.proofs.Notes.{noted-same}
 use Rattle.catalog.specs.Finding.{Written}
 use Rattle.catalog_index.proofs.Keeping.{index-kept, index-none}
 use Rattle.evaluator.specs.Known.{KnownIn}
@@ -46,7 +50,7 @@ use Rattle.resources.specs.declared.Filled.{Filled}
 use Rattle.resources.specs.declared.Filled.the-variants.{Done, Refused}
 use Rattle.declarations.specs.Standing.{NamesKnown}
 use Rattle.execution.specs.Executed.{Able, Stage, stateWith, Ends, refusedSo as endsRefused, doneSo as endsDone, AbleAfter, Executes, begun}
-use Rattle.definitions.specs.Prepared.{Prepares, NodeBlock}
+use Rattle.definitions.specs.Prepared.{Prepares, Blank, NodeBlock}
 use Rattle.definitions.specs.Defined.{ItemStands, IsDefinition, Defines}
 use Rattle.definitions.proofs.Definitions.{definition-there}
 use Rattle.compiler.specs.Running.{chosenOf, isChosen, DefinedSo, takenSo, knownSo, runPlaces, ItemsEnd, refusedSo, goesOn, RunsTo, RunEnds, RunsManifest}
@@ -100,13 +104,13 @@ statement-kind t e a b c = rw (ne-eqb t 0x30 a, ne-eqb t 0x32 b, ne-eqb t 0x34 c
 
 -- ---- What comes after an item
 
-module _ {m w out : List ℕ} {left : ℕ} {c : Option ℕ} {ps : List ℕ} {k : Known} {o : Outcome State} where
-  then-items : {a : Filled} → Ends m w out left k o a → ItemsEnd m w out left c ps (o >>= λ st. runPlaces m c ps k st) a
+module _ {m w out : List ℕ} {left : ℕ} {c : Option ℕ} {ps : List ℕ} {k : Known} {ask : Question} {o : Outcome State} where
+  then-items : {a : Filled} → Ends m w out left k ask o a → ItemsEnd m w out left c ps ask (o >>= λ st. runPlaces m c ps k st) a
   unfolding _>>=_
   then-items (endsRefused e) = refusedSo (ap (λ (x : Outcome State). x >>= λ st. runPlaces m c ps k st) e)
   then-items (endsDone es e s) = goesOn k es (ap (λ (x : Outcome State). x >>= λ st. runPlaces m c ps k st) e) s
 
-items-same : {m w out : List ℕ} {left : ℕ} {c : Option ℕ} {ps : List ℕ} {o o′ : Outcome State} {a : Filled} → o ≡ o′ → ItemsEnd m w out left c ps o′ a → ItemsEnd m w out left c ps o a
+items-same : {m w out : List ℕ} {left : ℕ} {c : Option ℕ} {ps : List ℕ} {ask : Question} {o o′ : Outcome State} {a : Filled} → o ≡ o′ → ItemsEnd m w out left c ps ask o′ a → ItemsEnd m w out left c ps ask o a
 items-same e i = rw e i
 
 -- ---- run_item
@@ -148,7 +152,7 @@ module _ (m : List ℕ) (p : ℕ) (c : Option ℕ) (w out : List ℕ) (fill left
   passes-over e told h ps = record {
     able = able;
     steps = omega arith;
-    says = λ k es i. goesOn k es (passed-over m p c ps k (stateWith w out fill left es) (node-runs m p c (sym read ∙ e) ∙ sym told ∙ not-true _ h)) i;
+    says = λ k ask es i. goesOn k es (passed-over m p c ps k (stateWith w out fill left es) (node-runs m p c (sym read ∙ e) ∙ sym told ∙ not-true _ h)) i;
   }
 
   pub runs-node : (w′ out′ : List ℕ) {left′ block : ℕ} {b : Bool} {a : Filled} → t ≡ 0x30 → b ≡ isChosen c p → not b ≡ false → NodeBlock m p block → Executes m w w′ out out′ fill left left′ nodeContext a (λ k. runBlock k (declaration k 17) (blockAt m 31 block)) → (ps : List ℕ) → RunsTo m w w′ out out′ fill left left′ c (p ∷ ps) ps a
@@ -156,7 +160,7 @@ module _ (m : List ℕ) (p : ℕ) (c : Option ℕ) (w out : List ℕ) (fill left
   runs-node w′ out′ e told h n x ps = record {
     able = x .able;
     steps = x .steps;
-    says = λ k es i. items-same (runs-here m p c ps k (stateWith w out fill left es) (node-runs m p c (sym read ∙ e) ∙ sym told ∙ not-false _ h) (n .tree)) (then-items (x .says k es i));
+    says = λ k ask es i. items-same (runs-here m p c ps k (stateWith w out fill left es) (node-runs m p c (sym read ∙ e) ∙ sym told ∙ not-false _ h) (n .tree)) (then-items (x .says k ask es i));
   }
 
   pub runs-statement : (w′ out′ : List ℕ) {left′ : ℕ} {a : Filled} → (t ≡ 0x30 → ⊥) → ((t ≡ 0x32) ⊎ (t ≡ 0x34) → ⊥) → Executes m w w′ out out′ fill left left′ topContext a (begun 17 p (statementAt m 32 p)) → (ps : List ℕ) → RunsTo m w w′ out out′ fill left left′ c (p ∷ ps) ps a
@@ -164,11 +168,11 @@ module _ (m : List ℕ) (p : ℕ) (c : Option ℕ) (w out : List ℕ) (fill left
   runs-statement w′ out′ x y e ps = record {
     able = e .able;
     steps = e .steps;
-    says = λ k es i.
+    says = λ k ask es i.
         let st : State = stateWith w out fill left es in
         let here = runs-here m p c ps k st (other-runs m p c (λ h. x (read ∙ h))) (statement-item (stands-statement m p s read x y)) in
         let itself = alone k (statementAt m 32 p) p topContext st (statement-place m 32 p) in
-        items-same (here ∙ ap (λ (o : Outcome State). o >>= λ st′. runPlaces m c ps k st′) itself) (then-items (e .says k es i));
+        items-same (here ∙ ap (λ (o : Outcome State). o >>= λ st′. runPlaces m c ps k st′) itself) (then-items (e .says k ask es i));
   }
 
 -- a definition
@@ -187,10 +191,11 @@ module _ (m : List ℕ) (p : ℕ) (c : Option ℕ) (w out : List ℕ) (fill left
   not-node (inr e) h = let z : _≡_ {A = ℕ} 0x34 0x30 = sym e ∙ h in omega arith
 
   -- the stage after a definition
-  stage-after : (w′ : List ℕ) (k : Known) (es : List Entry) (d : Definition) → Defines m p w w′ → itemAt m p ≡ definition d → isTaken k (definedName d) ≡ false → Stage m w out fill k es → Stage m w′ out fill (withDefinition d k) es
-  stage-after w′ k es d x tree free i = record {
+  stage-after : (w′ : List ℕ) (k : Known) (ask : Question) (es : List Entry) (d : Definition) → Defines m p w w′ → itemAt m p ≡ definition d → isTaken k (definedName d) ≡ false → Stage m w out fill k ask es → Stage m w′ out fill (withDefinition d k) ask es
+  stage-after w′ k ask es d x tree free i = record {
     ready = record { catalog = i .ready .catalog; index = index-kept w w′ (onto es []) (x .rest) (i .ready .index); unique = i .ready .unique; known = x .known k d tree free (i .ready .known) };
     title = unfold withDefinition in title-kept w w′ (x .rest) ∙ i .title;
+    noted = noted-same (λ j l. words-kept w w′ (x .rest) j) (i .noted);
   }
 
   pub runs-definition : (w′ : List ℕ) {a : Filled} → (t ≡ 0x32) ⊎ (t ≡ 0x34) → DefinedSo m p w w′ fill a → (ps : List ℕ) → RunsTo m w w′ out out fill left left c (p ∷ ps) ps a
@@ -202,7 +207,7 @@ module _ (m : List ℕ) (p : ℕ) (c : Option ℕ) (w out : List ℕ) (fill left
       record {
         able = tt;
         steps = omega arith;
-        says = λ k es stage.
+        says = λ k ask es stage.
             let st : State = stateWith w out fill left es in
             let name = ap (isTaken k) (d .name) ∙ taken k (stage .ready .known) in
             refusedSo (runs-here m p c ps k st runs (d .tree) ∙ name-taken k (d .read) (itemsAt m (running m c ps)) st name ∙ ap (λ (q : ℕ). refused DefinedAgain q) (d .place));
@@ -214,13 +219,13 @@ module _ (m : List ℕ) (p : ℕ) (c : Option ℕ) (w out : List ℕ) (fill left
       record {
         able = record { set = x .set; fine = x .fine (able .fine); filled = able .filled };
         steps = omega arith;
-        says = λ k es stage.
+        says = λ k ask es stage.
             let st : State = stateWith w out fill left es in
             let name = ap (isTaken k) (d .name) ∙ free k (stage .ready .known) in
             let same : stateWith w′ out fill left es ≡ st = x .state es left (roomIn (length out) - fill) in
             goesOn (withDefinition (d .read) k) es
             (runs-here m p c ps k st runs (d .tree) ∙ name-free k (d .read) (itemsAt m (running m c ps)) st name ∙ ap (runItems (withDefinition (d .read) k) (itemsAt m (running m c ps))) (sym same))
-            (stage-after w′ k es (d .read) x (d .tree) name stage);
+            (stage-after w′ k ask es (d .read) x (d .tree) name stage);
       }
 
 -- ---- run_items
@@ -228,10 +233,10 @@ module _ (m : List ℕ) (p : ℕ) (c : Option ℕ) (w out : List ℕ) (fill left
 module _ {m w₀ w w′ out₀ out out′ : List ℕ} {f₀ l₀ f l l′ : ℕ} {c : Option ℕ} {before between after : List ℕ} where
   -- one run after the other
   and-then : {a : Filled} → RunsTo m w₀ w out₀ out f₀ l₀ l c before between (Done f) → RunsTo m w w′ out out′ f l l′ c between after a → RunsTo m w₀ w′ out₀ out′ f₀ l₀ l′ c before after a
-  and-then {a} x y = record { able = y .able; steps = let i = x .steps in let j = y .steps in omega arith; says = λ k es i. go (x .says k es i) }
+  and-then {a} x y = record { able = y .able; steps = let i = x .steps in let j = y .steps in omega arith; says = λ k ask es i. go (x .says k ask es i) }
     where
-      go : {o : Outcome State} → ItemsEnd m w out l c between o (Done f) → ItemsEnd m w′ out′ l′ c after o a
-      go (goesOn k es e i) = items-same e (y .says k es i)
+      go : {ask : Question} {o : Outcome State} → ItemsEnd m w out l c between ask o (Done f) → ItemsEnd m w′ out′ l′ c after ask o a
+      go (goesOn k es e i) = items-same e (y .says k _ es i)
 
 -- up to the item at p all have run
 pub record Along (m w₀ w out₀ out : List ℕ) (l₀ l f : ℕ) (c : Option ℕ) (p : ℕ) : Type 0 where
@@ -250,7 +255,7 @@ items-begin m w out left c able sound e = rw e (record {
   items = manifest-opens m sound .each;
   names = items-known m sound;
   after = omega arith;
-  runs = record { able = able; steps = omega arith; says = λ k es i. goesOn k es refl i };
+  runs = record { able = able; steps = omega arith; says = λ k ask es i. goesOn k es refl i };
 })
 
 module _ {m w₀ w out₀ out : List ℕ} {l₀ l f : ℕ} {c : Option ℕ} {p : ℕ} (so : Along m w₀ w out₀ out l₀ l f c p) where
@@ -279,9 +284,9 @@ module _ {m w₀ w out₀ out : List ℕ} {l₀ l f : ℕ} {c : Option ℕ} {p :
 
     pub items-refuse : {why : Refusal} → a ≡ Refused why → RunsTo m w₀ w′ out₀ out′ 0 l₀ l′ c (itemPlaces m) [] a
     unfolding AbleAfter
-    items-refuse {why} told = rw told (record { able = tt; steps = this-one .steps; says = λ k es i. go (rw told at (this-one .says k es i)) })
+    items-refuse {why} told = rw told (record { able = tt; steps = this-one .steps; says = λ k ask es i. go (rw told at (this-one .says k ask es i)) })
       where
-        go : {o : Outcome State} → ItemsEnd m w′ out′ l′ c (fieldsIn m (endOf m p) (length m)) o (Refused why) → ItemsEnd m w′ out′ l′ c [] o (Refused why)
+        go : {ask : Question} {o : Outcome State} → ItemsEnd m w′ out′ l′ c (fieldsIn m (endOf m p) (length m)) ask o (Refused why) → ItemsEnd m w′ out′ l′ c [] ask o (Refused why)
         go (refusedSo e) = refusedSo e
 
   pub items-done : length m ≤ p → RunsTo m w₀ w out₀ out 0 l₀ l c (itemPlaces m) [] (Done f)
@@ -312,25 +317,42 @@ state-written : (w out : List ℕ) (f left : ℕ) (es : List Entry) → Written 
 unfolding stateOf entriesInOrder
 state-written w out f left es h = h
 
-pub prepared-able : {m w out : List ℕ} → Prepares m w → Able m w out 0
-prepared-able p = record { set = p .set; fine = p .fine; filled = omega arith }
+note-left : (w out : List ℕ) (f left : ℕ) (es : List Entry) (ask : Question) {n : ℕ} → n ≡ noteFor ask es → n ≡ noteFor ask (stateWith w out f left es .entries)
+unfolding stateOf
+note-left w out f left es ask e = e
 
-module _ (m device w out : List ℕ) (left : ℕ) (sound : check m ≡ Sound) (ready : Prepares m w) where
-  first-stage : Stage m w out 0 (knownFirst (manifestOf m .strings)) []
-  first-stage = record { ready = ready-first m w out (ready .known) (index-none w (ready .index)); title = ready .title }
+-- nothing is asked about in a memory whose words are 0
+pub blank-noted : {w : List ℕ} → Blank w → Noted w nothingAsked []
+unfolding askedOf nothingAsked noteFor
+blank-noted b = record {
+  asked = λ i. record {
+    type = b .words askedType (omega arith) (omega arith) i;
+    title = b .words askedTitle (omega arith) (omega arith) i;
+    name = b .words askedName (omega arith) (omega arith) i;
+    label = b .words askedLabel (omega arith) (omega arith) i % 256;
+  };
+  note = b .words noteWord (omega arith) (omega arith);
+}
+
+pub prepared-able : {m w out : List ℕ} (s : Constant → Bool) → Prepares m w s → Able m w out 0
+prepared-able s p = record { set = p .set; fine = p .fine; filled = omega arith }
+
+module _ (m device w out : List ℕ) (left : ℕ) (sound : check m ≡ Sound) (s : Constant → Bool) (ask : Question) (ready : Prepares m w s) (noted : Noted w ask []) where
+  first-stage : Stage m w out 0 (knownFirst s (manifestOf m .strings)) ask []
+  first-stage = record { ready = ready-first m w out (ready .known) (index-none w (ready .index)); title = ready .title; noted = noted }
 
   first-state : stateWith w out 0 left [] ≡ start left (length out)
   first-state = let all : roomIn (length out) - 0 ≡ roomIn (length out) = omega arith in ap (stateOf w [] left) all ∙ ready .state left (length out)
 
-  whole-run : {n : Found} → n ≡ foundOf (nodeFor m device) → runManifest (manifestOf m) device left (length out) ≡ runPlaces m (chosenOf n) (itemPlaces m) (knownFirst (manifestOf m .strings)) (stateWith w out 0 left [])
+  whole-run : {n : Found} → n ≡ foundOf (nodeFor m device) → runManifest s (manifestOf m) device left (length out) ≡ runPlaces m (chosenOf n) (itemPlaces m) (knownFirst s (manifestOf m .strings)) (stateWith w out 0 left [])
   unfolding runManifest runPlaces
   whole-run e = rw (items-for m device sound, items-read m (running m (nodeFor m device) (itemPlaces m)), e, chosen-found (nodeFor m device), first-state) refl
 
-  pub manifest-runs : (w′ out′ : List ℕ) {left′ : ℕ} {n : Found} {a : Filled} → n ≡ foundOf (nodeFor m device) → RunsTo m w w′ out out′ 0 left left′ (chosenOf n) (itemPlaces m) [] a → RunsManifest m device out out′ left left′ a
-  manifest-runs w′ out′ {left′} {n} e x = record { steps = x .steps; ends = go (x .able) (whole-run e) (x .says (knownFirst (manifestOf m .strings)) [] first-stage) }
+  pub manifest-runs : (w′ out′ : List ℕ) {left′ : ℕ} {n : Found} {a : Filled} → n ≡ foundOf (nodeFor m device) → RunsTo m w w′ out out′ 0 left left′ (chosenOf n) (itemPlaces m) [] a → RunsManifest s ask m device w′ out out′ left left′ a
+  manifest-runs w′ out′ {left′} {n} e x = record { steps = x .steps; ends = go (x .able) (whole-run e) (x .says (knownFirst s (manifestOf m .strings)) ask [] first-stage) }
     where
-      go : {a : Filled} {o o′ : Outcome State} → AbleAfter m w′ out′ a → o′ ≡ o → ItemsEnd m w′ out′ left′ (chosenOf n) [] o a → RunEnds out′ left′ o′ a
+      go : {a : Filled} {o o′ : Outcome State} → AbleAfter m w′ out′ a → o′ ≡ o → ItemsEnd m w′ out′ left′ (chosenOf n) [] ask o a → RunEnds w′ out′ left′ ask o′ a
       go able same (refusedSo h) = specs.refusedSo (same ∙ h)
       go able same (goesOn {f = f} k es h i) =
           let st : State = stateWith w′ out′ f left′ es in
-          specs.doneSo st (same ∙ h ∙ none-left m (chosenOf n) k st) (state-steps w′ out′ f left′ es) (state-written w′ out′ f left′ es (i .ready .catalog)) (unfold AbleAfter in able .filled)
+          specs.doneSo st (same ∙ h ∙ none-left m (chosenOf n) k st) (state-steps w′ out′ f left′ es) (state-written w′ out′ f left′ es (i .ready .catalog)) (unfold AbleAfter in able .filled) (note-left w′ out′ f left′ es ask (i .noted .note))

@@ -16,7 +16,7 @@ use Rattle.rules.specs.Outcome.{Outcome, refused, done, _>>=_, refuseIf}
 use Rattle.rules.specs.State.{State}
 use Rattle.rules.specs.Read.{manifestOf}
 use Rattle.rules.specs.Catalog.{catalogBytes}
-use Rattle.rules.specs.Compile.{roomIn, runManifest, checked, finalState, entriesInOrder, Compiled, compiledFrom, compiled, answerOf, outputOf, memoryOf, compile}
+use Rattle.rules.specs.Compile.{noneStruckOut, roomIn, runManifest, checked, finalState, entriesInOrder, Compiled, compiledFrom, compiled, answerOf, outputOf, memoryOf, compile}
 use Rattle.rules.specs.declared.Verdict.{Verdict}
 use Rattle.rules.specs.declared.Verdict.the-variants.{Sound, Fault}
 use Rattle.syntax.specs.Before.{before}
@@ -28,6 +28,7 @@ use Rattle.evaluator.specs.Answers.{refusedBy}
 use Rattle.resources.specs.declared.Filled.{Filled}
 use Rattle.resources.specs.declared.Filled.the-variants.{Done, Refused as NotRun}
 use Rattle.compiler.specs.Compiled.{Leaves}
+use Rattle.provenance.specs.Notes.{Question}
 use Rattle.compiler.specs.Running.{RunEnds, refusedSo, doneSo}
 
 -- ---- The final state, by what is found before the run
@@ -41,7 +42,7 @@ module _ (m device : List ℕ) (limit output memory : ℕ) where
   unfolding refuseIf _>>=_ checked
   fault-first h e f = before-the-run m device limit output memory ∙ rw (le-ltb memory 65536 h, sym e, f) refl
 
-  pub sound-first : 65536 ≤ memory → before m ≡ Sound → finalState m device limit output memory ≡ runManifest (manifestOf m) device limit output
+  pub sound-first : 65536 ≤ memory → before m ≡ Sound → finalState m device limit output memory ≡ runManifest noneStruckOut (manifestOf m) device limit output
   unfolding refuseIf _>>=_ checked
   sound-first h e = before-the-run m device limit output memory ∙ rw (le-ltb memory 65536 h, e) refl
 
@@ -92,16 +93,16 @@ pub record Ended (out : List ℕ) (left f : ℕ) (o : Outcome State) : Type 0 wh
   pub within : f ≤ length out
   pub short : f ≤ 65535
 
-module _ {out : List ℕ} {left : ℕ} {o : Outcome State} {a : Filled} (x : RunEnds out left o a) where
+module _ {w out : List ℕ} {left : ℕ} {ask : Question} {o : Outcome State} {a : Filled} (x : RunEnds w out left ask o a) where
   pub run-done : {f : ℕ} → a ≡ Done f → Ended out left f o
   unfolding roomIn
   run-done {f} e = go (rw e at x)
     where
-      go : RunEnds out left o (Done f) → Ended out left f o
-      go (doneSo st h steps written room) = record { state = st; same = h; steps = steps; written = written; within = unfold roomIn in omega arith; short = unfold roomIn in omega arith }
+      go : RunEnds w out left ask o (Done f) → Ended out left f o
+      go (doneSo st h steps written room note) = record { state = st; same = h; steps = steps; written = written; within = unfold roomIn in omega arith; short = unfold roomIn in omega arith }
 
   pub run-refused : {why : Refusal} → a ≡ NotRun why → o ≡ refusedBy why
   run-refused {why} e = go (rw e at x)
     where
-      go : RunEnds out left o (NotRun why) → o ≡ refusedBy why
+      go : RunEnds w out left ask o (NotRun why) → o ≡ refusedBy why
       go (refusedSo h) = h

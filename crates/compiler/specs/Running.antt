@@ -26,6 +26,9 @@ use Rattle.resources.specs.declared.Filled.{Filled}
 use Rattle.resources.specs.declared.Filled.the-variants.{Done, Refused}
 use Rattle.execution.specs.Executed.{Stage, stateWith, AbleAfter}
 use Rattle.definitions.specs.Defined.{Defines}
+use Rattle.rules.specs.Tree.{Constant}
+use Rattle.memory.specs.Words.{wordOf, noteWord}
+use Rattle.provenance.specs.Notes.{Question, noteFor}
 
 -- ---- One item
 
@@ -50,23 +53,23 @@ unfoldable pub runPlaces : List ℕ → (c : Option ℕ) → (places : List ℕ)
 runPlaces m c ps k st = runItems k (itemsAt m (running m c ps)) st
 
 -- the answer means the outcome o: its refusal; or it is what the items at the places given, which are left, make of what the bytes stand for
-pub data ItemsEnd (m w out : List ℕ) (left : ℕ) (c : Option ℕ) (ps : List ℕ) (o : Outcome State) : Filled → Type 0 where
-  refusedSo : {why : Refusal} → o ≡ refusedBy why → ItemsEnd m w out left c ps o (Refused why)
-  goesOn : {f : ℕ} (k : Known) (es : List Entry) → o ≡ runPlaces m c ps k (stateWith w out f left es) → Stage m w out f k es → ItemsEnd m w out left c ps o (Done f)
+pub data ItemsEnd (m w out : List ℕ) (left : ℕ) (c : Option ℕ) (ps : List ℕ) (ask : Question) (o : Outcome State) : Filled → Type 0 where
+  refusedSo : {why : Refusal} → o ≡ refusedBy why → ItemsEnd m w out left c ps ask o (Refused why)
+  goesOn : {f : ℕ} (k : Known) (es : List Entry) → o ≡ runPlaces m c ps k (stateWith w out f left es) → Stage m w out f k ask es → ItemsEnd m w out left c ps ask o (Done f)
 
 -- of the items at `from` those at `to` are left
 pub record RunsTo (m w w′ out out′ : List ℕ) (fill left left′ : ℕ) (c : Option ℕ) (from to : List ℕ) (answer : Filled) : Type 0 where
   pub able : AbleAfter m w′ out′ answer
   pub steps : left′ ≤ left
-  pub says : (k : Known) (es : List Entry) → Stage m w out fill k es → ItemsEnd m w′ out′ left′ c to (runPlaces m c from k (stateWith w out fill left es)) answer
+  pub says : (k : Known) (ask : Question) (es : List Entry) → Stage m w out fill k ask es → ItemsEnd m w′ out′ left′ c to ask (runPlaces m c from k (stateWith w out fill left es)) answer
 
 -- ---- The whole run
 
--- the answer means the outcome o: its refusal; or the output holds its entries, and the steps left are its own
-pub data RunEnds (out : List ℕ) (left : ℕ) (o : Outcome State) : Filled → Type 0 where
-  refusedSo : {why : Refusal} → o ≡ refusedBy why → RunEnds out left o (Refused why)
-  doneSo : {f : ℕ} (st : State) → o ≡ done st → st .stepsLeft ≡ left → Written out f (entriesInOrder st) → f ≤ roomIn (length out) → RunEnds out left o (Done f)
+-- the answer means the outcome o: its refusal; or the output holds its entries, the steps left are its own, and the memory w has the note on what is asked about
+pub data RunEnds (w out : List ℕ) (left : ℕ) (ask : Question) (o : Outcome State) : Filled → Type 0 where
+  refusedSo : {why : Refusal} → o ≡ refusedBy why → RunEnds w out left ask o (Refused why)
+  doneSo : {f : ℕ} (st : State) → o ≡ done st → st .stepsLeft ≡ left → Written out f (entriesInOrder st) → f ≤ roomIn (length out) → wordOf w noteWord ≡ noteFor ask (st .entries) → RunEnds w out left ask o (Done f)
 
-pub record RunsManifest (m device out out′ : List ℕ) (left left′ : ℕ) (answer : Filled) : Type 0 where
+pub record RunsManifest (struckOut : Constant → Bool) (ask : Question) (m device w′ out out′ : List ℕ) (left left′ : ℕ) (answer : Filled) : Type 0 where
   pub steps : left′ ≤ left
-  pub ends : RunEnds out′ left′ (runManifest (manifestOf m) device left (length out)) answer
+  pub ends : RunEnds w′ out′ left′ ask (runManifest struckOut (manifestOf m) device left (length out)) answer

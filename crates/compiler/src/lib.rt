@@ -15,6 +15,11 @@ ghost use Rattle.execution.specs.Executed.{Able};
 ghost use Rattle.definitions.specs.Defined.{ItemStands, IsDefinition};
 ghost use Rattle.compiler.specs.Compiled.{Leaves, Compiles};
 ghost use Rattle.compiler.specs.Running.{chosenOf, isChosen, DefinedSo, RunsTo, RunsManifest};
+ghost use mathlib.Core.Bool.{Bool};
+ghost use Rattle.rules.specs.Tree.{Constant};
+ghost use Rattle.rules.specs.Compile.{noneStruckOut};
+ghost use Rattle.definitions.specs.Prepared.{Prepares};
+ghost use Rattle.provenance.specs.Notes.{Question, nothingAsked, Noted};
 use labels::Labels;
 use memory::Context;
 use resources::Filled;
@@ -102,14 +107,28 @@ fn run_items(m: &[u8], node: Found, work: &mut [u8], out: &mut [u8], left: &mut 
     Filled::Done(filled)
 }
 
+// A sound manifest, the memory prepared for it.
+pub fn run_prepared(
+    m: &[u8],
+    device: &[u8],
+    out: &mut [u8],
+    work: &mut [u8],
+    left: &mut u16,
+) -> Filled
+    requires { ⌜ ((check (now m) ≡ Sound) × (length (now m) ≤ 65535)) × Able (now m) (now work) (now out) 0 ⌝ }
+    ensures { λ r. ⌜ ((s : Constant → Bool) (ask : Question) → Prepares (now (m .entry)) (now (work .entry)) s → Noted (now (work .entry)) ask [] → RunsManifest s ask (now (m .entry)) (now (device .entry)) (now (work .exit)) (now (out .entry)) (now (out .exit)) (now (left .entry)) (now (left .exit)) r) ⌝ }
+{
+    let node = definitions::choose_node(m, device);
+    run_items(m, node, work, out, left)
+}
+
 // A sound manifest, whatever the memory holds.
 fn run_manifest(m: &[u8], device: &[u8], out: &mut [u8], work: &mut [u8], left: &mut u16) -> Filled
     requires { ⌜ ((check (now m) ≡ Sound) × (length (now m) ≤ 65535)) × (65536 ≤ length (now work)) ⌝ }
-    ensures { λ r. ⌜ RunsManifest (now (m .entry)) (now (device .entry)) (now (out .entry)) (now (out .exit)) (now (left .entry)) (now (left .exit)) r ⌝ }
+    ensures { λ r. ⌜ RunsManifest noneStruckOut nothingAsked (now (m .entry)) (now (device .entry)) (now (work .exit)) (now (out .entry)) (now (out .exit)) (now (left .entry)) (now (left .exit)) r ⌝ }
 {
     definitions::prepare(m, work);
-    let node = definitions::choose_node(m, device);
-    run_items(m, node, work, out, left)
+    run_prepared(m, device, out, work, left)
 }
 
 // ---- The whole

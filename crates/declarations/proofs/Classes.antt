@@ -12,8 +12,8 @@ use Rattle.wire.specs.Bytes.{byte, two, endOf, fieldsIn}
 use Rattle.rules.specs.Outcome.{Outcome, done, _>>=_, refuseIf, orRefuse}
 use Rattle.rules.specs.Tree.{Parent, ClassDefinition, classDefinition, definition}
 use Rattle.rules.specs.State.{Base, baseScope, classScope, DeclaredClass, Entry, State, Context, Known, isDeclared, markDeclared, oneIf}
-use Rattle.rules.specs.Evaluate.{findType, findClass}
-use Rattle.rules.specs.Run.{Given, parameterValues, storeAll, baseUnder, placedUnder, inClass}
+use Rattle.rules.specs.Evaluate.{findType, findClass, comeToAll}
+use Rattle.rules.specs.Run.{Given, parameterValues, storeAll, baseUnder, placedUnder, inClass, takenDefaults}
 use Rattle.places.specs.At.{itemAt, parentAt, afterParentAt, parametersAt, blockAt}
 use Rattle.places.proofs.Items.{class-definition-opens, parent-given, parent-none, after-given, after-none}
 use Rattle.cells.specs.Scopes.{scopeOf}
@@ -28,7 +28,7 @@ use Rattle.statements.specs.declared.Ran.{Ran}
 use Rattle.statements.specs.declared.Ran.the-variants.{Done, Refused}
 use Rattle.statements.specs.Answers.{ranAs, Keeps}
 use Rattle.attributes.specs.Table.{Gives}
-use Rattle.parameters.specs.Checked.{checkGiven, Assigns}
+use Rattle.parameters.specs.Checked.{checkGiven, Assigns, AssignsAll}
 use Rattle.parameters.proofs.Storing.{keeps-then}
 use Rattle.declarations.specs.declared.Found.{Found}
 use Rattle.declarations.specs.declared.Found.the-variants.{Nothing}
@@ -38,6 +38,9 @@ use Rattle.declarations.specs.Standing.{definitionWith}
 use Rattle.declarations.specs.Classes.{checkClass, FoundStands, refusedSo, foundSo, ChecksClass, Entered, startClass, ParentSmall, scopeUnder, baseWith, startedAs, BodyStands, StartsClass}
 use Rattle.declarations.proofs.Standing.{FoundAt, class-stands, classFrom, PartsAt}
 use Rattle.declarations.proofs.Checks.{class-missing, class-there, ChecksGiven, Values, checked-done, checked-refused}
+use Rattle.memory.specs.Words.{StrikesAs}
+use Rattle.declarations.proofs.Outcomes.{bind-bind}
+use Rattle.declarations.proofs.Types.{strikes-kept}
 
 -- ---- The parent and the base
 
@@ -174,14 +177,17 @@ module _ (m t w : List ℕ) (d : ℕ) (here : Here) {name : ℕ} (parent : ℕ) 
   abbrev inside : Here
   inside = record { scope = record { number = 2 + name; «base_is_node» = base }; path = here .path }
 
-  module _ {from to : ℕ} {a : Ran} {w₂ : List ℕ} (start : from ≡ afterParentAt m (d + 5)) (parts : PartsAt m d from to (classDefinition (classFrom m d to))) (stores : Assigns m t w₁ w₂ from to inside a) where
+  module _ {from to : ℕ} {a : Ran} {w₂ : List ℕ} (start : from ≡ afterParentAt m (d + 5)) (parts : PartsAt m d from to (classDefinition (classFrom m d to))) (stores : AssignsAll m t w₁ w₂ from to inside a) where
     entered : State → Outcome Entered
     entered st = done (record { body = blockAt m 31 to; here = contextOf inside; state = st })
 
-    started : (es : List Entry) (s r : ℕ) (x : ClassDefinition) (gs vs : List Given) → itemAt m d ≡ definition (classDefinition x) → Gives t gs → parameterValues (x .parameters) gs ≡ done vs
-        → (ranAs a (stateOf w₂ es s r) >>= entered) ≡ startClass x vs (contextOf here) (stateOf w es s r)
+    marking : Keeps w w₁
+    marking = record { names = marks .names; rest = marks .rest; fine = marks .fine }
+
+    started : (k : Known) (es : List Entry) (s r : ℕ) (x : ClassDefinition) (gs vs : List Given) → StrikesAs k w → itemAt m d ≡ definition (classDefinition x) → Gives t gs → parameterValues (x .parameters) gs ≡ done vs
+        → (ranAs a (stateOf w₂ es s r) >>= entered) ≡ startClass k x (takenDefaults (x .parameters) gs) vs (contextOf here) (stateOf w es s r)
     unfolding startClass inClass entered
-    started es s r x gs vs tree gives values =
+    started k es s r x gs vs strikes tree gives values =
         let st : State = stateOf w es s r in
         let q : ℕ = two m (d + 3) in
         let read = parts .tree in
@@ -191,21 +197,25 @@ module _ (m t w : List ℕ) (d : ℕ) (here : Here) {name : ℕ} (parent : ℕ) 
         let all : parameterValues (parametersAt m (fieldsIn m from to)) gs ≡ done vs = rw start (ap (λ (y : ClassDefinition). parameterValues (y .parameters) gs) same ∙ values) in
         let scope : scopeOf (2 + name) ≡ classScope q = ap (λ (n : ℕ). scopeOf (2 + n)) named ∙ class-scope q small in
         let context : contextOf inside ≡ inClass q p (contextOf here) = λ i. record { scope = scope i; base = there i .base; path = here .path } in
-        let stored = stores .does gs vs gives all .says es s r in
+        let stored = stores .does k gs vs (strikes-kept k marking strikes) gives all .says es s r in
         let marked : stateOf w₁ es s r ≡ markDeclared q p st = marks .state es s r ∙ ap₂ (λ (n : ℕ) (y : DeclaredClass). markDeclared n y st) named there in
-        ap (λ (o : Outcome State). o >>= entered) (stored ∙ ap₂ (λ (h : Context) (z : State). storeAll h vs z) context marked)
-        ∙ ap (λ (h : Context). storeAll (inClass q p (contextOf here)) vs (markDeclared q p st) >>= λ st′. done (record { body = blockAt m 31 to; here = h; state = st′ })) context
-        ∙ ap (λ (y : ClassDefinition). startClass y vs (contextOf here) st) same
+        let came : ℕ → Outcome (Unit {0}) = λ f. comeToAll k (takenDefaults (parametersAt m (fieldsIn m f to)) gs) in
+        let entry : Context → State → Outcome Entered = λ h st′. done (record { body = blockAt m 31 to; here = h; state = st′ }) in
+        let rest : Outcome State = storeAll (inClass q p (contextOf here)) vs (markDeclared q p st) in
+        ap (λ (o : Outcome State). o >>= entered) (stored ∙ ap₂ (λ (h : Context) (z : State). came from >>= λ _. storeAll h vs z) context marked)
+        ∙ bind-bind (came from) (λ _. rest) entered
+        ∙ ap₂ (λ (f : ℕ) (h : Context). came f >>= λ _. rest >>= entry h) start context
+        ∙ ap (λ (y : ClassDefinition). startClass k y (takenDefaults (y .parameters) gs) vs (contextOf here) st) same
 
     kept : Keeps w w₂
-    kept = keeps-then (record { names = marks .names; rest = marks .rest; fine = marks .fine }) (stores .keeps)
+    kept = keeps-then marking (stores .keeps)
 
     pub class-stopped : (why : Refusal) → a ≡ Refused why → StartsClass m t w w₂ d here (NotStarted why)
     unfolding startedAs ranAs _>>=_ BodyStands entered
     class-stopped why is = record {
       stands = tt;
       keeps = kept;
-      says = λ es s r x gs vs tree gives values. sym (ap (λ (b : Ran). ranAs b (stateOf w₂ es s r) >>= entered) is) ∙ started es s r x gs vs tree gives values;
+      says = λ k es s r x gs vs strikes tree gives values. sym (ap (λ (b : Ran). ranAs b (stateOf w₂ es s r) >>= entered) is) ∙ started k es s r x gs vs strikes tree gives values;
     }
 
     pub class-started : a ≡ Done → StartsClass m t w w₂ d here (Body to inside)
@@ -213,5 +223,5 @@ module _ (m t w : List ℕ) (d : ℕ) (here : Here) {name : ℕ} (parent : ℕ) 
     class-started is = record {
       stands = (parts .laid .body .block, parts .laid .known);
       keeps = kept;
-      says = λ es s r x gs vs tree gives values. sym (ap (λ (b : Ran). ranAs b (stateOf w₂ es s r) >>= entered) is) ∙ started es s r x gs vs tree gives values;
+      says = λ k es s r x gs vs strikes tree gives values. sym (ap (λ (b : Ran). ranAs b (stateOf w₂ es s r) >>= entered) is) ∙ started k es s r x gs vs strikes tree gives values;
     }

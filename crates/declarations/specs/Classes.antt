@@ -8,10 +8,10 @@ use Rattle.values.specs.declared.Refusal.{Refusal}
 use Rattle.values.specs.declared.Reason.the-variants.{Unknown, DeclaredAgain}
 use Rattle.wire.specs.Bytes.{byte, two, fieldsIn}
 use Rattle.rules.specs.Outcome.{Outcome, done, _>>=_, refuseIf, orRefuse}
-use Rattle.rules.specs.Tree.{Block, Parent, ClassDefinition, classDefinition, definition}
+use Rattle.rules.specs.Tree.{Block, Parent, ClassDefinition, classDefinition, definition, Constant}
 use Rattle.rules.specs.State.{Scope, classScope, Base, baseScope, DeclaredClass, Entry, State, Context, Known, isDeclared, markDeclared}
-use Rattle.rules.specs.Evaluate.{findClass}
-use Rattle.rules.specs.Run.{Given, parameterValues, storeAll, baseUnder, placedUnder, inClass}
+use Rattle.rules.specs.Evaluate.{findClass, comeToAll}
+use Rattle.rules.specs.Run.{Given, parameterValues, storeAll, baseUnder, placedUnder, inClass, takenDefaults}
 use Rattle.rules.specs.declared.Kind.the-variants.{Item, Block as BlockKind}
 use Rattle.places.specs.At.{itemAt, blockAt, StandsAs}
 use Rattle.cells.specs.Memory.{stateOf}
@@ -28,6 +28,7 @@ use Rattle.declarations.specs.declared.Class.the-variants.{At, Refused a
 use Rattle.declarations.specs.declared.StartedClass.{StartedClass}
 use Rattle.declarations.specs.declared.StartedClass.the-variants.{Body, Refused}
 use Rattle.declarations.specs.Standing.{NamesKnown}
+use Rattle.memory.specs.Words.{StrikesAs}
 
 -- ---- The checks
 
@@ -72,9 +73,10 @@ pub record Entered : Type 0 where
   pub state : State
 
 -- "Then it is marked declared, its parameters are assigned"
-unfoldable pub startClass : ClassDefinition → (values : List Given) → Context → State → Outcome Entered
-startClass d vs c st =
-    storeAll (inClass (d .name) (placedUnder (d .parent) c st) c) vs (markDeclared (d .name) (placedUnder (d .parent) c st) st)
+unfoldable pub startClass : Known → ClassDefinition → (defaults : List Constant) → (values : List Given) → Context → State → Outcome Entered
+startClass k d ds vs c st =
+    comeToAll k ds
+    >>= λ _. storeAll (inClass (d .name) (placedUnder (d .parent) c st) c) vs (markDeclared (d .name) (placedUnder (d .parent) c st) st)
     >>= λ st′. done (record { body = d .body; here = inClass (d .name) (placedUnder (d .parent) c st) c; state = st′ })
 
 -- a parent's name, if there is one at q, is below 1,024
@@ -102,5 +104,5 @@ BodyStands m (Refused why) = Unit {0}
 pub record StartsClass (m t w w′ : List ℕ) (p : ℕ) (here : Here) (answer : StartedClass) : Type 0 where
   pub stands : BodyStands m answer
   pub keeps : Keeps w w′
-  pub says : (es : List Entry) (s r : ℕ) (d : ClassDefinition) (gs vs : List Given) → itemAt m p ≡ definition (classDefinition d) → Gives t gs → parameterValues (d .parameters) gs ≡ done vs
-      → startedAs m answer (stateOf w′ es s r) ≡ startClass d vs (contextOf here) (stateOf w es s r)
+  pub says : (k : Known) (es : List Entry) (s r : ℕ) (d : ClassDefinition) (gs vs : List Given) → StrikesAs k w → itemAt m p ≡ definition (classDefinition d) → Gives t gs → parameterValues (d .parameters) gs ≡ done vs
+      → startedAs m answer (stateOf w′ es s r) ≡ startClass k d (takenDefaults (d .parameters) gs) vs (contextOf here) (stateOf w es s r)

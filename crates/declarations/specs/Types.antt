@@ -8,8 +8,8 @@ use Rattle.wire.specs.Bytes.{two, fieldsIn}
 use Rattle.rules.specs.Outcome.{Outcome, done, _>>=_, orRefuse}
 use Rattle.rules.specs.Tree.{Block}
 use Rattle.rules.specs.State.{Entry, State, Context, Known}
-use Rattle.rules.specs.Evaluate.{findType}
-use Rattle.rules.specs.Run.{Given, parameterValues, storeTitle, storeAll}
+use Rattle.rules.specs.Evaluate.{findType, comeToAll}
+use Rattle.rules.specs.Run.{Given, parameterValues, storeTitle, storeAll, takenDefaults}
 use Rattle.rules.specs.declared.Kind.the-variants.{Block as BlockKind}
 use Rattle.places.specs.At.{parametersAt, blockAt, StandsAs}
 use Rattle.cells.specs.Memory.{stateOf}
@@ -26,6 +26,7 @@ use Rattle.parameters.specs.Checked.{checkGiven}
 use Rattle.declarations.specs.declared.Started.{Started}
 use Rattle.declarations.specs.declared.Started.the-variants.{Body, Refused}
 use Rattle.declarations.specs.Standing.{NamesKnown}
+use Rattle.memory.specs.Words.{StrikesAs}
 
 -- the body that runs, and the state in which it does
 pub record Entered : Type 0 where
@@ -38,13 +39,15 @@ startType k p t x gs c st = do
   d ← orRefuse (findType t (k .definitions)) Unknown p
   vs ← checkGiven (d .parameters) gs
   st₁ ← storeTitle (k .title) c p x st
+  _ ← comeToAll k (takenDefaults (d .parameters) gs)
   st₂ ← storeAll c vs st₁
   done (record { body = d .body; state = st₂ })
 
 -- the title goes to its variable, and the parameters of the 33s from `from` to `to` are assigned, in one scope
 pub record Fills (m t w w′ : List ℕ) (p from to : ℕ) (x : Labelled) (here : Here) (answer : Ran) : Type 0 where
   pub keeps : Keeps w w′
-  pub does : (gs vs : List Given) → Gives t gs → parameterValues (parametersAt m (fieldsIn m from to)) gs ≡ done vs → Does w w′ here (ranAs answer) (λ c st. storeTitle (titleOf w) c p x st >>= λ st₁. storeAll c vs st₁)
+  pub does : (k : Known) (gs vs : List Given) → StrikesAs k w → Gives t gs → parameterValues (parametersAt m (fieldsIn m from to)) gs ≡ done vs
+      → Does w w′ here (ranAs answer) (λ c st. storeTitle (titleOf w) c p x st >>= λ st₁. comeToAll k (takenDefaults (parametersAt m (fieldsIn m from to)) gs) >>= λ _. storeAll c vs st₁)
 
 unfoldable pub startedAs : List ℕ → Started → State → Outcome Entered
 startedAs m (Body b) st = done (record { body = blockAt m 31 b; state = st })

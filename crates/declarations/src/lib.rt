@@ -106,7 +106,7 @@ fn fill_scope(
     let t = store_title(work, p, here, x);
     match t {
         Ran::Refused(refusal) => Ran::Refused(refusal),
-        Ran::Done => parameters::store_parameters(m, parameters, table, work, here),
+        Ran::Done => parameters::assign_parameters(m, parameters, table, work, here),
     }
 }
 
@@ -238,7 +238,7 @@ pub fn start_class(m: &[u8], d: usize, table: &[u8], work: &mut [u8], here: Cont
         },
         path,
     };
-    let r = parameters::store_parameters(m, Span { first, end: block }, table, work, inside);
+    let r = parameters::assign_parameters(m, Span { first, end: block }, table, work, inside);
     match r {
         Ran::Refused(refusal) => StartedClass::Refused(refusal),
         Ran::Done => StartedClass::Body {

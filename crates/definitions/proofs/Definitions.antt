@@ -28,6 +28,7 @@ use Rattle.evaluator.specs.Known.{DefinedAt, undefined, typeAt, classAt, KnownI
 use Rattle.declarations.specs.Standing.{Set, Defined, defined}
 use Rattle.declarations.proofs.Standing.{name-small as begins-small}
 use Rattle.definitions.specs.Defined.{ItemStands, IsDefinition, Defines}
+use Rattle.memory.proofs.Words.{words-kept, struck-same}
 
 -- ---- A definition at its place
 
@@ -173,7 +174,7 @@ module _ (m w w′ : List ℕ) (p : ℕ) (set : Set m w) (s : ItemStands m p) (i
 
   now-known : (k : Known) (d : Definition) → itemAt m p ≡ definition d → isTaken k (definedName d) ≡ false → KnownIn m w k → KnownIn m w′ (withDefinition d k)
   unfolding withDefinition
-  now-known k d tree free known = record { builtIns = λ n. known .builtIns n ∙ sym (built-ins-kept n); definitions = λ n. go n (eqb n x) refl }
+  now-known k d tree free known = record { builtIns = λ n. known .builtIns n ∙ sym (built-ins-kept n); definitions = λ n. go n (eqb n x) refl; struck = λ v. known .struck v ∙ sym (struck-same w w′ (λ j l. words-kept w w′ (become .rest) j) v) }
     where
       its-name : definedName d ≡ x
       its-name = let t = definition-there m p s i in ap definedName (same-definition tree (t .tree)) ∙ t .name ∙ sym named

@@ -1,21 +1,21 @@
 -- Built-in types and the title: one law for each way through `mark_string`, `mark_built_ins` and `prepare`. Assumes nothing.
-use Prim.Native.Nat.{ℕ, zero, suc, _+_, _≤_, _<_}
+use Prim.Native.Nat.{ℕ, zero, suc, _+_, _≤_, _<_, _*_}
 use mathlib.Core.Path.{_≡_, refl, sym, ap, _∙_}
-use mathlib.Core.Bool.{Bool, true, false}
+use mathlib.Core.Bool.{Bool, true, false, _&&_}
 use mathlib.Core.List.{List, [], _∷_}
 use mathlib.Core.Option.{Option, none, some}
 use native.Mathlib.Omega.{arith}
 use native.Mathlib.Numerals.{add-one}
-use lib.Dec.{ltb}
+use lib.Dec.{eqb, ltb}
 use lib.ListN.{length, getD, List·getD-eq-default}
-use borrow.Author.Tests.{eq-eqb, ne-eqb, ltb-true, ltb-false}
+use borrow.Author.Tests.{eq-eqb, ne-eqb, ltb-true, ltb-false, le-ltb}
 use Rattle.wire.specs.Bytes.{pick, two, endOf, fieldsIn}
 use Rattle.wire.proofs.Fields.{no-fields, field-first}
 use Rattle.rules.specs.Check.{text, stringPlaces, check}
 use Rattle.rules.specs.State.{Entry}
 use Rattle.rules.specs.Read.{manifestOf}
 use Rattle.rules.specs.Evaluate.{any}
-use Rattle.rules.specs.Compile.{sameBytes, stringAt, stringNumber, builtInTypes, titleText, isBuiltIn, knownFirst, roomIn}
+use Rattle.rules.specs.Compile.{sameBytes, stringAt, stringNumber, builtInTypes, titleText, isBuiltIn, knownFirst, roomIn, noneStruckOut}
 use Rattle.rules.specs.declared.Verdict.the-variants.{Sound}
 use Rattle.syntax.specs.declared.Found.{Found}
 use Rattle.syntax.specs.declared.Found.the-variants.{At, Nothing}
@@ -29,7 +29,10 @@ use Rattle.memory.proofs.Titles.{title-kept}
 use Rattle.summaries.proofs.Summaries.{none-summarized}
 use Rattle.evaluator.proofs.Names.{known-first}
 use Rattle.declarations.specs.Standing.{undefined}
-use Rattle.definitions.specs.Prepared.{markString, markStrings, Prepares}
+use Rattle.definitions.specs.Prepared.{markString, markStrings, Prepares, Blank}
+use Rattle.rules.specs.Tree.{Constant}
+use Rattle.memory.specs.Words.{wordOf, strikeLabel, strikeEnd, struckAt, struckIn}
+use Rattle.memory.proofs.Words.{word-at}
 
 -- ---- mark_string
 
@@ -201,26 +204,42 @@ module _ (m w₀ w : List ℕ) (sound : check m ≡ Sound) (first : Begun w₀) 
       go true h = among-strings n (ltb-true _ _ h)
       go false h = after-strings n (ltb-false _ _ h)
 
+  -- where the words strike nothing out, nothing is
+  nothing-struck : (w : List ℕ) → wordOf w strikeEnd ≡ 0 → (v : Constant) → struckIn w v ≡ noneStruckOut v
+  unfolding struckIn struckAt noneStruckOut
+  nothing-struck w e v = rw (e, le-ltb (v .place) 0 (omega arith)) (and-false (eqb (v .label) (wordOf w strikeLabel)))
+    where
+      and-false : (b : Bool) → (b && false) ≡ false
+      and-false true = refl
+      and-false false = refl
+
   module _ (room : 65536 ≤ length w₀) (short : length m ≤ 65535) (size : length w ≡ length w₀) where
     no-title-yet : titleOf w ≡ none
     no-title-yet = title-kept w₀ w (marked .rest) ∙ first .title
 
     -- THE LAWS: what is known before the first item runs, where the memory became w′ by its title alone
-    ready : (w′ : List ℕ) → length w′ ≡ length w → namesOf w′ ≡ namesOf w → ((es : List Entry) (n r : ℕ) → stateOf w′ es n r ≡ stateOf w es n r) → (Fine w → Fine w′) → titleOf w′ ≡ stringNumber titleText (stringTexts m) 0 → ((p : ℕ) → wordsAt + 2 ≤ p → two w′ p ≡ two w p) → Prepares m w′
+    ready : (w′ : List ℕ) → length w′ ≡ length w → namesOf w′ ≡ namesOf w → ((es : List Entry) (n r : ℕ) → stateOf w′ es n r ≡ stateOf w es n r) → (Fine w → Fine w′) → titleOf w′ ≡ stringNumber titleText (stringTexts m) 0 → ((p : ℕ) → wordsAt + 2 ≤ p → two w′ p ≡ two w p) → Prepares m w′ noneStruckOut × Blank w′
     unfolding namesOf knownFirst
-    ready w′ same names state fine title after = record {
-      set = record { memory = omega arith; manifest = short; strings = few-strings m sound; definitions = λ n. undefined (ap (λ (ns : Names). ns .definitions n) names ∙ no-definition n); summaries = none-summarized w′ (λ i l. after (summaryAt i) (omega arith) ∙ others-read w₀ w (marked .rest) (summaryAt i) (omega arith) ∙ first .summaries i l) };
-      fine = fine (marked .fine (first .fine));
-      known = known-first m w′ (knownFirst (manifestOf m .strings)) refl (λ n. built-ins n ∙ sym (ap (λ (ns : Names). ns .builtIns n) names)) (λ n. ap (λ (ns : Names). ns .definitions n) names ∙ no-definition n);
-      title = title ∙ sym (title-read m sound);
-      state = λ limit output. state [] limit (roomIn output) ∙ marked .state [] limit (roomIn output) ∙ first .state limit output;
-      index = λ p l u. after p (omega arith) ∙ others-read w₀ w (marked .rest) p (omega arith) ∙ first .index p l u;
-    }
+    ready w′ same names state fine title after = (
+      record {
+        set = record { memory = omega arith; manifest = short; strings = few-strings m sound; definitions = λ n. undefined (ap (λ (ns : Names). ns .definitions n) names ∙ no-definition n); summaries = none-summarized w′ (λ i l. after (summaryAt i) (omega arith) ∙ others-read w₀ w (marked .rest) (summaryAt i) (omega arith) ∙ first .summaries i l) };
+        fine = fine (marked .fine (first .fine));
+        known = known-first m w′ (knownFirst noneStruckOut (manifestOf m .strings)) refl (λ n. built-ins n ∙ sym (ap (λ (ns : Names). ns .builtIns n) names)) (λ n. ap (λ (ns : Names). ns .definitions n) names ∙ no-definition n) (λ v. sym (nothing-struck w′ (words strikeEnd (omega arith) (omega arith)) v));
+        title = title ∙ sym (title-read m sound);
+        state = λ limit output. state [] limit (roomIn output) ∙ marked .state [] limit (roomIn output) ∙ first .state limit output;
+        index = λ p l u. after p (omega arith) ∙ others-read w₀ w (marked .rest) p (omega arith) ∙ first .index p l u;
+      },
+      record { words = words },
+    )
+      where
+        words : (i : ℕ) → 0 < i → i < 15 → wordOf w′ i ≡ 0
+        words i l u =
+            sym (word-at w′ i) ∙ after (wordsAt + 2 * i) (omega arith) ∙ others-read w₀ w (marked .rest) (wordsAt + 2 * i) (omega arith) ∙ word-at w₀ i ∙ first .words i u
 
-    pub titled : {r : Found} (w′ : List ℕ) {n : ℕ} → r ≡ foundOf (stringNumber titleText (stringTexts m) 0) → r ≡ At n → TitleSet w w′ n → length w′ ≡ length w → Prepares m w′
+    pub titled : {r : Found} (w′ : List ℕ) {n : ℕ} → r ≡ foundOf (stringNumber titleText (stringTexts m) 0) → r ≡ At n → TitleSet w w′ n → length w′ ≡ length w → Prepares m w′ noneStruckOut × Blank w′
     titled w′ told h s same = ready w′ same (s .names) (s .state) (s .fine) (s .title ∙ sym (found-back _ (sym told ∙ h))) (s .after)
 
-    pub untitled : {r : Found} → r ≡ foundOf (stringNumber titleText (stringTexts m) 0) → r ≡ Nothing → Prepares m w
+    pub untitled : {r : Found} → r ≡ foundOf (stringNumber titleText (stringTexts m) 0) → r ≡ Nothing → Prepares m w noneStruckOut × Blank w
     untitled told h = ready w refl refl (λ es n r. refl) (λ f. f) (no-title-yet ∙ sym (found-nothing _ (sym told ∙ h))) (λ p l. refl)
 
 -- ---- choose_node

@@ -23,6 +23,8 @@ use Rattle.places.proofs.Items.{statement-item, node-opens, type-definition-ope
 use Rattle.syntax.proofs.NamesKnown.{known-after, items-known}
 use Rattle.declarations.specs.Standing.{NamesKnown}
 use Rattle.declarations.proofs.Standing.{name-small}
+use Rattle.rules.specs.Tree.{Constant}
+use mathlib.Core.Bool.{Bool}
 
 module _ (m : List ℕ) (few : length (stringPlaces m) ≤ 1024) where
   small-item : {q : ℕ} → StandsAs m 32 ItemKind q → NamesKnown m q → SmallItem (itemAt m q)
@@ -51,7 +53,7 @@ manifest-small m c =
 
 -- every state that the run of a sound manifest passes is tidy (rules/proofs/Scopes.antt), so in it more than 1,026 scopes change no read and a body's
 -- scope is empty when it is entered; here for the state at its end
-pub manifest-tidy : (m device : List ℕ) (limit outputLength : ℕ) → check m ≡ Sound → All (Tidy everywhere) (runManifest (manifestOf m) device limit outputLength)
+pub manifest-tidy : (struckOut : Constant → Bool) (m device : List ℕ) (limit outputLength : ℕ) → check m ≡ Sound → All (Tidy everywhere) (runManifest struckOut (manifestOf m) device limit outputLength)
 unfolding runManifest knownFirst
-manifest-tidy m device limit outputLength c =
-    items-tidy (knownFirst (manifestOf m .strings)) noneLeft (items-for-each (manifestOf m .strings) device (manifest-small m c)) (start limit outputLength) (start-tidy limit outputLength)
+manifest-tidy struckOut m device limit outputLength c =
+    items-tidy (knownFirst struckOut (manifestOf m .strings)) noneLeft (items-for-each (manifestOf m .strings) device (manifest-small m c)) (start limit outputLength) (start-tidy limit outputLength)

@@ -1,12 +1,12 @@
 -- The names before anything runs, and the node that runs.
-use Prim.Native.Nat.{ℕ, suc, _+_}
+use Prim.Native.Nat.{ℕ, suc, _+_, _<_}
 use mathlib.Core.Path.{_≡_}
 use mathlib.Core.Bool.{Bool, true, _||_}
 use mathlib.Core.List.{List, [], _∷_}
 use lib.Dec.{eqb}
 use Rattle.wire.specs.Bytes.{pick, byte}
 use Rattle.rules.specs.Check.{text}
-use Rattle.rules.specs.Tree.{node}
+use Rattle.rules.specs.Tree.{node, Constant}
 use Rattle.rules.specs.Read.{manifestOf}
 use Rattle.rules.specs.Compile.{knownFirst, roomIn, start}
 use Rattle.rules.specs.declared.Kind.the-variants.{Block}
@@ -16,6 +16,7 @@ use Rattle.cells.specs.Memory.{Names, stateOf, Fine}
 use Rattle.memory.specs.Names.{withBuiltIn, titleOf, NoIndex}
 use Rattle.evaluator.specs.Known.{KnownIn}
 use Rattle.declarations.specs.Standing.{NamesKnown, Set}
+use Rattle.memory.specs.Words.{wordOf}
 
 -- the string n, at q, is marked if it names a built-in type
 unfoldable pub markString : List ℕ → (n q : ℕ) → Names → Names
@@ -26,14 +27,18 @@ unfoldable pub markStrings : List ℕ → (n : ℕ) → (places : List ℕ) → 
 markStrings m n [] ns = ns
 markStrings m n (q ∷ qs) ns = markStrings m (suc n) qs (markString m n q ns)
 
--- the memory w is as before the first item runs, and knows what is known then
-pub record Prepares (m w : List ℕ) : Type 0 where
+-- the memory w is as before the first item runs, and knows what is known then, with so many constants struck out
+pub record Prepares (m w : List ℕ) (struckOut : Constant → Bool) : Type 0 where
   pub set : Set m w
   pub fine : Fine w
-  pub known : KnownIn m w (knownFirst (manifestOf m .strings))
-  pub title : titleOf w ≡ knownFirst (manifestOf m .strings) .title
+  pub known : KnownIn m w (knownFirst struckOut (manifestOf m .strings))
+  pub title : titleOf w ≡ knownFirst struckOut (manifestOf m .strings) .title
   pub state : (limit output : ℕ) → stateOf w [] limit (roomIn output) ≡ start limit output
   pub index : NoIndex w
+
+-- the words after the first are 0: nothing is struck out, and nothing is asked about
+pub record Blank (w : List ℕ) : Type 0 where
+  pub words : (i : ℕ) → 0 < i → i < 15 → wordOf w i ≡ 0
 
 -- a device's name or a default
 unfoldable pub isDeviceAt : List ℕ → (q : ℕ) → Bool

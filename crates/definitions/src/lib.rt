@@ -12,8 +12,9 @@ ghost use Rattle.syntax.specs.Nodes.{nodeFor};
 ghost use Rattle.cells.specs.Memory.{Becomes};
 ghost use Rattle.evaluator.specs.Known.{KnownIn};
 ghost use Rattle.declarations.specs.Standing.{Set};
-ghost use Rattle.definitions.specs.Prepared.{markString, markStrings, Prepares, isDeviceAt, NodeBlock};
+ghost use Rattle.definitions.specs.Prepared.{markString, markStrings, Prepares, Blank, isDeviceAt, NodeBlock};
 ghost use Rattle.definitions.specs.Defined.{ItemStands, IsDefinition, Defines};
+ghost use Rattle.rules.specs.Compile.{noneStruckOut};
 use syntax::Found;
 
 // ---- Before the first item
@@ -46,7 +47,7 @@ fn mark_built_ins(m: &[u8], work: &mut [u8])
 // The state before the first item and the names of a manifest, whatever the memory holds.
 pub fn prepare(m: &[u8], work: &mut [u8])
     requires { ⌜ ((check (now m) ≡ Sound) × (length (now m) ≤ 65535)) × (65536 ≤ length (now work)) ⌝ }
-    ensures { λ _. ⌜ Prepares (now (m .entry)) (now (work .exit)) ⌝ }
+    ensures { λ _. ⌜ Prepares (now (m .entry)) (now (work .exit)) noneStruckOut × Blank (now (work .exit)) ⌝ }
 {
     memory::begin(work);
     mark_built_ins(m, work);

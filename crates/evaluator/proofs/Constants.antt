@@ -1,7 +1,7 @@
 -- A constant, read in place. Assumes nothing.
 use Prim.Native.Nat.{ℕ, _+_}
 use mathlib.Core.Path.{_≡_, refl, sym, ap, _∙_}
-use mathlib.Core.Bool.{Bool}
+use mathlib.Core.Bool.{Bool, true, false}
 use mathlib.Core.List.{List}
 use borrow.Author.Tests.{ne-eqb}
 use lib.Dec.{eqb}
@@ -16,6 +16,10 @@ use Rattle.wire.specs.Numbers.{number, signed64}
 use Rattle.wire.specs.Runs.{bytesAt}
 use Rattle.rules.specs.Evaluate.{ofConstant}
 use Rattle.places.specs.At.{valueAt, constantAt}
+use Rattle.rules.specs.Outcome.{Outcome, refused, done, _>>=_, refuseIf}
+use Rattle.values.specs.declared.Reason.the-variants.{Malformed}
+use Rattle.memory.specs.Words.{struckAt, struckIn}
+use Rattle.evaluator.specs.Known.{constantIn}
 
 module _ (m : List ℕ) (p : ℕ) where
   pub integer-read : {t : ℕ} {z v : ℤ} → t ≡ byte m p → t ≡ 0x10 → v ≡ z → z ≡ signed64 (number (bytesAt m (p + 4) 8) 0) → Integer v ≡ valueAt m p (byte m p)
@@ -33,3 +37,18 @@ module _ (m : List ℕ) (p : ℕ) where
   pub constant-read : {l : ℕ} {k : Labels} {v : Value} → l ≡ byte m (p + 3) → k ≡ oneLabel l → v ≡ valueAt m p (byte m p) → _≡_ {A = Labelled} (record { value = v; labels = k }) (ofConstant (constantAt m p))
   unfolding ofConstant constantAt
   constant-read a b c = rw (c, b, a)
+
+-- ---- The ways of `constant`
+
+module _ (m w : List ℕ) (p : ℕ) {label : ℕ} {b : Bool} (labelled : label ≡ byte m (p + 3)) (struck : b ≡ struckAt w label p) where
+  its-strike : struckIn w (constantAt m p) ≡ b
+  unfolding struckIn constantAt
+  its-strike = ap (λ (n : ℕ). struckAt w n p) (sym labelled) ∙ sym struck
+
+  pub constant-struck : {o : Outcome Labelled} → b ≡ true → o ≡ refused Malformed p → o ≡ constantIn w (constantAt m p)
+  unfolding constantIn constantAt refuseIf _>>=_
+  constant-struck is e = rw (its-strike ∙ is) e
+
+  pub constant-kept : {x : Labelled} → b ≡ false → x ≡ ofConstant (constantAt m p) → done x ≡ constantIn w (constantAt m p)
+  unfolding constantIn refuseIf _>>=_
+  constant-kept is e = rw (its-strike ∙ is) (ap done e)

@@ -1,15 +1,15 @@
 -- The ways of `evaluate` and `variable_read`: by the tag. Assumes nothing.
 use Prim.Native.Nat.{ℕ, suc, _+_, _-_, _≤_, _<_}
 use mathlib.Core.Path.{_≡_, refl, sym, ap, _∙_, subst}
-use mathlib.Core.Bool.{true, false}
+use mathlib.Core.Bool.{true, false, Bool}
 use mathlib.Core.List.{List, [], _∷_}
 use native.Mathlib.Omega.{arith}
 use Rattle.values.specs.declared.Labelled.{Labelled}
 use Rattle.wire.specs.Bytes.{byte, two}
-use Rattle.rules.specs.Outcome.{Outcome, done}
+use Rattle.rules.specs.Outcome.{Outcome, done, _>>=_, refuseIf}
 use Rattle.rules.specs.Format.{allowed}
 use Rattle.rules.specs.State.{Known, upward, scopesTried}
-use Rattle.rules.specs.Evaluate.{readIn, ofConstant, evaluate}
+use Rattle.rules.specs.Evaluate.{readIn, ofConstant, evaluate, comeTo}
 use Rattle.rules.specs.declared.Kind.the-variants.{Expression as ExpressionKind, Constant as ConstantKind}
 use Rattle.places.specs.At.{constantAt, expressionAt, StandsAs}
 use Rattle.places.proofs.Tags.{IsConstantTag, integerTag, stringTag, booleanTag, constant-kind, IsExpressionTag, constantTag, variableTag, topVariableTag, classVariableTag, operationTag, negationTag, attributeReadTag, selectorTag, expression-tag}
@@ -22,11 +22,12 @@ use Rattle.memory.specs.declared.Scope.{Scope}
 use Rattle.memory.specs.Contexts.{contextIn}
 use Rattle.evaluator.specs.declared.Evaluated.the-variants.{Value as Yields}
 use Rattle.evaluator.specs.Answers.{evaluated}
-use Rattle.evaluator.specs.Known.{KnownIn, Tells, classRead}
+use Rattle.evaluator.specs.Known.{KnownIn, Tells, classRead, constantIn}
 use Rattle.evaluator.proofs.Reading.{read-one}
+use Rattle.values.specs.declared.Reason.the-variants.{Malformed}
 
 -- the tags of constants are below the others
-constant-below : (t : ℕ) → IsExpressionTag t → t < 0x13 → allowed ConstantKind t ≡ true
+pub constant-below : (t : ℕ) → IsExpressionTag t → t < 0x13 → allowed ConstantKind t ≡ true
 constant-below t (constantTag c) l = constant-kind c
 constant-below t variableTag l = absurd (omega arith)
 constant-below t topVariableTag l = absurd (omega arith)
@@ -42,7 +43,7 @@ constant-small t stringTag = omega arith
 constant-small t booleanTag = omega arith
 
 -- the last one
-selector-last : (t : ℕ) → IsExpressionTag t → 0x16 ≤ t → (t ≡ 0x16 → ⊥) → (t ≡ 0x17 → ⊥) → (t ≡ 0x18 → ⊥) → t ≡ 0x19
+pub selector-last : (t : ℕ) → IsExpressionTag t → 0x16 ≤ t → (t ≡ 0x16 → ⊥) → (t ≡ 0x17 → ⊥) → (t ≡ 0x18 → ⊥) → t ≡ 0x19
 selector-last t (constantTag c) l n6 n7 n8 = absurd (omega (arith, constant-small t c))
 selector-last t variableTag l n6 n7 n8 = absurd (omega arith)
 selector-last t topVariableTag l n6 n7 n8 = absurd (omega arith)
@@ -61,11 +62,11 @@ module _ (m w out : List ℕ) (fill : ℕ) (scope : Scope) (d p : ℕ) where
   no-level z s = absurd (omega (arith, level (s .stands)))
 
   module _ {t : ℕ} (tag : t ≡ byte m p) where
-    pub says-constant : {x : Labelled} → t < 0x13 → x ≡ ofConstant (constantAt m p) → StandsAs m d ExpressionKind p → Said (evaluated (Yields x))
-    unfolding evaluate evaluated
+    pub says-constant : {a : Outcome Labelled} → t < 0x13 → a ≡ constantIn w (constantAt m p) → StandsAs m d ExpressionKind p → Said a
+    unfolding evaluate comeTo constantIn stateOf constantAt _>>=_ refuseIf
     says-constant l e s =
         let tree = constant-opens (record { stands = s .stands; kind = constant-below (byte m p) (expression-tag (byte m p) (s .kind)) (omega (arith, tag)) }) in
-        record { says = λ k path es n r h. ap done e ∙ sym (ap (evaluate k (contextIn scope path) (stateOf w es n r)) tree) }
+        record { says = λ k path es n r h. e ∙ ap (λ (b : Bool). refuseIf b Malformed p >>= λ _. done (ofConstant (constantAt m p))) (sym (h .known .struck (constantAt m p))) ∙ sym (ap (evaluate k (contextIn scope path) (stateOf w es n r)) tree) }
 
     pub says-variable : {n : ℕ} {a : Outcome Labelled} → t ≡ 0x13 → n ≡ two m (p + 3) → a ≡ readIn p (cellsOf w) n (upward 1026 (classesOf w) (baseFor (scope .«base_is_node»)) (scopeOf (scope .number))) → StandsAs m d ExpressionKind p → Said a
     unfolding evaluate scopesTried stateOf

@@ -8,7 +8,7 @@ use native.Mathlib.Omega.{arith}
 use borrow.Author.Tests.{ne-eqb, le-ltb}
 use lib.Dec.{eqb}
 use Rattle.wire.specs.Bytes.{pick, byte}
-use Rattle.rules.specs.Tree.{TypeDefinition, ClassDefinition}
+use Rattle.rules.specs.Tree.{TypeDefinition, ClassDefinition, Constant}
 use Rattle.rules.specs.State.{Known, isSome}
 use Rattle.rules.specs.Evaluate.{findType, findClass, isType, isClass}
 use Rattle.rules.specs.Compile.{onto}
@@ -19,6 +19,7 @@ use Rattle.cells.specs.Layout.{table, blankRecord, recordsOf}
 use Rattle.cells.specs.Memory.{definitionIn, builtInIn, definitionOf, builtInOf}
 use Rattle.catalog_index.specs.Index.{Indexed}
 use Rattle.evaluator.specs.Known.{DefinedAt, undefined, typeAt, classAt, KnownIn, Ready, definedTag}
+use Rattle.memory.specs.Words.{struckIn}
 
 -- ---- A name's record
 
@@ -85,9 +86,9 @@ module _ (m w : List ℕ) (n : ℕ) where
 
 -- ---- Before the first item runs
 
-pub known-first : (m w : List ℕ) (k : Known) → k .definitions ≡ [] → ((n : ℕ) → k .builtIn n ≡ builtInOf w n) → ((n : ℕ) → definitionOf w n ≡ 0) → KnownIn m w k
+pub known-first : (m w : List ℕ) (k : Known) → k .definitions ≡ [] → ((n : ℕ) → k .builtIn n ≡ builtInOf w n) → ((n : ℕ) → definitionOf w n ≡ 0) → ((v : Constant) → k .struckOut v ≡ struckIn w v) → KnownIn m w k
 unfolding findType findClass
-known-first m w k none-yet builtIns none-there = record { builtIns = builtIns; definitions = λ n. rw none-yet (undefined (none-there n)) }
+known-first m w k none-yet builtIns none-there struck = record { builtIns = builtIns; definitions = λ n. rw none-yet (undefined (none-there n)); struck = struck }
 
 -- with no entry yet
 pub ready-first : (m w out : List ℕ) {k : Known} → KnownIn m w k → Indexed w [] → Ready m w out 0 k []

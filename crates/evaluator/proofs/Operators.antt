@@ -54,7 +54,7 @@ entry-past : {A : Type 0} (k : ℕ) (v : A) (xs : List (ℕ × A)) (d : A) (n : 
 unfolding entryFor
 entry-past k v xs d n h = ap (λ (b : Bool). elim b [ true ↦ v | false ↦ entryFor xs d n ]) (ne-eqb n k h)
 
-operator-or : (n : ℕ) → 6 ≤ n → operatorFrom n ≡ or
+pub operator-or : (n : ℕ) → 6 ≤ n → operatorFrom n ≡ or
 unfolding operatorFrom operators entryFor
 operator-or n h =
     entry-past 0 plus ((1, minus) ∷ (2, divide) ∷ (3, greater) ∷ (4, equal) ∷ (5, and) ∷ (6, or) ∷ []) or n (λ e. omega arith)
@@ -95,7 +95,7 @@ pub begins-equal : (n : ℕ) (x : Value) → n ≡ 4 → Open ≡ begin (operato
 unfolding operatorFrom operators entryFor begin
 begins-equal n x e = rw e
 
-operator-and : (n : ℕ) → n ≡ 5 → operatorFrom n ≡ and
+pub operator-and : (n : ℕ) → n ≡ 5 → operatorFrom n ≡ and
 unfolding operatorFrom operators entryFor
 operator-and n e = rw e
 

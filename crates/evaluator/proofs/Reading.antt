@@ -45,7 +45,7 @@ use Rattle.evaluator.specs.Known.{KnownIn, Ready, classRead, attributeOf
 use Rattle.evaluator.proofs.Outcomes.{joining-none, joining-both}
 use Rattle.evaluator.proofs.Operators.{not-string}
 
-no-value : (o : Option Labelled) → isSome o ≡ false → o ≡ none
+pub no-value : (o : Option Labelled) → isSome o ≡ false → o ≡ none
 unfolding isSome
 no-value none e = refl
 no-value (some x) e = absurd (false≢true (sym e))
@@ -55,28 +55,36 @@ unfoldable pub above : (classes : ℕ → Option DeclaredClass) → Base → (le
 above classes b left none = []
 above classes b left (some t) = upward left classes b t
 
-module _ (p : ℕ) (cells : Cells) (n : ℕ) (classes : ℕ → Option DeclaredClass) (b : Base) where
-  abbrev reading : (left : ℕ) → Scope → Outcome Labelled
-  reading left s = readIn p cells n (upward left classes b s)
-
+module _ (classes : ℕ → Option DeclaredClass) (b : Base) where
   -- one scope more
-  read-step : (left : ℕ) (s : Scope) → 0 < left → reading left s ≡ joining (cells s n .mark) (orElse (cells s n .value) (readIn p cells n (above classes b (left - 1) (parentOf classes b s))))
-  unfolding upward readIn above
-  read-step zero s h = absurd (omega arith)
-  read-step (suc k) s h = ap (λ (ss : List Scope). joining (cells s n .mark) (orElse (cells s n .value) (readIn p cells n ss))) (go (parentOf classes b s) ∙ ap (λ (j : ℕ). above classes b j (parentOf classes b s)) (sym (sub-one (suc k))))
+  pub upward-step : (left : ℕ) (s : Scope) → 0 < left → upward left classes b s ≡ s ∷ above classes b (left - 1) (parentOf classes b s)
+  unfolding upward above
+  upward-step zero s h = absurd (omega arith)
+  upward-step (suc k) s h = ap (λ (ss : List Scope). s ∷ ss) (go (parentOf classes b s) ∙ ap (λ (j : ℕ). above classes b j (parentOf classes b s)) (sym (sub-one (suc k))))
     where
       go : (o : Option Scope) → (elim o [ none ↦ [] | some t ↦ upward k classes b t ]) ≡ above classes b k o
       go none = refl
       go (some t) = refl
 
   -- only one scope
-  pub read-one : (s : Scope) → reading 1 s ≡ readIn p cells n (s ∷ [])
+  pub upward-one : (s : Scope) → upward 1 classes b s ≡ s ∷ []
   unfolding upward
-  read-one s = ap (λ (ss : List Scope). readIn p cells n (s ∷ ss)) (go (parentOf classes b s))
+  upward-one s = ap (λ (ss : List Scope). s ∷ ss) (go (parentOf classes b s))
     where
       go : (o : Option Scope) → _≡_ {A = List Scope} (elim o [ none ↦ [] | some t ↦ [] ]) []
       go none = refl
       go (some t) = refl
+
+module _ (p : ℕ) (cells : Cells) (n : ℕ) (classes : ℕ → Option DeclaredClass) (b : Base) where
+  abbrev reading : (left : ℕ) → Scope → Outcome Labelled
+  reading left s = readIn p cells n (upward left classes b s)
+
+  read-step : (left : ℕ) (s : Scope) → 0 < left → reading left s ≡ joining (cells s n .mark) (orElse (cells s n .value) (readIn p cells n (above classes b (left - 1) (parentOf classes b s))))
+  unfolding readIn
+  read-step left s h = ap (readIn p cells n) (upward-step classes b left s h)
+
+  pub read-one : (s : Scope) → reading 1 s ≡ readIn p cells n (s ∷ [])
+  read-one s = ap (readIn p cells n) (upward-one classes b s)
 
   -- what the scopes above s give, if `left` counts s
   abbrev pub beyond : (left : ℕ) → Scope → Outcome Labelled

@@ -7,12 +7,12 @@ use lib.ListN.{length}
 use Rattle.values.specs.declared.Value.{Value}
 use Rattle.values.specs.declared.Labelled.{Labelled}
 use Rattle.values.specs.declared.Refusal.{Refusal}
-use Rattle.values.specs.declared.Reason.the-variants.{NoMatch}
+use Rattle.values.specs.declared.Reason.the-variants.{NoMatch, Malformed}
 use Rattle.wire.specs.Bytes.{endOf, fieldsIn}
 use Rattle.rules.specs.Outcome.{Outcome, refused, _>>=_, joining}
-use Rattle.rules.specs.Tree.{Expression, Arms, arm, defaultArm}
-use Rattle.rules.specs.Patterns.{Patterns, constantPattern, defaultPattern}
-use Rattle.rules.specs.State.{State, Context, Known}
+use Rattle.rules.specs.Tree.{Expression, Arms, arm, defaultArm, Constant}
+use Rattle.rules.specs.Patterns.{Patterns, constantPattern, defaultPattern, chosen, tried, labelsOf, triedLabels}
+use Rattle.rules.specs.State.{State, Context, Known, Entry}
 use Rattle.rules.specs.Evaluate.{select, evaluate, armPatterns}
 use Rattle.rules.specs.declared.Kind.{Kind}
 use Rattle.rules.specs.declared.Kind.the-variants.{Expression as ExpressionKind, Arm}
@@ -32,9 +32,13 @@ use Rattle.memory.specs.Contexts.{contextIn}
 use Rattle.evaluator.specs.declared.Evaluated.{Evaluated}
 use Rattle.evaluator.specs.declared.Evaluated.the-variants.{Value as Yields, Refused}
 use Rattle.evaluator.specs.Answers.{evaluated}
-use Rattle.evaluator.specs.Known.{Tells}
+use Rattle.evaluator.specs.Known.{Tells, Ready}
 use Rattle.evaluator.proofs.Outcomes.{_▷_}
 use Rattle.evaluator.proofs.Expressions.{Run, Small, operand-told, then-stops, then-goes-on}
+use Rattle.labels.specs.declared.Labels.{Labels}
+use Rattle.memory.specs.Words.{struckIn}
+use Rattle.patterns.specs.Struck.{firstStruck}
+use Rattle.patterns.proofs.Struck.{cameTo, come-to-all}
 
 -- ---- Arms
 
@@ -44,9 +48,13 @@ armFor m b p k c st (At q) = evaluate k c st (expressionAt m b q)
 armFor m b p k c st Nothing = refused NoMatch p
 
 -- and its expression stands there
-unfoldable armStands : List ℕ → (b : ℕ) → Choice → Type 0
+unfoldable pub armStands : List ℕ → (b : ℕ) → Choice → Type 0
 armStands m b (At q) = StandsAs m b ExpressionKind q
 armStands m b Nothing = Unit {0}
+
+-- what a selector gives after the patterns tried
+unfoldable selected : Patterns (Outcome Labelled) → (place : ℕ) → Value → Outcome Labelled
+selected ps p x = joining (triedLabels ps x) (chosen ps x (refused NoMatch p))
 
 module _ (m : List ℕ) (d p : ℕ) (k : Known) (c : Context) (st : State) where
   -- the arms at their places
@@ -58,40 +66,65 @@ module _ (m : List ℕ) (d p : ℕ) (k : Known) (c : Context) (st : State) where
       let after : Arms = armsAt m d qs in
       mapped-first (armPatterns k c st) (armFor m (d - 1) p k c st) m q qs (defaultArm e after) (arm (constantAt m (q + 3)) e after) (ap (defaultPattern (evaluate k c st e)) (arms-at qs)) (ap (constantPattern (constantAt m (q + 3)) (evaluate k c st e)) (arms-at qs))
 
-  selects : {first end : ℕ} {x : Value} {r : Matched} → Matches m first end x r → joining (r .labels) (armFor m (d - 1) p k c st (r .at)) ≡ select (armPatterns k c st (armsAt m d (fieldsIn m first end))) p x
-  unfolding select armFor
+  selects : {first end : ℕ} {x : Value} {r : Matched} → Matches m first end x r → joining (r .labels) (armFor m (d - 1) p k c st (r .at)) ≡ selected (armPatterns k c st (armsAt m d (fieldsIn m first end))) p x
+  unfolding selected triedLabels armFor
   selects {first} {end} {x} i =
       let ps : Patterns Choice = patternsAt m (fieldsIn m first end) in
       let f = armFor m (d - 1) p k c st in
-      ap₂ joining (i .labels ∙ sym (tried-mapped f ps x)) (ap f (i .at) ∙ sym (chosen-mapped f ps x Nothing))
-      ∙ ap (λ (qs : Patterns (Outcome Labelled)). select qs p x) (sym (arms-at (fieldsIn m first end)))
+      ap₂ joining (i .labels ∙ ap labelsOf (sym (tried-mapped f ps x))) (ap f (i .at) ∙ sym (chosen-mapped f ps x Nothing))
+      ∙ ap (λ (qs : Patterns (Outcome Labelled)). selected qs p x) (sym (arms-at (fieldsIn m first end)))
+
+  -- the patterns tried, then what is chosen
+  select-comes : (w : List ℕ) (first end : ℕ) (x : Value) {s : Choice} → ((v : Constant) → k .struckOut v ≡ struckIn w v) → s ≡ firstStruck w (tried (patternsAt m (fieldsIn m first end)) x)
+      → (cameTo s >>= λ _. selected (armPatterns k c st (armsAt m d (fieldsIn m first end))) p x) ≡ select k (armPatterns k c st (armsAt m d (fieldsIn m first end))) p x
+  unfolding select selected
+  select-comes w first end x known e =
+      let ps : Patterns Choice = patternsAt m (fieldsIn m first end) in
+      let qs : Patterns (Outcome Labelled) = armPatterns k c st (armsAt m d (fieldsIn m first end)) in
+      let same : tried qs x ≡ tried ps x = ap (λ (rs : Patterns (Outcome Labelled)). tried rs x) (arms-at (fieldsIn m first end)) ∙ tried-mapped (armFor m (d - 1) p k c st) ps x in
+      ap (λ (o : Outcome (Unit {0})). o >>= λ _. selected qs p x) (ap cameTo (e ∙ ap (firstStruck w) (sym same)) ∙ sym (come-to-all k w known (tried qs x)))
 
 -- the arm chosen stands
-arm-stands : {m : List ℕ} {d first end : ℕ} {x : Value} {r : Matched} → Siblings m d Arm first end → Matches m first end x r → armStands m (d - 1) (r .at)
+pub arm-stands : {m : List ℕ} {d first end : ℕ} {x : Value} {r : Matched} → Siblings m d Arm first end → Matches m first end x r → armStands m (d - 1) (r .at)
 unfolding armStands
 arm-stands {m} {d} {x = x} s i =
     rw (i .at) (chosen-holds (armStands m (d - 1)) (every-follows (λ q y. armStands m (d - 1) y) (λ q l h. arm-opens h (level (h .stands)) .expression) (λ q y l h. h) s) x tt)
 
 -- ---- The ways of `choose`
 
-module _ (m w out : List ℕ) (fill : ℕ) (scope : Scope) (d p : ℕ) {first end : ℕ} {x : Value} {r : Matched} (i : Matches m first end x r) where
-  pub choosing-fails : {o : Outcome Labelled} → r .at ≡ Nothing → o ≡ refused NoMatch p → Tells m w out fill scope o (λ k c st. select (armPatterns k c st (armsAt m d (fieldsIn m first end))) p x)
-  unfolding armFor joining _>>=_
-  choosing-fails is e = record { says = λ k path es n v h. e ∙ ap (λ (y : Choice). joining (r .labels) (armFor m (d - 1) p k (contextIn scope path) (stateOf w es n v) y)) (sym is) ∙ selects m d p k (contextIn scope path) (stateOf w es n v) i }
+module _ (m w out : List ℕ) (fill : ℕ) (scope : Scope) (d p first end : ℕ) (x : Value) {s : Choice} (found : s ≡ firstStruck w (tried (patternsAt m (fieldsIn m first end)) x)) where
+  abbrev Selecting : Outcome Labelled → Type 0
+  Selecting o = Tells m w out fill scope o (λ k c st. select k (armPatterns k c st (armsAt m d (fieldsIn m first end))) p x)
 
-  pub choosing-ends : {b q j : ℕ} {g o : Outcome Labelled} → d ≡ suc b → length m ≤ 65535 → Siblings m d Arm first end → r .at ≡ At q → Small j q
-      → (StandsAs m b ExpressionKind j → Tells m w out fill scope g (λ k c st. evaluate k c st (expressionAt m b j))) → o ≡ joining (r .labels) g → Tells m w out fill scope o (λ k c st. select (armPatterns k c st (armsAt m d (fieldsIn m first end))) p x)
-  unfolding armFor armStands
-  choosing-ends {b} {q} above short s is small told joins =
-      let below : d - 1 ≡ b = omega arith in
-      let stands : StandsAs m b ExpressionKind q = rw below at (subst (armStands m (d - 1)) is (arm-stands s i)) in
-      let t = operand-told m w out fill scope b q short stands small told in
-      record {
-        says = λ k path es n v h.
-            let c = contextIn scope path in
-            let st = stateOf w es n v in
-            joins ∙ ap (joining (r .labels)) (t .says k path es n v h ∙ ap (λ (l : ℕ). evaluate k c st (expressionAt m l q)) (sym below) ∙ ap (armFor m (d - 1) p k c st) (sym is)) ∙ selects m d p k c st i;
-      }
+  pub choosing-struck : {q : ℕ} {o : Outcome Labelled} → s ≡ At q → o ≡ refused Malformed q → Selecting o
+  unfolding cameTo _>>=_
+  choosing-struck is e = record { says = λ k path es n v h. e ∙ (λ j. cameTo (sym is j) >>= λ _. selected (armPatterns k (contextIn scope path) (stateOf w es n v) (armsAt m d (fieldsIn m first end))) p x) ∙ select-comes m d p k (contextIn scope path) (stateOf w es n v) w first end x (h .known .struck) found }
+
+  -- with none struck out
+  none-struck : (none : s ≡ Nothing) {k : Known} (path : Labels) {es : List Entry} (n v : ℕ) → Ready m w out fill k es
+      → selected (armPatterns k (contextIn scope path) (stateOf w es n v) (armsAt m d (fieldsIn m first end))) p x ≡ select k (armPatterns k (contextIn scope path) (stateOf w es n v) (armsAt m d (fieldsIn m first end))) p x
+  unfolding cameTo _>>=_
+  none-struck none {k} path {es} n v h =
+      (λ j. cameTo (sym none j) >>= λ _. selected (armPatterns k (contextIn scope path) (stateOf w es n v) (armsAt m d (fieldsIn m first end))) p x) ∙ select-comes m d p k (contextIn scope path) (stateOf w es n v) w first end x (h .known .struck) found
+
+  module _ (none : s ≡ Nothing) {r : Matched} (i : Matches m first end x r) where
+    pub choosing-fails : {o : Outcome Labelled} → r .at ≡ Nothing → o ≡ refused NoMatch p → Selecting o
+    unfolding armFor joining _>>=_
+    choosing-fails is e = record { says = λ k path es n v h. e ∙ ap (λ (y : Choice). joining (r .labels) (armFor m (d - 1) p k (contextIn scope path) (stateOf w es n v) y)) (sym is) ∙ selects m d p k (contextIn scope path) (stateOf w es n v) i ∙ none-struck none path n v h }
+
+    pub choosing-ends : {b q j : ℕ} {g o : Outcome Labelled} → d ≡ suc b → length m ≤ 65535 → Siblings m d Arm first end → r .at ≡ At q → Small j q
+        → (StandsAs m b ExpressionKind j → Tells m w out fill scope g (λ k c st. evaluate k c st (expressionAt m b j))) → o ≡ joining (r .labels) g → Selecting o
+    unfolding armFor armStands
+    choosing-ends {b} {q} above short s is small told joins =
+        let below : d - 1 ≡ b = omega arith in
+        let stands : StandsAs m b ExpressionKind q = rw below at (subst (armStands m (d - 1)) is (arm-stands s i)) in
+        let t = operand-told m w out fill scope b q short stands small told in
+        record {
+          says = λ k path es n v h.
+              let c = contextIn scope path in
+              let st = stateOf w es n v in
+              joins ∙ ap (joining (r .labels)) (t .says k path es n v h ∙ ap (λ (l : ℕ). evaluate k c st (expressionAt m l q)) (sym below) ∙ ap (armFor m (d - 1) p k c st) (sym is)) ∙ selects m d p k c st i ∙ none-struck none path n v h;
+        }
 
 -- ---- Selectors
 
@@ -99,14 +132,14 @@ module _ (m w out : List ℕ) (fill : ℕ) (scope : Scope) (d p : ℕ) {first en
 pub selector-deep : {m : List ℕ} {d b p : ℕ} → SelectorAt m d b p → b ≡ 0 → ⊥
 selector-deep o z = omega (arith, level (first-sibling (o .arms) (o .some) .here .stands))
 
-siblings-within : {m : List ℕ} {d : ℕ} {k : Kind} {q e : ℕ} → Siblings m d k q e → q < e → e ≤ length m
+pub siblings-within : {m : List ℕ} {d : ℕ} {k : Kind} {q e : ℕ} → Siblings m d k q e → q < e → e ≤ length m
 siblings-within ended l = absurd (omega arith)
 siblings-within (sibling l s ended) h = s .stands .ends
 siblings-within (sibling l s (sibling l′ s′ r)) h = siblings-within (sibling l′ s′ r) l′
 
 module _ (m w out : List ℕ) (fill : ℕ) (scope : Scope) {d b p : ℕ} (o : SelectorAt m d b p) (short : length m ≤ 65535) where
   abbrev chosenHere : Value → Run
-  chosenHere x k c st = select (armPatterns k c st (armsAt m b (fieldsIn m (endOf m (p + 3)) (endOf m p)))) p x
+  chosenHere x k c st = select k (armPatterns k c st (armsAt m b (fieldsIn m (endOf m (p + 3)) (endOf m p)))) p x
 
   selector-means : (k : Known) (c : Context) (st : State) → (evaluate k c st (expressionAt m b (p + 3)) ▷ λ x. chosenHere x k c st) ≡ evaluate k c st (expressionAt m d p)
   unfolding evaluate _▷_
@@ -117,10 +150,10 @@ module _ (m w out : List ℕ) (fill : ℕ) (scope : Scope) {d b p : ℕ} (o : Se
     selector-stops is = then-stops m w out fill scope (λ k c st x. chosenHere x k c st) selector-means (operand-told m w out fill scope b (p + 3) short (o .scrutinee) small told) is
 
     pub selector-goes-on : (x : Labelled) {f e r : ℕ} {g i : Outcome Labelled} → (b ≡ 0 → ⊥) → a ≡ Yields x → f ≡ endOf m (p + 3) → e ≡ endOf m p → Small r e
-        → ((n : ℕ) → n ≡ suc (b - 1) → Siblings m n Arm f r → Tells m w out fill scope g (λ k c st. select (armPatterns k c st (armsAt m n (fieldsIn m f r))) p (x .value))) → i ≡ joining (x .labels) g
+        → ((n : ℕ) → n ≡ suc (b - 1) → Siblings m n Arm f r → Tells m w out fill scope g (λ k c st. select k (armPatterns k c st (armsAt m n (fieldsIn m f r))) p (x .value))) → i ≡ joining (x .labels) g
         → Tells m w out fill scope i (λ k c st. evaluate k c st (expressionAt m d p))
     selector-goes-on x {f} {e} {r} {g} deep is first-is end-is near chosen joined =
         let same : r ≡ endOf m p = near .1 (omega (arith, siblings-within (o .arms) (o .some))) ∙ end-is in
         then-goes-on m w out fill scope (λ k c st x. chosenHere x k c st) selector-means x (operand-told m w out fill scope b (p + 3) short (o .scrutinee) small told) is
-        (subst (λ (n : ℕ). Siblings m b Arm n (endOf m p) → Tells m w out fill scope g (λ k c st. select (armPatterns k c st (armsAt m b (fieldsIn m n (endOf m p)))) p (x .value))) first-is
-        (subst (λ (n : ℕ). Siblings m b Arm f n → Tells m w out fill scope g (λ k c st. select (armPatterns k c st (armsAt m b (fieldsIn m f n))) p (x .value))) same (chosen b (omega arith))) (o .arms)) joined
+        (subst (λ (n : ℕ). Siblings m b Arm n (endOf m p) → Tells m w out fill scope g (λ k c st. select k (armPatterns k c st (armsAt m b (fieldsIn m n (endOf m p)))) p (x .value))) first-is
+        (subst (λ (n : ℕ). Siblings m b Arm f n → Tells m w out fill scope g (λ k c st. select k (armPatterns k c st (armsAt m b (fieldsIn m f n))) p (x .value))) same (chosen b (omega arith))) (o .arms)) joined

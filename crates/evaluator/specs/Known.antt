@@ -10,17 +10,18 @@ use Rattle.labels.specs.declared.Labels.{Labels}
 use Rattle.values.specs.declared.Value.{Value}
 use Rattle.values.specs.declared.Labelled.{Labelled}
 use Rattle.wire.specs.Bytes.{pick, byte}
-use Rattle.values.specs.declared.Reason.the-variants.{Unknown}
-use Rattle.rules.specs.Outcome.{Outcome, _>>=_, refuseIf, at}
+use Rattle.values.specs.declared.Reason.the-variants.{Malformed, Unknown}
+use Rattle.rules.specs.Outcome.{Outcome, done, _>>=_, refuseIf, at}
 use Rattle.rules.specs.Arithmetic.{stringIn}
-use Rattle.rules.specs.Tree.{TypeDefinition, ClassDefinition, typeDefinition, classDefinition, definition}
+use Rattle.rules.specs.Tree.{Constant, TypeDefinition, ClassDefinition, typeDefinition, classDefinition, definition}
 use Rattle.rules.specs.State.{Entry, State, Context, Known, Cells, classScope}
-use Rattle.rules.specs.Evaluate.{findType, findClass, isType, isClass, readIn, readAttribute}
+use Rattle.rules.specs.Evaluate.{findType, findClass, isType, isClass, ofConstant, readIn, readAttribute}
 use Rattle.rules.specs.Compile.{onto}
 use Rattle.rules.specs.declared.Kind.the-variants.{Item}
 use Rattle.rules.specs.Once.{UniqueEntries}
 use Rattle.places.specs.At.{itemAt, StandsAs}
 use Rattle.cells.specs.Memory.{definitionOf, builtInOf, stateOf}
+use Rattle.memory.specs.Words.{struckIn}
 use Rattle.memory.specs.declared.Scope.{Scope}
 use Rattle.memory.specs.Contexts.{contextIn}
 use Rattle.catalog.specs.Finding.{Written}
@@ -32,10 +33,11 @@ pub data DefinedAt (m : List ℕ) (p : ℕ) : Option TypeDefinition → Option C
   typeAt : {d : TypeDefinition} → 0 < p → StandsAs m 32 Item p → byte m p ≡ 0x32 → itemAt m p ≡ definition (typeDefinition d) → DefinedAt m p (some d) none
   classAt : {d : ClassDefinition} → 0 < p → StandsAs m 32 Item p → byte m p ≡ 0x34 → itemAt m p ≡ definition (classDefinition d) → DefinedAt m p none (some d)
 
--- the names in the working memory w are what is known so far
+-- the names in the working memory w are what is known so far, and its words say what is struck out
 pub record KnownIn (m w : List ℕ) (k : Known) : Type 0 where
   pub builtIns : (n : ℕ) → k .builtIn n ≡ builtInOf w n
   pub definitions : (n : ℕ) → DefinedAt m (definitionOf w n) (findType n (k .definitions)) (findClass n (k .definitions))
+  pub struck : (v : Constant) → k .struckOut v ≡ struckIn w v
 
 -- the memory w and the output up to `fill` stand for what is known and the entries es, the latest first; the memory has an index over them
 pub record Ready (m w out : List ℕ) (fill : ℕ) (k : Known) (es : List Entry) : Type 0 where
@@ -53,6 +55,10 @@ unfoldable pub definedTag : (m w : List ℕ) → (name : ℕ) → ℕ
 definedTag m w n = pick (eqb (definitionOf w n) 0) 0 (byte m (definitionOf w n))
 
 -- ---- The parts of `evaluate` that need no other expression
+
+-- a constant, if the memory w has none struck out or another
+unfoldable pub constantIn : (w : List ℕ) → Constant → Outcome Labelled
+constantIn w v = refuseIf (struckIn w v) Malformed (v .place) >>= λ _. done (ofConstant v)
 
 -- a class variable: its class q, its name n
 unfoldable pub classRead : Known → (place : ℕ) → Cells → (q n : ℕ) → Outcome Labelled

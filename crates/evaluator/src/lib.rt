@@ -18,7 +18,7 @@ ghost use Rattle.cells.specs.Memory.{cellsOf, classesOf, baseFor};
 ghost use Rattle.evaluator.specs.Answers.{evaluated};
 ghost use Rattle.evaluator.specs.Operators.{beginInteger, beginBoolean, arithmetic, bothIntegers, rightBoolean, resultOf, computedAt};
 ghost use Rattle.evaluator.specs.Operators as operators;
-ghost use Rattle.evaluator.specs.Known.{KnownIn, Ready, Tells, Sized, definedTag, classRead, attributeOf};
+ghost use Rattle.evaluator.specs.Known.{KnownIn, Ready, Tells, Sized, definedTag, constantIn, classRead, attributeOf};
 use labels::Labels;
 use memory::Scope;
 use patterns::Choice;
@@ -82,6 +82,17 @@ pub fn constant_at(m: &[u8], p: usize) -> Labelled
     let labels = Labels::one(wire::byte_at(m, p + 3));
     let value = value_at(m, p);
     Labelled { value, labels }
+}
+
+// The constant at p, unless it is struck out.
+fn constant(m: &[u8], p: usize, work: &[u8]) -> Evaluated
+    requires { ⌜ (65536 ≤ length (now work)) × (p ≤ 65535) ⌝ }
+    ensures { λ r. ⌜ evaluated r ≡ constantIn (now (work .entry)) (constantAt (now (m .entry)) p) ⌝ }
+{
+    if memory::is_struck_out(work, wire::byte_at(m, p + 3), p) {
+        return Evaluated::Refused(Refusal::at(Reason::Malformed, p));
+    }
+    Evaluated::Value(constant_at(m, p))
 }
 
 // ---- Operators
@@ -441,8 +452,13 @@ fn choose(
     scope: Scope,
 ) -> Evaluated
     requires { ⌜ (Sized (now m) (now work) (now out) fill p) × (end ≤ 65535) ⌝ }
-    ensures { λ r. ⌜ ((d : ℕ) → d ≡ suc inner → Siblings (now (m .entry)) d Arm first end → Tells (now (m .entry)) (now (work .entry)) (now (out .entry)) fill scope (evaluated r) (λ k c st. rules.select (rules.armPatterns k c st (armsAt (now (m .entry)) d (fieldsIn (now (m .entry)) first end))) p x)) ⌝ }
+    ensures { λ r. ⌜ ((d : ℕ) → d ≡ suc inner → Siblings (now (m .entry)) d Arm first end → Tells (now (m .entry)) (now (work .entry)) (now (out .entry)) fill scope (evaluated r) (λ k c st. rules.select k (rules.armPatterns k c st (armsAt (now (m .entry)) d (fieldsIn (now (m .entry)) first end))) p x)) ⌝ }
 {
+    let struck = patterns::struck_pattern(m, first, end, x, work);
+    match struck {
+        Choice::At(q) => return Evaluated::Refused(Refusal::at(Reason::Malformed, q)),
+        Choice::Nothing => {}
+    }
     let matched = patterns::try_patterns(m, first, end, x);
     let tried = matched.labels;
     let at = matched.at;
@@ -505,7 +521,7 @@ pub fn evaluate(
     let below = depth - 1;
     let tag = wire::byte_at(m, p);
     if tag < 0x13 {
-        return Evaluated::Value(constant_at(m, p));
+        return constant(m, p, work);
     }
     if tag < 0x16 {
         return variable_read(m, p, work, scope);

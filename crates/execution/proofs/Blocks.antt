@@ -70,7 +70,7 @@ first-runs {m} {d} {q} {e} {r} n s l h k c st = ap (λ (ps : List ℕ). runBlock
 module _ {m w₀ w out₀ out : List ℕ} {d n q e fill₀ fill left₀ left : ℕ} {c : Context} {whole : Known → Context → State → Outcome State} (i : ToRun m d n q e w₀ w out₀ out fill₀ fill left₀ left c whole) where
   pub block-ends : e ≤ q → Executes m w₀ w out₀ out fill₀ left₀ left c (Done fill) whole
   unfolding run statementsAt
-  block-ends l = i .closes (stops (i .able) (omega arith) λ k es s. record { entries = es; same = ap (λ (ps : List ℕ). runBlock k (declaration k n) (statementsAt m d ps) c (stateWith w out fill left es)) (no-sibling (i .siblings) l .places); stage = s })
+  block-ends l = i .closes (stops (i .able) (omega arith) λ k ask es s. record { entries = es; same = ap (λ (ps : List ℕ). runBlock k (declaration k n) (statementsAt m d ps) c (stateWith w out fill left es)) (no-sibling (i .siblings) l .places); stage = s })
 
   module _ (l : q < e) {a : Filled} {w′ out′ : List ℕ} {left′ : ℕ} (runs : Executes m w w′ out out′ fill left left′ c a (begun n q (statementAt m d q))) where
     pub block-stops : {why : Refusal} → a ≡ Refused why → Executes m w₀ w′ out₀ out′ fill₀ left₀ left′ c a whole

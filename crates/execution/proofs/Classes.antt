@@ -18,7 +18,7 @@ use Rattle.rules.specs.Outcome.{Outcome, refused, done, _>>=_, refuseIf, orRefu
 use Rattle.rules.specs.Tree.{Statement, include, Parent, ClassDefinition, classDefinition, definition}
 use Rattle.rules.specs.State.{Entry, State, Context, Known, isDeclared, takeStep}
 use Rattle.rules.specs.Evaluate.{findClass}
-use Rattle.rules.specs.Run.{Given, Declare, ofClass, included, evaluateAll, run, runBlock, declaration, declarationPlace, parentFirst, enterClass, parameterValues}
+use Rattle.rules.specs.Run.{Given, Declare, ofClass, included, evaluateAll, run, runBlock, declaration, declarationPlace, parentFirst, enterClass, parameterValues, takenDefaults}
 use Rattle.rules.specs.declared.Kind.the-variants.{Statement as StatementKind, Block as BlockKind, Attribute as AttributeKind}
 use Rattle.places.specs.At.{attributesAt, statementAt, blockAt, itemAt, parentAt, StandsAs, Siblings}
 use Rattle.places.proofs.Open.{level, header-within}
@@ -37,6 +37,7 @@ use Rattle.attributes.specs.Evaluated.{GivenIn, notGiven, given}
 use Rattle.attributes.proofs.Table.{gives-none}
 use Rattle.parameters.specs.Checked.{checkGiven}
 use Rattle.parameters.proofs.Laws.{checked-values}
+use Rattle.provenance.specs.Notes.{Question}
 use Rattle.resources.specs.declared.Filled.{Filled}
 use Rattle.resources.specs.declared.Filled.the-variants.{Done, Refused}
 use Rattle.declarations.specs.declared.Class.{Class}
@@ -50,6 +51,7 @@ use Rattle.execution.specs.Executed.{Able, Stage, stateWith, Ends, refus
 use Rattle.execution.proofs.Ends.{ended-done, ended-refused, ends-same, stage-kept, refuses, stops, goes-on, able-after}
 use Rattle.execution.proofs.Names.{known-in, name-small}
 use Rattle.execution.proofs.Types.{too-deep}
+use Rattle.memory.specs.Words.{StrikesAs}
 
 -- ---- Names and places
 
@@ -92,7 +94,7 @@ module _ {m : List ℕ} {d p : ℕ} (s : StandsAs m d StatementKind p) (tag : by
     class-refused {left} {path} {why} is = go (given-here is)
       where
         go : GivenIn m w out fill scope (d - 1) (p + 5) (endOf m p) t (NotGiven why) → Executes m w w out out fill left left (contextIn scope path) (Refused why) (λ k. run k (declaration k levels) (statementAt m d p))
-        go (notGiven tells) = refuses why (omega arith) (λ k es i. class-statement-runs k (declaration k levels) (contextIn scope path) _ ∙ ap (λ (o : Outcome (List Given)). o >>= λ gs. declaration k levels (ofClass p (two m (p + 3)) gs) (contextIn scope path) (stateWith w out fill left es)) (sym (tells .says k path es _ _ (i .ready))))
+        go (notGiven tells) = refuses why (omega arith) (λ k ask es i. class-statement-runs k (declaration k levels) (contextIn scope path) _ ∙ ap (λ (o : Outcome (List Given)). o >>= λ gs. declaration k levels (ofClass p (two m (p + 3)) gs) (contextIn scope path) (stateWith w out fill left es)) (sym (tells .says k path es _ _ (i .ready))))
 
     pub class-declares : {name left left′ : ℕ} {w′ out′ : List ℕ} {path : Labels} {a : Filled} → g ≡ AllGiven → name ≡ two m (p + 3)
         → ((gs : List Given) → Gives t gs → Alike m gs (fieldsIn m (p + 5) end) → (true ≡ false → gs ≡ []) → Executes m w w′ out out′ fill left left′ (contextIn scope path) a (λ k. declaration k levels (asked true p name gs)))
@@ -102,7 +104,7 @@ module _ {m : List ℕ} {d p : ℕ} (s : StandsAs m d StatementKind p) (tag : by
       where
         go : GivenIn m w out fill scope (d - 1) (p + 5) (endOf m p) t AllGiven → Executes m w w′ out out′ fill left left′ (contextIn scope path) a (λ k. run k (declaration k levels) (statementAt m d p))
         go (given gs gives alikes tells) =
-            goes-on (omega arith) (λ k es i. record {
+            goes-on (omega arith) (λ k ask es i. record {
               entries = es;
               stage = i;
               same = class-statement-runs k (declaration k levels) (contextIn scope path) _
@@ -129,10 +131,10 @@ module _ (m w : List ℕ) (levels p : ℕ) {name : ℕ} {b : Bool} (by-name : na
       ∙ ap (λ (y : Bool). elim y [ true ↦ done (stateWith w out fill left es) | false ↦ declaration k levels (included p name) c (stateWith w out fill left es) ]) (sym (told es _ _) ∙ is)
 
   pub include-declared : {out : List ℕ} {fill left : ℕ} {c : Context} → Able m w out fill → b ≡ true → Executes m w w out out fill left left c (Done fill) (λ k. run k (declaration k levels) (include p (two m (p + 3))))
-  include-declared {out} {fill} {left} {c} able is = stops able (omega arith) (λ k es g. record { entries = es; same = include-told out fill left k c es is; stage = g })
+  include-declared {out} {fill} {left} {c} able is = stops able (omega arith) (λ k ask es g. record { entries = es; same = include-told out fill left k c es is; stage = g })
 
   pub include-declares : {w′ out out′ : List ℕ} {fill left left′ : ℕ} {c : Context} {a : Filled} → b ≡ false → Executes m w w′ out out′ fill left left′ c a (λ k. declaration k levels (included p name)) → Executes m w w′ out out′ fill left left′ c a (λ k. run k (declaration k levels) (include p (two m (p + 3))))
-  include-declares {out = out} {fill = fill} {left = left} {c = c} is then = goes-on (omega arith) (λ k es g. record { entries = es; stage = g; same = include-told out fill left k c es is }) then
+  include-declares {out = out} {fill = fill} {left = left} {c = c} is then = goes-on (omega arith) (λ k ask es g. record { entries = es; stage = g; same = include-told out fill left k c es is }) then
 
 -- ---- The ways of `declare_class`
 
@@ -142,19 +144,19 @@ class-too-deep true p q gs z e = too-deep (ofClass p q gs) z e
 class-too-deep false p q gs z e = too-deep (included p q) z e
 
 -- the second look, and then the class's body
-looked : (again : Bool) → Known → (n p q : ℕ) → Checked → Context → State → Outcome State
-looked true k n p q x c st = refuseIf (isDeclared q st) DeclaredAgain p >>= λ _. enterClass k (declaration k n) (x .definition) (x .values) c st
-looked false k n p q x c st = elim (isDeclared q st) [ true ↦ done st | false ↦ enterClass k (declaration k n) (x .definition) (x .values) c st ]
+looked : (again : Bool) → Known → (n p q : ℕ) → List Given → Checked → Context → State → Outcome State
+looked true k n p q gs x c st = refuseIf (isDeclared q st) DeclaredAgain p >>= λ _. enterClass k (declaration k n) (x .definition) (takenDefaults (x .definition .parameters) gs) (x .values) c st
+looked false k n p q gs x c st = elim (isDeclared q st) [ true ↦ done st | false ↦ enterClass k (declaration k n) (x .definition) (takenDefaults (x .definition .parameters) gs) (x .values) c st ]
 
-asked-runs : (k : Known) (n p q : ℕ) (again : Bool) (gs : List Given) (c : Context) (st : State) → (again ≡ false → gs ≡ []) → declaration k (suc n) (asked again p q gs) c st ≡ (checkClass k again p q gs st >>= λ x. parentFirst k (declaration k n) (x .definition .parent) c st >>= looked again k n p q x c)
+asked-runs : (k : Known) (n p q : ℕ) (again : Bool) (gs : List Given) (c : Context) (st : State) → (again ≡ false → gs ≡ []) → declaration k (suc n) (asked again p q gs) c st ≡ (checkClass k again p q gs st >>= λ x. parentFirst k (declaration k n) (x .definition .parent) c st >>= looked again k n p q gs x c)
 unfolding asked looked
 asked-runs k n p q true gs c st empty = class-runs k n c st p q gs
-asked-runs k n p q false gs c st empty = include-runs k n c st p q ∙ ap (λ (gs : List Given). checkClass k false p q gs st >>= λ x. parentFirst k (declaration k n) (x .definition .parent) c st >>= looked false k n p q x c) (sym (empty refl))
+asked-runs k n p q false gs c st empty = include-runs k n c st p q ∙ ap (λ (gs : List Given). checkClass k false p q gs st >>= λ x. parentFirst k (declaration k n) (x .definition .parent) c st >>= looked false k n p q gs x c) (sym (empty refl))
 
-looked-new : (k : Known) (again : Bool) (n p q : ℕ) (x : Checked) (c : Context) (st : State) → isDeclared q st ≡ false → looked again k n p q x c st ≡ enterClass k (declaration k n) (x .definition) (x .values) c st
+looked-new : (k : Known) (again : Bool) (n p q : ℕ) (gs : List Given) (x : Checked) (c : Context) (st : State) → isDeclared q st ≡ false → looked again k n p q gs x c st ≡ enterClass k (declaration k n) (x .definition) (takenDefaults (x .definition .parameters) gs) (x .values) c st
 unfolding looked refuseIf _>>=_
-looked-new k true n p q x c st e = rw e refl
-looked-new k false n p q x c st e = rw (e, looked) refl
+looked-new k true n p q gs x c st e = rw e refl
+looked-new k false n p q gs x c st e = rw (e, looked) refl
 
 -- a class that is declared meanwhile
 meanwhile-able : (again : Bool) (p : ℕ) {m w out : List ℕ} {fill : ℕ} {answer : Filled} → answer ≡ pick again (Refused (refusalAt DeclaredAgain p)) (Done fill) → Able m w out fill → AbleAfter m w out answer
@@ -162,10 +164,10 @@ unfolding AbleAfter
 meanwhile-able true p {m} {w} {out} e a = subst (AbleAfter m w out) (sym e) tt
 meanwhile-able false p {m} {w} {out} e a = subst (AbleAfter m w out) (sym e) a
 
-meanwhile-ends : (k : Known) (again : Bool) (n p q : ℕ) (x : Checked) (c : Context) {m w out : List ℕ} {fill left : ℕ} {es : List Entry} {answer : Filled} → isDeclared q (stateWith w out fill left es) ≡ true → answer ≡ pick again (Refused (refusalAt DeclaredAgain p)) (Done fill) → Stage m w out fill k es → Ends m w out left k (looked again k n p q x c (stateWith w out fill left es)) answer
+meanwhile-ends : (k : Known) (again : Bool) (n p q : ℕ) (gs : List Given) (x : Checked) (c : Context) {m w out : List ℕ} {fill left : ℕ} {ask : Question} {es : List Entry} {answer : Filled} → isDeclared q (stateWith w out fill left es) ≡ true → answer ≡ pick again (Refused (refusalAt DeclaredAgain p)) (Done fill) → Stage m w out fill k ask es → Ends m w out left k ask (looked again k n p q gs x c (stateWith w out fill left es)) answer
 unfolding looked refuseIf _>>=_
-meanwhile-ends k true n p q x c {m} {w} {out} {left = left} y e g = subst (Ends m w out left k _) (sym e) (refusedSo (rw (y, looked) refl))
-meanwhile-ends k false n p q x c {m} {w} {out} {left = left} {es = es} y e g = subst (Ends m w out left k _) (sym e) (doneSo es (rw (y, looked) refl) g)
+meanwhile-ends k true n p q gs x c {m} {w} {out} {left = left} y e g = subst (Ends m w out left k _ _) (sym e) (refusedSo (rw (y, looked) refl))
+meanwhile-ends k false n p q gs x c {m} {w} {out} {left = left} {es = es} y e g = subst (Ends m w out left k _ _) (sym e) (doneSo es (rw (y, looked) refl) g)
 
 -- a class that passed the checks has the values that its parameters get
 abbrev checkedAs : ClassDefinition → List Given → Outcome Checked
@@ -198,7 +200,7 @@ record FoundClass (m : List ℕ) (k : Known) (n p q d : ℕ) (again : Bool) (gs 
   checked : Checked
   item : itemAt m d ≡ definition (classDefinition (checked .definition))
   values : parameterValues (checked .definition .parameters) gs ≡ done (checked .values)
-  runs : declaration k (suc n) (asked again p q gs) c st ≡ (parentFirst k (declaration k n) (parentAt m (d + 5)) c st >>= looked again k n p q checked c)
+  runs : declaration k (suc n) (asked again p q gs) c st ≡ (parentFirst k (declaration k n) (parentAt m (d + 5)) c st >>= looked again k n p q gs checked c)
 
 module _ {m t w : List ℕ} {levels p q first end : ℕ} {again : Bool} {found : Class} (n : ℕ) (up : levels ≡ suc n) (checks : ChecksClass m t w again p q first end found) where
   pub found-stands : {d : ℕ} → found ≡ At d → ClassStands m d
@@ -208,17 +210,17 @@ module _ {m t w : List ℕ} {levels p q first end : ℕ} {again : Bool} {found :
   pub check-refused : {out : List ℕ} {fill left : ℕ} {c : Context} {why : Refusal} → found ≡ NotFound why
       → (gs : List Given) → Gives t gs → Alike m gs (fieldsIn m first end) → (again ≡ false → gs ≡ []) → Executes m w w out out fill left left c (Refused why) (λ k. declaration k levels (asked again p q gs))
   unfolding _>>=_
-  check-refused {out} {fill} {left} {c} {why} is gs gives alikes empty = refuses why (omega arith) (λ k es g.
+  check-refused {out} {fill} {left} {c} {why} is gs gives alikes empty = refuses why (omega arith) (λ k ask es g.
       ap (λ (l : ℕ). declaration k l (asked again p q gs) c (stateWith w out fill left es)) up
       ∙ asked-runs k n p q again gs c (stateWith w out fill left es) empty
-      ∙ ap (λ (o : Outcome Checked). o >>= λ x. parentFirst k (declaration k n) (x .definition .parent) c (stateWith w out fill left es) >>= looked again k n p q x c)
+      ∙ ap (λ (o : Outcome Checked). o >>= λ x. parentFirst k (declaration k n) (x .definition .parent) c (stateWith w out fill left es) >>= looked again k n p q gs x c)
       (go (subst (FoundAs m (checkClass k again p q gs (stateWith w out fill left es))) is (checks .says k es _ _ gs (g .ready .known) gives alikes))))
     where
       go : {o : Outcome Checked} → FoundAs m o (NotFound why) → o ≡ refusedBy why
       go (notFound e) = e
 
   module _ {d : ℕ} (is : found ≡ At d) (gs : List Given) (gives : Gives t gs) (alikes : Alike m gs (fieldsIn m first end)) (empty : again ≡ false → gs ≡ []) where
-    found-class : (left : ℕ) {out : List ℕ} {fill : ℕ} {k : Known} (c : Context) {es : List Entry} → Stage m w out fill k es → FoundClass m k n p q d again gs c (stateWith w out fill left es)
+    found-class : (left : ℕ) {out : List ℕ} {fill : ℕ} {k : Known} {ask : Question} (c : Context) {es : List Entry} → Stage m w out fill k ask es → FoundClass m k n p q d again gs c (stateWith w out fill left es)
     unfolding _>>=_
     found-class left {out} {fill} {k} c {es} g = go (subst (FoundAs m (checkClass k again p q gs (stateWith w out fill left es))) is (checks .says k es _ _ gs (g .ready .known) gives alikes))
       where
@@ -228,55 +230,55 @@ module _ {m t w : List ℕ} {levels p q first end : ℕ} {again : Bool} {found :
           item = item;
           values = class-values k again p q gs (stateWith w out fill left es) e;
           runs = asked-runs k n p q again gs c (stateWith w out fill left es) empty
-              ∙ ap (λ (o : Outcome Checked). o >>= λ x. parentFirst k (declaration k n) (x .definition .parent) c (stateWith w out fill left es) >>= looked again k n p q x c) e
-              ∙ ap (λ (o : Option Parent). parentFirst k (declaration k n) o c (stateWith w out fill left es) >>= looked again k n p q (record { definition = x; values = vs }) c) (class-parent (found-stands is) item);
+              ∙ ap (λ (o : Outcome Checked). o >>= λ x. parentFirst k (declaration k n) (x .definition .parent) c (stateWith w out fill left es) >>= looked again k n p q gs x c) e
+              ∙ ap (λ (o : Option Parent). parentFirst k (declaration k n) o c (stateWith w out fill left es) >>= looked again k n p q gs (record { definition = x; values = vs }) c) (class-parent (found-stands is) item);
         }
 
     module _ {w₁ out out₁ : List ℕ} {fill left left₁ : ℕ} {c : Context} {a : Filled} (parent : Executes m w w₁ out out₁ fill left left₁ c a (λ k. parentFirst k (declaration k n) (parentAt m (d + 5)))) where
       pub parent-refused : {why : Refusal} → a ≡ Refused why → Executes m w w₁ out out₁ fill left left₁ c a (λ k. declaration k levels (asked again p q gs))
       unfolding _>>=_
-      parent-refused {why} e = subst (λ (b : Filled). Executes m w w₁ out out₁ fill left left₁ c b (λ k. declaration k levels (asked again p q gs))) (sym e) (refuses why (parent .steps) (λ k es g.
+      parent-refused {why} e = subst (λ (b : Filled). Executes m w w₁ out out₁ fill left left₁ c b (λ k. declaration k levels (asked again p q gs))) (sym e) (refuses why (parent .steps) (λ k ask es g.
           let f = found-class left c g in
           ap (λ (l : ℕ). declaration k l (asked again p q gs) c (stateWith w out fill left es)) up
           ∙ f .runs
-          ∙ ap (λ (o : Outcome State). o >>= looked again k n p q (f .checked) c) (ended-refused (subst (Ends m w₁ out₁ left₁ k (parentFirst k (declaration k n) (parentAt m (d + 5)) c (stateWith w out fill left es))) e (parent .says k es g)))))
+          ∙ ap (λ (o : Outcome State). o >>= looked again k n p q gs (f .checked) c) (ended-refused (subst (Ends m w₁ out₁ left₁ k _ (parentFirst k (declaration k n) (parentAt m (d + 5)) c (stateWith w out fill left es))) e (parent .says k ask es g)))))
 
       -- the parent is declared: the second look
       module _ {fill₁ : ℕ} (e : a ≡ Done fill₁) {b : Bool} (told : (es : List Entry) (n r : ℕ) → b ≡ isDeclared q (stateOf w₁ es n r)) where
-        record After (k : Known) (es : List Entry) : Type 0 where
+        record After (k : Known) (ask : Question) (es : List Entry) : Type 0 where
           entries : List Entry
-          stage : Stage m w₁ out₁ fill₁ k entries
+          stage : Stage m w₁ out₁ fill₁ k ask entries
           class : FoundClass m k n p q d again gs c (stateWith w out fill left es)
-          same : declaration k levels (asked again p q gs) c (stateWith w out fill left es) ≡ looked again k n p q (class .checked) c (stateWith w₁ out₁ fill₁ left₁ entries)
+          same : declaration k levels (asked again p q gs) c (stateWith w out fill left es) ≡ looked again k n p q gs (class .checked) c (stateWith w₁ out₁ fill₁ left₁ entries)
 
-        after : (k : Known) (es : List Entry) → Stage m w out fill k es → After k es
+        after : (k : Known) (ask : Question) (es : List Entry) → Stage m w out fill k ask es → After k ask es
         unfolding _>>=_
-        after k es g =
+        after k ask es g =
             let f = found-class left c g in
-            let o = ended-done (subst (Ends m w₁ out₁ left₁ k (parentFirst k (declaration k n) (parentAt m (d + 5)) c (stateWith w out fill left es))) e (parent .says k es g)) in
+            let o = ended-done (subst (Ends m w₁ out₁ left₁ k _ (parentFirst k (declaration k n) (parentAt m (d + 5)) c (stateWith w out fill left es))) e (parent .says k ask es g)) in
             record {
               entries = o .entries;
               stage = o .stage;
               class = f;
-              same = ap (λ (l : ℕ). declaration k l (asked again p q gs) c (stateWith w out fill left es)) up ∙ f .runs ∙ ap (λ (o : Outcome State). o >>= looked again k n p q (f .checked) c) (o .same);
+              same = ap (λ (l : ℕ). declaration k l (asked again p q gs) c (stateWith w out fill left es)) up ∙ f .runs ∙ ap (λ (o : Outcome State). o >>= looked again k n p q gs (f .checked) c) (o .same);
             }
 
         pub class-meanwhile : {answer : Filled} → b ≡ true → answer ≡ pick again (Refused (refusalAt DeclaredAgain p)) (Done fill₁) → Executes m w w₁ out out₁ fill left left₁ c answer (λ k. declaration k levels (asked again p q gs))
         class-meanwhile y i = record {
           able = meanwhile-able again p i (able-after e (parent .able));
           steps = parent .steps;
-          says = λ k es g.
-              let f = after k es g in
-              ends-same (f .same) (meanwhile-ends k again n p q (f .class .checked) c (sym (told (f .entries) _ _) ∙ y) i (f .stage));
+          says = λ k ask es g.
+              let f = after k ask es g in
+              ends-same (f .same) (meanwhile-ends k again n p q gs (f .class .checked) c (sym (told (f .entries) _ _) ∙ y) i (f .stage));
         }
 
         pub class-entered : {w₂ out₂ : List ℕ} {left₂ : ℕ} {answer : Filled} → b ≡ false → Enters m t w₁ w₂ out₁ out₂ fill₁ left₁ left₂ n d c answer → Executes m w w₂ out out₂ fill left left₂ c answer (λ k. declaration k levels (asked again p q gs))
         class-entered y enters = record {
           able = enters .able;
           steps = let x = enters .steps in let z = parent .steps in omega arith;
-          says = λ k es g.
-              let f = after k es g in
-              ends-same (f .same ∙ looked-new k again n p q (f .class .checked) c _ (sym (told (f .entries) _ _) ∙ y)) (enters .says (f .class .checked .definition) gs (f .class .checked .values) (f .class .item) gives (f .class .values) k (f .entries) (f .stage));
+          says = λ k ask es g.
+              let f = after k ask es g in
+              ends-same (f .same ∙ looked-new k again n p q gs (f .class .checked) c _ (sym (told (f .entries) _ _) ∙ y)) (enters .says (f .class .checked .definition) gs (f .class .checked .values) (f .class .item) gives (f .class .values) k ask (f .entries) (f .stage));
         }
 
 -- ---- The ways of `declare_parent`
@@ -301,7 +303,7 @@ afterLook levels q name k c st x = elim x [ true ↦ done st | false ↦ takeSte
 module _ (m w : List ℕ) (levels d : ℕ) {t : ℕ} (read : t ≡ byte m (d + 5)) where
   pub no-parent : {out : List ℕ} {fill left : ℕ} {c : Context} → Able m w out fill → (t ≡ 0x35 → ⊥) → Executes m w w out out fill left left c (Done fill) (λ k. parentFirst k (declaration k levels) (parentAt m (d + 5)))
   unfolding parentFirst
-  no-parent {out} {fill} {left} {c} able other = stops able (omega arith) (λ k es g. record {
+  no-parent {out} {fill} {left} {c} able other = stops able (omega arith) (λ k ask es g. record {
     entries = es;
     same = ap (λ (o : Option Parent). parentFirst k (declaration k levels) o c (stateWith w out fill left es)) (parent-none m (d + 5) (ne-eqb (byte m (d + 5)) 0x35 (λ e. other (read ∙ e))));
     stage = g;
@@ -315,16 +317,16 @@ module _ (m w : List ℕ) (levels d : ℕ) {t : ℕ} (read : t ≡ byte m (d + 5
         ∙ ap (afterLook levels (d + 5) name k c (stateWith w out fill left es)) (sym (told es _ _) ∙ e)
 
     pub parent-declared : {out : List ℕ} {fill left : ℕ} {c : Context} → Able m w out fill → b ≡ true → Executes m w w out out fill left left c (Done fill) (λ k. parentFirst k (declaration k levels) (parentAt m (d + 5)))
-    parent-declared {out} {fill} {left} {c} able y = stops able (omega arith) (λ k es g. record { entries = es; same = parent-told out fill left k c es y; stage = g })
+    parent-declared {out} {fill} {left} {c} able y = stops able (omega arith) (λ k ask es g. record { entries = es; same = parent-told out fill left k c es y; stage = g })
 
     pub parent-no-step : {out : List ℕ} {fill left : ℕ} {c : Context} {a : Filled} → b ≡ false → left ≡ 0 → a ≡ Refused (refusalAt StepLimit (d + 5)) → Executes m w w out out fill left left c a (λ k. parentFirst k (declaration k levels) (parentAt m (d + 5)))
     unfolding _>>=_
-    parent-no-step {out} {fill} {left} {c} y z e = subst (λ (a : Filled). Executes m w w out out fill left left c a (λ k. parentFirst k (declaration k levels) (parentAt m (d + 5)))) (sym e) (refuses (refusalAt StepLimit (d + 5)) (omega arith) (λ k es g.
+    parent-no-step {out} {fill} {left} {c} y z e = subst (λ (a : Filled). Executes m w w out out fill left left c a (λ k. parentFirst k (declaration k levels) (parentAt m (d + 5)))) (sym e) (refuses (refusalAt StepLimit (d + 5)) (omega arith) (λ k ask es g.
         parent-told out fill left k c es y ∙ ap (λ (o : Outcome State). o >>= λ st′. declaration k levels (included (d + 5) name) c st′) (no-step (d + 5) w out fill left es z)))
 
     pub parent-declares : {w′ out out′ : List ℕ} {fill left left′ : ℕ} {c : Context} {a : Filled} → b ≡ false → (left ≡ 0 → ⊥) → Executes m w w′ out out′ fill (left - 1) left′ c a (λ k. declaration k levels (included (d + 5) name)) → Executes m w w′ out out′ fill left left′ c a (λ k. parentFirst k (declaration k levels) (parentAt m (d + 5)))
     unfolding _>>=_
-    parent-declares {out = out} {fill = fill} {left = left} {c = c} y some-left then = goes-on (omega arith) (λ k es g. record {
+    parent-declares {out = out} {fill = fill} {left = left} {c = c} y some-left then = goes-on (omega arith) (λ k ask es g. record {
       entries = es;
       stage = g;
       same = parent-told out fill left k c es y ∙ ap (λ (o : Outcome State). o >>= λ st′. declaration k levels (included (d + 5) name) c st′) (step-taken (d + 5) w out fill left es some-left);
@@ -333,19 +335,19 @@ module _ (m w : List ℕ) (levels d : ℕ) {t : ℕ} (read : t ≡ byte m (d + 5
 -- ---- The ways of `enter_class`
 
 module _ {m t w w₁ : List ℕ} {d : ℕ} {here : Here} {started : StartedClass} (starts : StartsClass m t w w₁ d here started) (n : ℕ) where
-  class-started : (out : List ℕ) (fill left : ℕ) {a : StartedClass} → started ≡ a → {x : ClassDefinition} {gs vs : List Given} → itemAt m d ≡ definition (classDefinition x) → Gives t gs → parameterValues (x .parameters) gs ≡ done vs → (k : Known) (es : List Entry)
-      → enterClass k (declaration k n) x vs (contextOf here) (stateWith w out fill left es) ≡ (startedAs m a (stateWith w₁ out fill left es) >>= λ e. runBlock k (declaration k n) (e .body) (e .here) (e .state))
-  class-started out fill left is {x} {gs} {vs} item gives values k es =
-      class-enters k (declaration k n) x vs (contextOf here) (stateWith w out fill left es)
+  class-started : (out : List ℕ) (fill left : ℕ) {a : StartedClass} → started ≡ a → {x : ClassDefinition} {gs vs : List Given} → itemAt m d ≡ definition (classDefinition x) → Gives t gs → parameterValues (x .parameters) gs ≡ done vs → (k : Known) (es : List Entry) → StrikesAs k w
+      → enterClass k (declaration k n) x (takenDefaults (x .parameters) gs) vs (contextOf here) (stateWith w out fill left es) ≡ (startedAs m a (stateWith w₁ out fill left es) >>= λ e. runBlock k (declaration k n) (e .body) (e .here) (e .state))
+  class-started out fill left is {x} {gs} {vs} item gives values k es strikes =
+      class-enters k (declaration k n) x (takenDefaults (x .parameters) gs) vs (contextOf here) (stateWith w out fill left es)
       ∙ ap (λ (o : Outcome Entered). o >>= λ e. runBlock k (declaration k n) (e .body) (e .here) (e .state))
-      (sym (starts .says es _ _ x gs vs item gives values) ∙ ap (λ (a : StartedClass). startedAs m a (stateWith w₁ out fill left es)) is)
+      (sym (starts .says k es _ _ x gs vs strikes item gives values) ∙ ap (λ (a : StartedClass). startedAs m a (stateWith w₁ out fill left es)) is)
 
   pub enter-refused : {out : List ℕ} {fill left : ℕ} {why : Refusal} → started ≡ NotStarted why → Enters m t w w₁ out out fill left left n d (contextOf here) (Refused why)
   unfolding AbleAfter startedAs _>>=_
   enter-refused {out} {fill} {left} is = record {
     able = tt;
     steps = omega arith;
-    says = λ x gs vs item gives values k es g. refusedSo (class-started out fill left is item gives values k es);
+    says = λ x gs vs item gives values k ask es g. refusedSo (class-started out fill left is item gives values k es (g .ready .known .struck));
   }
 
   pub enter-runs : {w₂ out out₂ : List ℕ} {fill left left₂ b : ℕ} (inside : Here) {a : Filled} → started ≡ Body b inside → Executes m w₁ w₂ out out₂ fill left left₂ (contextOf inside) a (λ k. runBlock k (declaration k n) (blockAt m 31 b)) → Enters m t w w₂ out out₂ fill left left₂ n d (contextOf here) a
@@ -353,7 +355,7 @@ module _ {m t w w₁ : List ℕ} {d : ℕ} {here : Here} {started : StartedClass
   enter-runs {out = out} {fill = fill} {left = left} inside is body = record {
     able = body .able;
     steps = body .steps;
-    says = λ x gs vs item gives values k es g. ends-same (class-started out fill left is item gives values k es) (body .says k es (stage-kept (starts .keeps) g));
+    says = λ x gs vs item gives values k ask es g. ends-same (class-started out fill left is item gives values k es (g .ready .known .struck)) (body .says k ask es (stage-kept (starts .keeps) g));
   }
 
 -- its block

@@ -33,6 +33,7 @@ use Rattle.statements.specs.Answers.{Keeps}
 use Rattle.attributes.specs.Names.{Alike}
 use Rattle.attributes.specs.Table.{Gives}
 use Rattle.attributes.specs.Evaluated.{Titled, titledAll, titledAt, TitledIn, notTitled, titled}
+use Rattle.provenance.specs.Notes.{Question}
 use Rattle.resources.specs.declared.Filled.{Filled}
 use Rattle.resources.specs.declared.Filled.the-variants.{Done, Refused}
 use Rattle.declarations.specs.declared.Started.{Started}
@@ -79,7 +80,7 @@ module _ {m : List ℕ} {d p : ℕ} (s : StandsAs m d StatementKind p) (tag : by
     defined-refused {why} is = go (subst (TitledIn m w out fill scope (d - 1) p t) is told)
       where
         go : TitledIn m w out fill scope (d - 1) p t (NotEvaluated why) → Executes m w w out out fill left left (contextIn scope path) (Refused why) (λ k. run k (declaration k levels) (statementAt m d p))
-        go (notTitled tells) = refuses why (omega arith) (λ k es g. defined-runs k (declaration k levels) (contextIn scope path) _ ∙ ap (λ (o : Outcome Titled). o >>= λ x. declaration k levels (ofType p (two m (p + 3)) (x .title) (x .given)) (contextIn scope path) (stateWith w out fill left es)) (sym (tells .says k path es _ _ (g .ready))))
+        go (notTitled tells) = refuses why (omega arith) (λ k ask es g. defined-runs k (declaration k levels) (contextIn scope path) _ ∙ ap (λ (o : Outcome Titled). o >>= λ x. declaration k levels (ofType p (two m (p + 3)) (x .title) (x .given)) (contextIn scope path) (stateWith w out fill left es)) (sym (tells .says k path es _ _ (g .ready))))
 
     pub defined-declares : {x : Labelled} {left′ : ℕ} {w′ out′ : List ℕ} {a : Filled} → e ≡ Value x
         → ((gs : List Given) → Gives t gs → Alike m gs (fieldsIn m (endOf m (p + 5)) (endOf m p)) → Executes m w w′ out out′ fill left left′ (contextIn scope path) a (λ k. declaration k levels (ofType p (two m (p + 3)) x gs)))
@@ -89,7 +90,7 @@ module _ {m : List ℕ} {d p : ℕ} (s : StandsAs m d StatementKind p) (tag : by
       where
         go : TitledIn m w out fill scope (d - 1) p t (Value x) → Executes m w w′ out out′ fill left left′ (contextIn scope path) a (λ k. run k (declaration k levels) (statementAt m d p))
         go (titled gs gives alikes tells) =
-            goes-on (omega arith) (λ k es g. record {
+            goes-on (omega arith) (λ k ask es g. record {
               entries = es;
               stage = g;
               same = defined-runs k (declaration k levels) (contextIn scope path) _ ∙ ap (λ (o : Outcome Titled). o >>= λ x. declaration k levels (ofType p (two m (p + 3)) (x .title) (x .given)) (contextIn scope path) (stateWith w out fill left es)) (sym (tells .says k path es _ _ (g .ready)));
@@ -100,17 +101,17 @@ module _ {m : List ℕ} {d p : ℕ} (s : StandsAs m d StatementKind p) (tag : by
 -- no level is left for a declaration
 pub too-deep : {m w out : List ℕ} {fill left levels : ℕ} {c : Context} {a : Filled} (x : Declaration) → levels ≡ 0 → a ≡ Refused (refusalAt LevelLimit (declarationPlace x)) → Executes m w w out out fill left left c a (λ k. declaration k levels x)
 unfolding declaration
-too-deep {m} {w} {out} {fill} {left} {levels} {c} x z e = subst (λ (a : Filled). Executes m w w out out fill left left c a (λ k. declaration k levels x)) (sym e) (refuses (refusalAt LevelLimit (declarationPlace x)) (omega arith) (λ k es g. rw z refl))
+too-deep {m} {w} {out} {fill} {left} {levels} {c} x z e = subst (λ (a : Filled). Executes m w w out out fill left left c a (λ k. declaration k levels x)) (sym e) (refuses (refusalAt LevelLimit (declarationPlace x)) (omega arith) (λ k ask es g. rw z refl))
 
 module _ (n : ℕ) {m t w w₁ : List ℕ} {p first end : ℕ} {x : Labelled} {inside : Here} (c : Context) {started : Started} (at-first : first ≡ endOf m (p + 5)) (at-end : end ≡ endOf m p) (placed : contextOf inside ≡ inBody n c) (starts : StartsType m t w w₁ p first end x inside started) where
   abbrev Attributes : List Given → Type 0
   Attributes gs = Alike m gs (fieldsIn m (endOf m (p + 5)) (endOf m p))
 
   -- what the start comes to
-  type-started : {levels : ℕ} {a : Started} → levels ≡ suc n → started ≡ a → {out : List ℕ} {fill : ℕ} (left : ℕ) (gs : List Given) → Gives t gs → Attributes gs → (k : Known) (es : List Entry) → Stage m w out fill k es
+  type-started : {levels : ℕ} {a : Started} → levels ≡ suc n → started ≡ a → {out : List ℕ} {fill : ℕ} (left : ℕ) (gs : List Given) → Gives t gs → Attributes gs → (k : Known) (ask : Question) (es : List Entry) → Stage m w out fill k ask es
       → declaration k levels (ofType p (two m (p + 3)) x gs) c (stateWith w out fill left es) ≡ (startedAs m a (stateWith w₁ out fill left es) >>= λ e. bodyRun n (e .body) k (contextOf inside) (e .state))
   unfolding bodyRun inBody
-  type-started up is {out} {fill} left gs gives alikes k es g =
+  type-started up is {out} {fill} left gs gives alikes k ask es g =
       let st : State = stateWith w out fill left es in
       ap (λ (l : ℕ). declaration k l (ofType p (two m (p + 3)) x gs) c st) up
       ∙ type-runs k n c st p (two m (p + 3)) x gs
@@ -120,16 +121,16 @@ module _ (n : ℕ) {m t w w₁ : List ℕ} {p first end : ℕ} {x : Labelled} {i
 
   pub type-refused : {levels : ℕ} {out : List ℕ} {fill left : ℕ} {why : Refusal} → levels ≡ suc n → started ≡ NotStarted why → (gs : List Given) → Gives t gs → Attributes gs → Executes m w w₁ out out fill left left c (Refused why) (λ k. declaration k levels (ofType p (two m (p + 3)) x gs))
   unfolding startedAs _>>=_
-  type-refused {why = why} up is gs gives alikes = refuses why (omega arith) (λ k es g. type-started up is _ gs gives alikes k es g)
+  type-refused {why = why} up is gs gives alikes = refuses why (omega arith) (λ k ask es g. type-started up is _ gs gives alikes k ask es g)
 
   pub type-runs-body : {levels : ℕ} {w₂ out out₂ : List ℕ} {fill left left₂ b : ℕ} {a : Filled} → levels ≡ suc n → started ≡ Body b → Executes m w₁ w₂ out out₂ fill left left₂ (contextOf inside) a (bodyRun n (blockAt m 31 b))
       → (gs : List Given) → Gives t gs → Attributes gs → Executes m w w₂ out out₂ fill left left₂ c a (λ k. declaration k levels (ofType p (two m (p + 3)) x gs))
   unfolding startedAs _>>=_
   type-runs-body up is body gs gives alikes =
-      goes-on (omega arith) (λ k es g. record {
+      goes-on (omega arith) (λ k ask es g. record {
         entries = es;
         stage = stage-kept (starts .keeps) g;
-        same = type-started up is _ gs gives alikes k es g;
+        same = type-started up is _ gs gives alikes k ask es g;
       }) body
 
 -- its block
@@ -147,12 +148,12 @@ in-body n here = λ i. record { scope = body-scope n i; base = contextOf here .b
 module _ (n : ℕ) (b : Block) {m w w₁ out out₁ : List ℕ} {fill left left₁ : ℕ} {c : Context} {a : Filled} (ran : Executes m w w₁ out out₁ fill left left₁ c a (λ k. runBlock k (declaration k n) b)) where
   pub body-refused : {why : Refusal} → a ≡ Refused why → Executes m w w₁ out out₁ fill left left₁ c (Refused why) (bodyRun n b)
   unfolding bodyRun _>>=_
-  body-refused {why} is = refuses why (ran .steps) (λ k es g. ap (λ (o : Outcome State). o >>= λ st′. done (free (c .scope) st′)) (ended-refused (subst (Ends m w₁ out₁ left₁ k _) is (ran .says k es g))))
+  body-refused {why} is = refuses why (ran .steps) (λ k ask es g. ap (λ (o : Outcome State). o >>= λ st′. done (free (c .scope) st′)) (ended-refused (subst (Ends m w₁ out₁ left₁ k _ _) is (ran .says k ask es g))))
 
   pub body-done : {w₂ : List ℕ} {f : ℕ} → a ≡ Done f → Becomes w₁ w₂ (free (c .scope)) (λ ns. ns) → length w₂ ≡ length w₁ → Executes m w w₂ out out₁ fill left left₁ c (Done f) (bodyRun n b)
   unfolding bodyRun _>>=_
-  body-done {w₂} {f} is freed size = stops (able-kept kept size (able-after is (ran .able))) (ran .steps) (λ k es g.
-      let o = ended-done (subst (Ends m w₁ out₁ left₁ k (runBlock k (declaration k n) b c (stateWith w out fill left es))) is (ran .says k es g)) in
+  body-done {w₂} {f} is freed size = stops (able-kept kept size (able-after is (ran .able))) (ran .steps) (λ k ask es g.
+      let o = ended-done (subst (Ends m w₁ out₁ left₁ k _ (runBlock k (declaration k n) b c (stateWith w out fill left es))) is (ran .says k ask es g)) in
       record {
         entries = o .entries;
         same = ap (λ (x : Outcome State). x >>= λ st′. done (free (c .scope) st′)) (o .same) ∙ ap done (sym (freed .state (o .entries) _ _));

@@ -9,7 +9,7 @@ use Rattle.wire.specs.Bytes.{byte, endOf, fieldsIn}
 use Rattle.rules.specs.Outcome.{Outcome, done, _>>=_}
 use Rattle.rules.specs.Tree.{Statement, Block, ClassDefinition, classDefinition, definition}
 use Rattle.rules.specs.State.{Entry, State, Context, Known, takeStep, free}
-use Rattle.rules.specs.Run.{Given, Declaration, ofClass, included, run, runBlock, declaration, parameterValues, enterClass}
+use Rattle.rules.specs.Run.{Given, Declaration, ofClass, included, run, runBlock, declaration, parameterValues, enterClass, takenDefaults}
 use Rattle.rules.specs.Compile.{roomIn}
 use Rattle.places.specs.At.{itemAt}
 use Rattle.cells.specs.Memory.{stateOf, Fine}
@@ -17,6 +17,7 @@ use Rattle.memory.specs.Names.{titleOf}
 use Rattle.evaluator.specs.Answers.{refusedBy}
 use Rattle.evaluator.specs.Known.{Ready}
 use Rattle.attributes.specs.Table.{Gives, Fresh}
+use Rattle.provenance.specs.Notes.{Question, Noted}
 use Rattle.resources.specs.declared.Filled.{Filled}
 use Rattle.resources.specs.declared.Filled.the-variants.{Done, Refused}
 use Rattle.declarations.specs.Standing.{Set}
@@ -29,10 +30,11 @@ pub record Able (m w out : List ℕ) (fill : ℕ) : Type 0 where
   pub fine : Fine w
   pub filled : fill ≤ roomIn (length out)
 
--- they stand for what is known and for the entries es, the latest first
-pub record Stage (m w out : List ℕ) (fill : ℕ) (k : Known) (es : List Entry) : Type 0 where
+-- they stand for what is known and for the entries es, the latest first; and for what is asked about one of these, with its note
+pub record Stage (m w out : List ℕ) (fill : ℕ) (k : Known) (ask : Question) (es : List Entry) : Type 0 where
   pub ready : Ready m w out fill k es
   pub title : titleOf w ≡ k .title
+  pub noted : Noted w ask es
 
 -- the state: what the output has left is its room
 abbrev pub stateWith : (w out : List ℕ) → (fill left : ℕ) → List Entry → State
@@ -52,9 +54,9 @@ pub record FreshFor (m t : List ℕ) (p : ℕ) : Type 0 where
 -- ---- After
 
 -- the answer means the outcome o: its refusal; or the bytes lent stand for its state
-pub data Ends (m w out : List ℕ) (left : ℕ) (k : Known) (o : Outcome State) : Filled → Type 0 where
-  refusedSo : {why : Refusal} → o ≡ refusedBy why → Ends m w out left k o (Refused why)
-  doneSo : {f : ℕ} (es : List Entry) → o ≡ done (stateWith w out f left es) → Stage m w out f k es → Ends m w out left k o (Done f)
+pub data Ends (m w out : List ℕ) (left : ℕ) (k : Known) (ask : Question) (o : Outcome State) : Filled → Type 0 where
+  refusedSo : {why : Refusal} → o ≡ refusedBy why → Ends m w out left k ask o (Refused why)
+  doneSo : {f : ℕ} (es : List Entry) → o ≡ done (stateWith w out f left es) → Stage m w out f k ask es → Ends m w out left k ask o (Done f)
 
 -- something else can run after it
 unfoldable pub AbleAfter : (m w out : List ℕ) → Filled → Type 0
@@ -65,7 +67,7 @@ AbleAfter m w out (Refused why) = Unit {0}
 pub record Executes (m w w′ out out′ : List ℕ) (fill left left′ : ℕ) (c : Context) (answer : Filled) (f : Known → Context → State → Outcome State) : Type 0 where
   pub able : AbleAfter m w′ out′ answer
   pub steps : left′ ≤ left
-  pub says : (k : Known) (es : List Entry) → Stage m w out fill k es → Ends m w′ out′ left′ k (f k c (stateWith w out fill left es)) answer
+  pub says : (k : Known) (ask : Question) (es : List Entry) → Stage m w out fill k ask es → Ends m w′ out′ left′ k ask (f k c (stateWith w out fill left es)) answer
 
 -- ---- What runs
 
@@ -88,5 +90,5 @@ asked false p q gs = included p q
 pub record Enters (m t w w′ out out′ : List ℕ) (fill left left′ n p : ℕ) (c : Context) (answer : Filled) : Type 0 where
   pub able : AbleAfter m w′ out′ answer
   pub steps : left′ ≤ left
-  pub says : (d : ClassDefinition) (gs vs : List Given) → itemAt m p ≡ definition (classDefinition d) → Gives t gs → parameterValues (d .parameters) gs ≡ done vs → (k : Known) (es : List Entry) → Stage m w out fill k es
-      → Ends m w′ out′ left′ k (enterClass k (declaration k n) d vs c (stateWith w out fill left es)) answer
+  pub says : (d : ClassDefinition) (gs vs : List Given) → itemAt m p ≡ definition (classDefinition d) → Gives t gs → parameterValues (d .parameters) gs ≡ done vs → (k : Known) (ask : Question) (es : List Entry) → Stage m w out fill k ask es
+      → Ends m w′ out′ left′ k ask (enterClass k (declaration k n) d (takenDefaults (d .parameters) gs) vs c (stateWith w out fill left es)) answer

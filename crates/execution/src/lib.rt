@@ -152,7 +152,7 @@ fn room_in(length: usize) -> usize
     if length <= 65535 { length } else { 65535 }
 }
 
-// The 25 at p. Its entry, if it gets one, goes into the index too.
+// The 25 at p. Its entry, if it gets one, goes into the index too, and what is asked about is noted.
 fn run_resource(
     m: &[u8],
     depth: u8,
@@ -165,6 +165,7 @@ fn run_resource(
     requires { ⌜ (Able (now m) (now work) (now out) fill × (StandsAs (now m) depth Statement p × NamesKnown (now m) p)) × (byte (now m) p ≡ 0x25) ⌝ }
     ensures { λ r. ⌜ ((n levels : ℕ) → Executes (now (m .entry)) (now (work .entry)) (now (work .exit)) (now (out .entry)) (now (out .exit)) fill n n (contextOf here) r (λ k. run k (declaration k levels) (statementAt (now (m .entry)) depth p))) ⌝ }
 {
+    provenance::note_resource(m, depth, p, work, out, fill, here);
     let built_in = memory::built_in(work, wire::two_at(m, p + 3));
     let room = room_in(out.len()) - fill;
     let r = resources::add_resource(m, depth, p, work, out, fill, room, here, built_in);

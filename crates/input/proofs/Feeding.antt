@@ -60,12 +60,12 @@ module _ (xs : List ℕ) (i : ℕ) {whole : ℕ} where
 
 -- ---- The line feed in an input of two pieces
 
-record MetBefore (xs ys : List ℕ) : Type 0 where
-  before : beforeFeed (xs ++ ys) ≡ beforeFeed xs
-  after : afterFeed (xs ++ ys) ≡ afterFeed xs ++ ys
-  is : hasFeed (xs ++ ys) ≡ true
+pub record MetBefore (xs ys : List ℕ) : Type 0 where
+  pub before : beforeFeed (xs ++ ys) ≡ beforeFeed xs
+  pub after : afterFeed (xs ++ ys) ≡ afterFeed xs ++ ys
+  pub is : hasFeed (xs ++ ys) ≡ true
 
-met-before : (xs ys : List ℕ) → hasFeed xs ≡ true → MetBefore xs ys
+pub met-before : (xs ys : List ℕ) → hasFeed xs ≡ true → MetBefore xs ys
 unfolding beforeFeed afterFeed hasFeed
 met-before [] ys h = false-not-true h
 met-before (x ∷ xs) ys h = go (eqb x 10) refl h (λ k. met-before xs ys k)

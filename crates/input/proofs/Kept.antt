@@ -17,7 +17,7 @@ use Rattle.rules.specs.Tree.{Devices, named, byDefault, Item}
 use Rattle.rules.specs.Read.{manifestOf}
 use Rattle.rules.specs.Check.{check}
 use Rattle.rules.specs.Evaluate.{any}
-use Rattle.rules.specs.Compile.{sameBytes, stringAt, names, isDefaultNode, withNode, isNode, itemsFor, runManifest, checked, finalState, compiledFrom, compiled}
+use Rattle.rules.specs.Compile.{sameBytes, stringAt, names, isDefaultNode, withNode, isNode, itemsFor, noneStruckOut, runManifest, checked, finalState, compiledFrom, compiled}
 use Rattle.rules.specs.Schedule.{textOf, beforeFeed, afterFeed, schedule}
 use Rattle.rules.proofs.Lists.{Each, noneLeft, also}
 use Rattle.syntax.proofs.Texts.{other-length}
@@ -50,11 +50,11 @@ module _ (ss : List (List ℕ)) (short : Each Short ss) (device : List ℕ) wher
       λ i. chosen (λ ds. same-names ds i)
 
 module _ (m device : List ℕ) (limit output memory : ℕ) where
-  same-run : check m ≡ Sound → runManifest (manifestOf m) (take 256 device) limit output ≡ runManifest (manifestOf m) device limit output
+  same-run : check m ≡ Sound → runManifest noneStruckOut (manifestOf m) (take 256 device) limit output ≡ runManifest noneStruckOut (manifestOf m) device limit output
   unfolding runManifest
   same-run w = rw (same-items (manifestOf m .strings) (rw (strings-read m w) (short-strings m w)) device (manifestOf m .items))
 
-  checked-run : (v : Verdict) → check m ≡ v → (checked v >>= λ _. runManifest (manifestOf m) (take 256 device) limit output) ≡ (checked v >>= λ _. runManifest (manifestOf m) device limit output)
+  checked-run : (v : Verdict) → check m ≡ v → (checked v >>= λ _. runManifest noneStruckOut (manifestOf m) (take 256 device) limit output) ≡ (checked v >>= λ _. runManifest noneStruckOut (manifestOf m) device limit output)
   unfolding checked _>>=_
   checked-run Sound w = same-run w
   checked-run (Fault r p) w = refl

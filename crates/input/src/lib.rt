@@ -26,7 +26,7 @@ pub fn start() -> Progress
 }
 
 // Where the line feed stands; the piece's length if there is none.
-fn feed_place(piece: &[u8]) -> usize
+pub fn feed_place(piece: &[u8]) -> usize
     ensures { λ r. ⌜ r ≡ length (beforeFeed (now (piece .entry))) ⌝ }
 {
     let mut i: usize = 0;
@@ -40,7 +40,7 @@ fn feed_place(piece: &[u8]) -> usize
 }
 
 // What follows the byte at `i`.
-fn after(piece: &[u8], i: usize) -> &[u8]
+pub fn after(piece: &[u8], i: usize) -> &[u8]
     ensures { λ r. ⌜ now r ≡ drop (i + 1) (now (piece .entry)) ⌝ }
 {
     if piece.len() <= i {

@@ -1,9 +1,9 @@
 -- A memory whose first bytes tell the start: no cell, no class, no name, an empty trail, no summary, an empty index.
-use mathlib.Core.Path.{_≡_, refl, ap, _∙_, fun-ext}
+use mathlib.Core.Path.{_≡_, refl, sym, ap, _∙_, fun-ext}
 use mathlib.Core.Bool.{Bool, true, false}
 use mathlib.Core.List.{List, []}
 use mathlib.Core.Option.{Option, none}
-use Prim.Native.Nat.{ℕ, _+_, _-_, _≤_, _<_}
+use Prim.Native.Nat.{ℕ, _+_, _-_, _*_, _≤_, _<_}
 use native.Mathlib.Omega.{arith}
 use lib.Dec.{ltb}
 use borrow.Author.Tests.{ltb-true}
@@ -21,6 +21,7 @@ use Rattle.cells.proofs.Blank.{blank-cells, blank-used, blank-fine}
 use Rattle.cells.proofs.Regions.{names}
 use Rattle.memory.specs.Names.{noNames, Begun}
 use Rattle.memory.proofs.Titles.{no-title}
+use Rattle.memory.proofs.Words.{word-at}
 
 -- no slot is in use, and what follows the slots is zero up to the records of the index
 module _ (w : List ℕ) (states : (i : ℕ) → i < 512 → byte w i ≡ 0) (after : (i : ℕ) → trailAt ≤ i → i < indexAt 0 → byte w i ≡ 0) where
@@ -62,7 +63,7 @@ module _ (w : List ℕ) (states : (i : ℕ) → i < 512 → byte w i ≡ 0) (aft
 
   -- THE LAW: the definition's first state
   pub begun : Begun w
-  begun = record { state = begun-state; names = begun-names; title = no-title w (zero-two wordsAt (omega arith) (omega arith)); fine = blank-fine w states; summaries = λ i l. zero-two (summaryAt i) (omega arith) (omega arith); index = λ p l u. zero-two p (omega arith) u }
+  begun = record { state = begun-state; names = begun-names; title = no-title w (zero-two wordsAt (omega arith) (omega arith)); words = λ i l. sym (word-at w i) ∙ zero-two (wordsAt + 2 * i) (omega arith) (omega arith); fine = blank-fine w states; summaries = λ i l. zero-two (summaryAt i) (omega arith) (omega arith); index = λ p l u. zero-two p (omega arith) u }
 
 -- begin
 pub begin-way : (w w₁ w₂ : List ℕ) → 65536 ≤ length w → w₁ ≡ over w 0 (zeros (512 - 0)) → w₂ ≡ over w₁ trailAt (zeros (indexAt 0 - trailAt)) → Begun w₂

@@ -15,6 +15,7 @@ use Rattle.memory.specs.declared.Above.{Above}
 use Rattle.memory.specs.declared.Above.the-variants.{At, Nothing}
 use Rattle.memory.specs.declared.TitleName.{TitleName}
 use Rattle.memory.specs.declared.TitleName.the-variants.{At as TitleAt, Nothing as NoTitle}
+use Rattle.memory.specs.Words.{wordOf}
 
 unfoldable pub withDefinition : (name place : ℕ) → Names → Names
 withDefinition k v ns = record { definitions = putAt k v (ns .definitions); builtIns = ns .builtIns }
@@ -81,6 +82,7 @@ pub record Begun (w : List ℕ) : Type 0 where
   pub state : (limit output : ℕ) → stateOf w [] limit (roomIn output) ≡ start limit output
   pub names : namesOf w ≡ noNames
   pub title : titleOf w ≡ none
+  pub words : (i : ℕ) → i < 15 → wordOf w i ≡ 0
   pub fine : Fine w
   pub summaries : (i : ℕ) → i < 16 → two w (summaryAt i) ≡ 0
   pub index : NoIndex w

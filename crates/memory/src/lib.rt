@@ -1,7 +1,9 @@
 // The trail and the names in the working memory, and clearing it. The layout, and the state that the bytes stand for, are in the crate `cells`.
 ghost use mathlib.Core.Path.{_≡_};
+ghost use mathlib.Core.Bool.{true};
 ghost use mathlib.Core.List.{List};
 ghost use Prim.Native.Nat.{ℕ, _≤_, _<_};
+ghost use lib.Dec.{eqb};
 ghost use lib.ListN.{length};
 ghost use Rattle.wire.specs.Runs.{zeros};
 ghost use Rattle.labels.specs.Sets.{_∪_};
@@ -9,6 +11,7 @@ ghost use Rattle.rules.specs.State.{Entry, oneIf, parentOf, isDeclared, markDec
 ghost use Rattle.cells.specs.Layout.{trailOf};
 ghost use Rattle.cells.specs.Scopes.{scopeOf};
 ghost use Rattle.cells.specs.Memory.{baseFor, classesOf, definitionOf, builtInOf, stateOf, trailed, Becomes};
+ghost use Rattle.memory.specs.Words.{wordOf, WordSet, strikeEnd, struckAt};
 ghost use Rattle.memory.specs.Names.{withDefinition, withBuiltIn, classState, placed, scopeAbove, atNode, titleOf, titleFound, TitleSet, Begun};
 use cells::layout::NAME_BUILT_IN;
 use cells::layout::NAME_CLASS;
@@ -20,6 +23,7 @@ use cells::layout::RECORDS;
 use cells::layout::SLOTS;
 use cells::layout::TITLE;
 use cells::layout::TRAIL;
+use cells::layout::WORDS;
 use labels::Labels;
 
 // The scope in which code runs, and its base, node or top.
@@ -158,6 +162,59 @@ pub fn set_title(work: &mut [u8], name: u16)
     ensures { λ _. ⌜ TitleSet (now (work .entry)) (now (work .exit)) name ⌝ }
 {
     wire::put_two(work, TITLE, name + 1);
+}
+
+// ---- The other words: which constants are struck out, and which attribute is asked about
+
+// The constants with this label, one before this place, are struck out.
+pub const STRIKE_LABEL: usize = 1;
+
+pub const STRIKE_END: usize = 2;
+
+// The attribute asked about: one more than its resource's type, or 0 for none; title, name, and the label.
+pub const ASKED_TYPE: usize = 3;
+
+pub const ASKED_TITLE: usize = 4;
+
+pub const ASKED_NAME: usize = 5;
+
+pub const ASKED_LABEL: usize = 6;
+
+// What was found out about it.
+pub const NOTE: usize = 7;
+
+pub fn word(work: &[u8], i: usize) -> u16
+    requires { ⌜ (65536 ≤ length (now work)) × (i < 15) ⌝ }
+    ensures { λ r. ⌜ r ≡ wordOf (now (work .entry)) i ⌝ }
+{
+    wire::two_in(work, WORDS + 2 * i)
+}
+
+pub fn set_word(work: &mut [u8], i: usize, value: u16)
+    requires { ⌜ (65536 ≤ length (now work)) × (i < 15) ⌝ }
+    ensures { λ _. ⌜ WordSet (now (work .entry)) (now (work .exit)) i value ⌝ }
+{
+    wire::put_two(work, WORDS + 2 * i, value);
+}
+
+// Whether a constant with this label at this place is struck out.
+pub fn is_struck_out(work: &[u8], label: u8, place: usize) -> bool
+    requires { ⌜ 65536 ≤ length (now work) ⌝ }
+    ensures { λ r. ⌜ (r ≡ struckAt (now (work .entry)) label place) × (r ≡ true → place ≤ 65535) ⌝ }
+{
+    let end = word(work, STRIKE_END);
+    if place < end as usize {
+        return label as u16 == word(work, STRIKE_LABEL);
+    }
+    false
+}
+
+// Whether no constant is struck out, as in a compile.
+pub fn none_struck_out(work: &[u8]) -> bool
+    requires { ⌜ 65536 ≤ length (now work) ⌝ }
+    ensures { λ r. ⌜ r ≡ eqb (wordOf (now (work .entry)) strikeEnd) 0 ⌝ }
+{
+    word(work, STRIKE_END) == 0
 }
 
 // ---- Classes

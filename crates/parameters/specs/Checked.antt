@@ -8,7 +8,7 @@ use Rattle.values.specs.declared.Labelled.{Labelled}
 use Rattle.wire.specs.Bytes.{two, fieldsIn}
 use Rattle.rules.specs.Outcome.{Outcome, done, _>>=_}
 use Rattle.rules.specs.Tree.{Parameter}
-use Rattle.rules.specs.Run.{Given, namedOnce, parametersKnown, parameterValues, store, storeAll}
+use Rattle.rules.specs.Run.{Given, namedOnce, parametersKnown, parameterValues, store, storeAll, takenDefaults}
 use Rattle.rules.specs.Ranges.{Each}
 use Rattle.places.specs.At.{parametersAt}
 use Rattle.memory.specs.declared.Context.{Context as Here}
@@ -18,6 +18,9 @@ use Rattle.statements.specs.declared.Ran.the-variants.{Done, Refused}
 use Rattle.statements.specs.Answers.{ranAs, Keeps, Does}
 use Rattle.attributes.specs.Table.{Gives}
 use Rattle.parameters.specs.Places.{parameterValue}
+use Rattle.rules.specs.State.{Known}
+use Rattle.rules.specs.Evaluate.{comeToAll}
+use Rattle.memory.specs.Words.{StrikesAs}
 
 -- 11, 12, then 21: the parameters with their values
 unfoldable pub checkGiven : List Parameter → List Given → Outcome (List Given)
@@ -40,3 +43,9 @@ pub record Stores (m t w w′ : List ℕ) (q : ℕ) (here : Here) (answer : Ran)
 pub record Assigns (m t w w′ : List ℕ) (from to : ℕ) (here : Here) (answer : Ran) : Type 0 where
   pub keeps : Keeps w w′
   pub does : (gs vs : List Given) → Gives t gs → parameterValues (parametersAt m (fieldsIn m from to)) gs ≡ done vs → Does w w′ here (ranAs answer) (λ c. storeAll c vs)
+
+-- the same, unless a default that is assigned is struck out
+pub record AssignsAll (m t w w′ : List ℕ) (from to : ℕ) (here : Here) (answer : Ran) : Type 0 where
+  pub keeps : Keeps w w′
+  pub does : (k : Known) (gs vs : List Given) → StrikesAs k w → Gives t gs → parameterValues (parametersAt m (fieldsIn m from to)) gs ≡ done vs
+      → Does w w′ here (ranAs answer) (λ c st. comeToAll k (takenDefaults (parametersAt m (fieldsIn m from to)) gs) >>= λ _. storeAll c vs st)

@@ -3,19 +3,23 @@ ghost use mathlib.Core.Path.{_≡_};
 ghost use Prim.Native.Nat.{ℕ, _+_, _≤_, _<_};
 ghost use mathlib.Core.List.{List};
 ghost use lib.ListN.{length};
-ghost use Rattle.wire.specs.Bytes.{two, fieldsIn};
+ghost use Rattle.wire.specs.Bytes.{two, fieldsIn, pick};
 ghost use Rattle.rules.specs.Run.{Given};
 ghost use Rattle.rules.specs.declared.Kind.the-variants.{Parameter};
-ghost use Rattle.places.specs.At.{parametersAt, Siblings};
+ghost use Rattle.places.specs.At.{parametersAt, Siblings, defaultAt};
 ghost use Rattle.places.specs.Parts.{BlockEnds};
 ghost use Rattle.records.specs.Record.{heldOf};
 ghost use Rattle.catalog.specs.Finding.{Below};
 ghost use Rattle.attributes.specs.Names.{Alike};
-ghost use Rattle.attributes.specs.Table.{Gives};
-ghost use Rattle.parameters.specs.Places.{unknownIn, parameterValue, missingIn};
-ghost use Rattle.parameters.specs.Checked.{Checked, SmallNames, Stores, Assigns};
+ghost use Rattle.attributes.specs.Table.{Gives, givenAt};
+ghost use Rattle.parameters.specs.Places.{unknownIn, parameterValue, missingIn, ofDefault, defaultsIn};
+ghost use Rattle.parameters.specs.Checked.{Checked, SmallNames, Stores, Assigns, AssignsAll};
+ghost use mathlib.Core.Bool.{true};
+ghost use Rattle.patterns.specs.declared.Choice.the-variants.{At, Nothing};
+ghost use Rattle.patterns.specs.Struck.{firstStruck, Near};
 use attributes::Span;
 use memory::Context;
+use patterns::Choice;
 use records::Held;
 use statements::Ran;
 use values::Reason;
@@ -129,13 +133,7 @@ fn store_parameter(m: &[u8], q: usize, table: &[u8], work: &mut [u8], here: Cont
 }
 
 // The parameters of a definition, in the context of its body.
-pub fn store_parameters(
-    m: &[u8],
-    parameters: Span,
-    table: &[u8],
-    work: &mut [u8],
-    here: Context,
-) -> Ran
+fn store_parameters(m: &[u8], parameters: Span, table: &[u8], work: &mut [u8], here: Context) -> Ran
     requires { ⌜ ((parameters .end ≤ 65535) × ((65536 ≤ length (now work)) × (length (now m) ≤ 65535))) × (Siblings (now m) 31 Parameter (parameters .first) (parameters .end) × SmallNames (now m) (fieldsIn (now m) (parameters .first) (parameters .end))) ⌝ }
     ensures { λ r. ⌜ Assigns (now (m .entry)) (now (table .entry)) (now (work .entry)) (now (work .exit)) (parameters .first) (parameters .end) here r ⌝ }
 {
@@ -150,4 +148,58 @@ pub fn store_parameters(
         q = wire::end_of(m, q);
     }
     Ran::Done
+}
+
+// ---- Defaults
+
+// Whether the parameter at q takes its default, and that is struck out.
+fn takes_struck(m: &[u8], q: usize, table: &[u8], work: &[u8]) -> bool
+    requires { ⌜ (q ≤ 65535) × (65536 ≤ length (now work)) ⌝ }
+    ensures { λ r. ⌜ (pick r (At (q + 5)) Nothing ≡ firstStruck (now (work .entry)) (ofDefault (givenAt (now (table .entry)) (two (now (m .entry)) (q + 3))) (defaultAt (now (m .entry)) q))) × (r ≡ true → q + 5 ≤ 65535) ⌝ }
+{
+    let held = attributes::given(table, wire::two_at(m, q + 3));
+    match held {
+        Held::Holds(_) => return false,
+        Held::Empty => {}
+    }
+    if wire::end_of(m, q) <= q + 5 {
+        return false;
+    }
+    memory::is_struck_out(work, wire::byte_at(m, q + 8), q + 5)
+}
+
+// The first default struck out of those that the parameters from `from` to `to` take. In a compile none is.
+fn struck_default(m: &[u8], from: usize, to: usize, table: &[u8], work: &[u8]) -> Choice
+    requires { ⌜ (to ≤ 65535) × (65536 ≤ length (now work)) ⌝ }
+    ensures { λ r. ⌜ (r ≡ firstStruck (now (work .entry)) (defaultsIn (now (m .entry)) (now (table .entry)) (fieldsIn (now (m .entry)) from to))) × Near r ⌝ }
+{
+    if memory::none_struck_out(work) {
+        return Choice::Nothing;
+    }
+    let mut q = from;
+    while q < to {
+        if takes_struck(m, q, table, work) {
+            return Choice::At(q + 5);
+        }
+        q = wire::end_of(m, q);
+    }
+    Choice::Nothing
+}
+
+// The parameters of a definition, in the context of its body, unless a default that is assigned is struck out.
+pub fn assign_parameters(
+    m: &[u8],
+    parameters: Span,
+    table: &[u8],
+    work: &mut [u8],
+    here: Context,
+) -> Ran
+    requires { ⌜ ((parameters .end ≤ 65535) × ((65536 ≤ length (now work)) × (length (now m) ≤ 65535))) × (Siblings (now m) 31 Parameter (parameters .first) (parameters .end) × SmallNames (now m) (fieldsIn (now m) (parameters .first) (parameters .end))) ⌝ }
+    ensures { λ r. ⌜ AssignsAll (now (m .entry)) (now (table .entry)) (now (work .entry)) (now (work .exit)) (parameters .first) (parameters .end) here r ⌝ }
+{
+    let struck = struck_default(m, parameters.first, parameters.end, table, work);
+    match struck {
+        Choice::At(q) => Ran::Refused(Refusal::at(Reason::Malformed, q)),
+        Choice::Nothing => store_parameters(m, parameters, table, work, here),
+    }
 }

@@ -4,3 +4,4 @@ pub mod Trying
 pub mod Places
 pub mod Ways
 pub mod Follows
+pub mod Struck

@@ -2,12 +2,14 @@
 ghost use mathlib.Core.Path.{_≡_};
 ghost use Prim.Native.Nat.{_≤_, _<_};
 ghost use lib.ListN.{length};
-ghost use Rattle.wire.specs.Bytes.{byte};
+ghost use Rattle.wire.specs.Bytes.{byte, fieldsIn};
 ghost use Rattle.rules.specs.Arithmetic.{sameValue};
+ghost use Rattle.rules.specs.Patterns.{tried};
 ghost use Rattle.places.specs.At.{constantAt};
 ghost use Rattle.patterns.specs.declared.Choice.the-variants.{At};
 ghost use Rattle.patterns.specs.Words.{labelsIn, JoinsLabel};
-ghost use Rattle.patterns.specs.Tried.{kept, Matches};
+ghost use Rattle.patterns.specs.Tried.{patternsAt, kept, Matches};
+ghost use Rattle.patterns.specs.Struck.{firstStruck, Near};
 use labels::Labels;
 use values::Value;
 
@@ -114,4 +116,31 @@ pub fn try_patterns(m: &[u8], from: usize, end: usize, x: Value) -> Matched
         at: default,
         labels: labels_of(&tried),
     }
+}
+
+// The first constant struck out among the patterns that are tried on x, of the fields from `from` to `end`. In a compile none is.
+pub fn struck_pattern(m: &[u8], from: usize, end: usize, x: Value, work: &[u8]) -> Choice
+    requires { ⌜ (end ≤ 65535) × (65536 ≤ length (now work)) ⌝ }
+    ensures { λ r. ⌜ (r ≡ firstStruck (now (work .entry)) (tried (patternsAt (now (m .entry)) (fieldsIn (now (m .entry)) from end)) x)) × Near r ⌝ }
+{
+    if memory::none_struck_out(work) {
+        return Choice::Nothing;
+    }
+    let mut q = from;
+    while q < end {
+        let pattern = q + 3;
+        let tag = wire::byte_at(m, pattern);
+        if tag == 0x1b {
+            q = wire::end_of(m, q);
+            continue;
+        }
+        if memory::is_struck_out(work, wire::byte_at(m, pattern + 3), pattern) {
+            return Choice::At(pattern);
+        }
+        if equals_constant(m, tag, pattern, x) {
+            return Choice::Nothing;
+        }
+        q = wire::end_of(m, q);
+    }
+    Choice::Nothing
 }

@@ -20,7 +20,7 @@ use Rattle.rules.specs.Outcome.{Outcome, refused, done, _>>=_, at}
 use Rattle.rules.specs.Arithmetic.{stringIn}
 use Rattle.rules.specs.State.{Entry, State, Context, Known}
 use Rattle.rules.specs.Evaluate.{evaluate}
-use Rattle.rules.specs.Run.{Given, Declare, evaluateAll, addResource, run}
+use Rattle.rules.specs.Run.{Given, Declare, evaluateAll, marksFor, addResource, run}
 use Rattle.rules.specs.declared.Kind.the-variants.{Expression as ExpressionKind, Attribute as AttributeKind}
 use Rattle.rules.proofs.Outcome.{All, allDone, allBind, allAny, allGet}
 use Rattle.places.specs.At.{expressionAt, attributeAt, attributesAt, statementAt, Stands, StandsAs, Siblings}
@@ -42,7 +42,7 @@ use Rattle.resources.specs.declared.Filled.{Filled}
 use Rattle.resources.specs.declared.Filled.the-variants.{Done, Refused}
 use Rattle.resources.specs.Attributes.{Kept, Gathered, notGathered, gathered}
 use Rattle.attributes.specs.Names.{Alike, alikeNone, alike}
-use Rattle.resources.specs.Entries.{Means, refusedSo, Checks, RunsTitled, Runs}
+use Rattle.resources.specs.Entries.{Means, refusedSo, Checks, titledRun, RunsTitled, Runs}
 use Rattle.resources.proofs.Finishing.{kept-all, within-refused}
 
 -- what is evaluated stands at the places
@@ -54,15 +54,18 @@ all-alike m d k c st (q ∷ qs) = allAny (evaluate k c st (expressionAt m (d - 1
 -- ---- The ways of `add_titled`
 
 module _ (m w out : List ℕ) (fill room : ℕ) (here : Here) (inner p : ℕ) (x : Labelled) (built : Bool) where
-  abbrev titledRun : Known → List Entry → ℕ → Outcome State
-  titledRun k es n = at (p + 5) (stringIn (x .value)) >>= λ t. evaluateAll k (contextOf here) (stateOf w es n room) (attributesAt m (suc inner) (fieldsIn m (endOf m (p + 5)) (endOf m p))) >>= λ gs. addResource k p (two m (p + 3)) t (x .labels) gs (contextOf here) (stateOf w es n room)
+  abbrev marksHere : Known → List Entry → ℕ → ℕ → Labels
+  marksHere k es n = marksFor k (contextOf here) (stateOf w es n room) (attributesAt m (suc inner) (fieldsIn m (endOf m (p + 5)) (endOf m p)))
+
+  abbrev runHere : Known → List Entry → ℕ → Outcome State
+  runHere k es n = titledRun m (suc inner) p x k (contextOf here) (stateOf w es n room)
 
   -- the title is no string
-  wrong-run : (k : Known) (es : List Entry) (n : ℕ) → ((t : ℕ) → x .value ≡ String t → ⊥) → titledRun k es n ≡ refused WrongKind (p + 5)
+  wrong-run : (k : Known) (es : List Entry) (n : ℕ) → ((t : ℕ) → x .value ≡ String t → ⊥) → runHere k es n ≡ refused WrongKind (p + 5)
   unfolding stringIn at _>>=_
   wrong-run k es n unlike = go (x .value) refl
     where
-      go : (v : Value) → x .value ≡ v → (at (p + 5) (stringIn v) >>= λ t. evaluateAll k (contextOf here) (stateOf w es n room) (attributesAt m (suc inner) (fieldsIn m (endOf m (p + 5)) (endOf m p))) >>= λ gs. addResource k p (two m (p + 3)) t (x .labels) gs (contextOf here) (stateOf w es n room)) ≡ refused WrongKind (p + 5)
+      go : (v : Value) → x .value ≡ v → (at (p + 5) (stringIn v) >>= λ t. evaluateAll k (contextOf here) (stateOf w es n room) (attributesAt m (suc inner) (fieldsIn m (endOf m (p + 5)) (endOf m p))) >>= λ gs. addResource k p (two m (p + 3)) t (x .labels) (marksHere k es n) gs (contextOf here) (stateOf w es n room)) ≡ refused WrongKind (p + 5)
       go (Integer z) e = refl
       go (String t) e = absurd (unlike t e)
       go (Boolean b) e = refl
@@ -71,7 +74,7 @@ module _ (m w out : List ℕ) (fill room : ℕ) (here : Here) (inner p : ℕ) (x
   titled-wrong {q} {r} unlike small answer = record {
     kept = kept-all out fill;
     within = within-refused fill room answer;
-    says = λ s l e b k es n h. subst (λ (v : Filled). Means w out fill room n es (titledRun k es n) v) (sym answer) (refusedSo {why = refusalAt WrongKind q} (wrong-run k es n (λ t v. unlike (ap (tagOf the-type) v)) ∙ ap (refused WrongKind) (sym (small .1 l))));
+    says = λ s l e b k es n h. subst (λ (v : Filled). Means w out fill room n es (runHere k es n) v) (sym answer) (refusedSo {why = refusalAt WrongKind q} (wrong-run k es n (λ t v. unlike (ap (tagOf the-type) v)) ∙ ap (refused WrongKind) (sym (small .1 l))));
   }
 
   module _ {title first e end : ℕ} {outer own : Labels} (is : x .value ≡ String title) (o1 : outer ≡ here .path ∪ trailOf w) (o2 : own ≡ outer ∪ x .labels) (first-is : first ≡ endOf m (p + 5)) (end-is : e ≡ endOf m p) (near : Small end e) {out1 : List ℕ} {g : Filled}
@@ -95,18 +98,18 @@ module _ (m w out : List ℕ) (fill room : ℕ) (here : Here) (inner p : ℕ) (x
         go (gathered gs k h f t) = omega (arith, h .grown)
 
     string-run : (k : Known) (es : List Entry) (n : ℕ) {o : Outcome (List Given)} → o ≡ evaluateAll k (contextOf here) (stateOf w es n room) (attributesAt m (suc inner) (fieldsIn m (endOf m (p + 5)) (endOf m p)))
-        → (o >>= λ gs. addResource k p (two m (p + 3)) title (x .labels) gs (contextOf here) (stateOf w es n room)) ≡ titledRun k es n
+        → (o >>= λ gs. addResource k p (two m (p + 3)) title (x .labels) (marksHere k es n) gs (contextOf here) (stateOf w es n room)) ≡ runHere k es n
     unfolding stringIn at _>>=_
     string-run k es n told =
-        ap (λ (u : Outcome (List Given)). u >>= λ gs. addResource k p (two m (p + 3)) title (x .labels) gs (contextOf here) (stateOf w es n room)) told
-        ∙ ap (λ (v : Value). at (p + 5) (stringIn v) >>= λ t. evaluateAll k (contextOf here) (stateOf w es n room) (attributesAt m (suc inner) (fieldsIn m (endOf m (p + 5)) (endOf m p))) >>= λ gs. addResource k p (two m (p + 3)) t (x .labels) gs (contextOf here) (stateOf w es n room)) (sym is)
+        ap (λ (u : Outcome (List Given)). u >>= λ gs. addResource k p (two m (p + 3)) title (x .labels) (marksHere k es n) gs (contextOf here) (stateOf w es n room)) told
+        ∙ ap (λ (v : Value). at (p + 5) (stringIn v) >>= λ t. evaluateAll k (contextOf here) (stateOf w es n room) (attributesAt m (suc inner) (fieldsIn m (endOf m (p + 5)) (endOf m p))) >>= λ gs. addResource k p (two m (p + 3)) t (x .labels) (marksHere k es n) gs (contextOf here) (stateOf w es n room)) (sym is)
 
     pub titled-stops : {why : Refusal} → g ≡ Refused why → RunsTitled m w out out1 fill room here inner p x built g
     unfolding _>>=_
     titled-stops {why} stop = record {
       kept = gathered-kept;
       within = within-refused fill room stop;
-      says = λ s l e b k es n h. subst (λ (v : Filled). Means w out1 fill room n es (titledRun k es n) v) (sym stop) (refusedSo {why = why} (sym (string-run k es n (told (subst (λ (v : Filled). Gathered m w out out1 fill (here .scope) (suc inner) (endOf m (p + 5)) (endOf m p) outer own v) stop (gathered-here e)) s k es n h))));
+      says = λ s l e b k es n h. subst (λ (v : Filled). Means w out1 fill room n es (runHere k es n) v) (sym stop) (refusedSo {why = why} (sym (string-run k es n (told (subst (λ (v : Filled). Gathered m w out out1 fill (here .scope) (suc inner) (endOf m (p + 5)) (endOf m p) outer own v) stop (gathered-here e)) s k es n h))));
     }
       where
         told : Gathered m w out out1 fill (here .scope) (suc inner) (endOf m (p + 5)) (endOf m p) outer own (Refused why) → Siblings m (suc inner) AttributeKind (endOf m (p + 5)) (endOf m p) → (k : Known) (es : List Entry) (n : ℕ) → Ready m w out fill k es
@@ -122,14 +125,14 @@ module _ (m w out : List ℕ) (fill room : ℕ) (here : Here) (inner p : ℕ) (x
     }
       where
         go : Gathered m w out out1 fill (here .scope) (suc inner) (endOf m (p + 5)) (endOf m p) outer own (Done size) → endOf m p ≤ 65535 → Siblings m (suc inner) AttributeKind (endOf m (p + 5)) (endOf m p) → built ≡ builtInOf w (two m (p + 3))
-            → (k : Known) (es : List Entry) (n : ℕ) → Ready m w out fill k es → Means w out2 fill room n es (titledRun k es n) r
+            → (k : Known) (es : List Entry) (n : ℕ) → Ready m w out fill k es → Means w out2 fill room n es (runHere k es n) r
         go (gathered gs kept holding fits t) l s b k es n h =
             let same : end ≡ endOf m p = near .1 (omega arith) ∙ end-is in
             let told : done gs ≡ evaluateAll k (contextOf here) (stateOf w es n room) (attributesAt m (suc inner) (fieldsIn m (endOf m (p + 5)) (endOf m p))) = t s .says k (here .path) es n room h in
             let places : fieldsIn m (endOf m (p + 5)) (endOf m p) ≡ fieldsIn m first end = ap₂ (λ (a z : ℕ). fieldsIn m a z) (sym first-is) (sym same) in
             let alikes : Alike m gs (fieldsIn m first end) = subst (λ (qs : List ℕ). Alike m gs qs) places (allGet (all-alike m (suc inner) k (contextOf here) (stateOf w es n room) (fieldsIn m (endOf m (p + 5)) (endOf m p))) (sym told)) in
             subst (λ (o : Outcome State). Means w out2 fill room n es o r) (string-run k es n told)
-            (checks .says k (contextOf here) es n gs (x .labels) outer (h .known .builtIns (two m (p + 3)) ∙ sym b) (written-kept (kept .front) (h .catalog)) (h .index) (h .unique) o1 o2 holding fits alikes)
+            (checks .says k (contextOf here) es n gs (x .labels) outer (marksHere k es n) (h .known .builtIns (two m (p + 3)) ∙ sym b) (written-kept (kept .front) (h .catalog)) (h .index) (h .unique) o1 o2 holding fits alikes)
 
 -- ---- The ways of `add_resource`
 
@@ -143,14 +146,14 @@ module _ (m w out : List ℕ) (fill room : ℕ) (here : Here) (d p : ℕ) (built
   }
 
   module _ {b : ℕ} (deep : d ≡ suc b) (short : length m ≤ 65535) {q : ℕ} (small : Small q (p + 5)) (e : Evaluated) (told : StandsAs m b ExpressionKind q → Tells m w out fill (here .scope) (evaluated e) (λ k c st. evaluate k c st (expressionAt m b q))) where
-    resource-run : (s : Stands m d p) (by : byte m p ≡ 0x25) (k : Known) (declare : Declare) (es : List Entry) (n : ℕ) → Ready m w out fill k es
-        → (evaluated e >>= λ x. at (p + 5) (stringIn (x .value)) >>= λ t. evaluateAll k (contextOf here) (stateOf w es n room) (attributesAt m b (fieldsIn m (endOf m (p + 5)) (endOf m p))) >>= λ gs. addResource k p (two m (p + 3)) t (x .labels) gs (contextOf here) (stateOf w es n room))
+    pub resource-run : (s : Stands m d p) (by : byte m p ≡ 0x25) (k : Known) (declare : Declare) (es : List Entry) (n : ℕ) → Ready m w out fill k es
+        → (evaluated e >>= λ x. titledRun m b p x k (contextOf here) (stateOf w es n room))
         ≡ run k declare (statementAt m d p) (contextOf here) (stateOf w es n room)
     unfolding run
     resource-run s by k declare es n h =
         let o = resource-opens s deep by in
         let st = stateOf w es n room in
-        ap₂ (λ (u : Outcome Labelled) (l : ℕ). u >>= λ x. at l (stringIn (x .value)) >>= λ t. evaluateAll k (contextOf here) (stateOf w es n room) (attributesAt m b (fieldsIn m (endOf m (p + 5)) (endOf m p))) >>= λ gs. addResource k p (two m (p + 3)) t (x .labels) gs (contextOf here) (stateOf w es n room))
+        ap₂ (λ (u : Outcome Labelled) (l : ℕ). u >>= λ x. at l (stringIn (x .value)) >>= λ t. evaluateAll k (contextOf here) (stateOf w es n room) (attributesAt m b (fieldsIn m (endOf m (p + 5)) (endOf m p))) >>= λ gs. addResource k p (two m (p + 3)) t (x .labels) (marksFor k (contextOf here) (stateOf w es n room) (attributesAt m b (fieldsIn m (endOf m (p + 5)) (endOf m p)))) gs (contextOf here) (stateOf w es n room))
         (operand-told m w out fill (here .scope) b (p + 5) short (o .title) small told .says k (here .path) es n room h) (sym (expression-place m b (p + 5)))
         ∙ ap (λ (z : _). run k declare z (contextOf here) (stateOf w es n room)) (sym (o .tree))
 

@@ -17,7 +17,7 @@ use Rattle.rules.specs.Arithmetic.{stringIn}
 use Rattle.rules.specs.declared.Kind.the-variants.{Attribute as AttributeKind}
 use Rattle.rules.specs.State.{Entry, State, Context, Known}
 use Rattle.rules.specs.Catalog.{entryBytes}
-use Rattle.rules.specs.Run.{Given, Declare, evaluateAll, addResource, run}
+use Rattle.rules.specs.Run.{Given, Declare, evaluateAll, marksFor, addResource, run}
 use Rattle.rules.specs.Compile.{onto}
 use Rattle.rules.specs.Ranges.{Each, FitsAttribute}
 use Rattle.rules.specs.Once.{UniqueEntries}
@@ -55,9 +55,16 @@ pub data Means (w out′ : List ℕ) (fill room n : ℕ) (es : List Entry) (o : 
 pub record Checks (m w out out′ : List ℕ) (fill size room p first end : ℕ) (built : Bool) (title : ℕ) (own : Labels) (r : Filled) : Type 0 where
   pub kept : Kept out out′ fill
   pub within : Within fill room r
-  pub says : (k : Known) (c : Context) (es : List Entry) (n : ℕ) (gs : List Given) (labels outer : Labels) → k .builtIn (two m (p + 3)) ≡ built → Written out fill (onto es []) → Indexed w (onto es []) → UniqueEntries es
+  pub says : (k : Known) (c : Context) (es : List Entry) (n : ℕ) (gs : List Given) (labels outer : Labels) (marks : ℕ → Labels) → k .builtIn (two m (p + 3)) ≡ built → Written out fill (onto es []) → Indexed w (onto es []) → UniqueEntries es
       → outer ≡ c .path ∪ trailOf w → own ≡ outer ∪ labels → Holding (drop fill out) size (attributesFor outer own gs) → Each FitsAttribute (attributesFor outer own gs) → Alike m gs (fieldsIn m first end)
-      → Means w out′ fill room n es (addResource k p (two m (p + 3)) title labels gs c (stateOf w es n room)) r
+      → Means w out′ fill room n es (addResource k p (two m (p + 3)) title labels marks gs c (stateOf w es n room)) r
+
+-- the rest of the 25 at p after its title x was evaluated, where its 26s have d levels
+abbrev pub titledRun : List ℕ → (d p : ℕ) → Labelled → Known → Context → State → Outcome State
+titledRun m d p x k c st =
+    at (p + 5) (stringIn (x .value))
+    >>= λ t. evaluateAll k c st (attributesAt m d (fieldsIn m (endOf m (p + 5)) (endOf m p)))
+    >>= λ gs. addResource k p (two m (p + 3)) t (x .labels) (marksFor k c st (attributesAt m d (fieldsIn m (endOf m (p + 5)) (endOf m p)))) gs c st
 
 -- the same after its title x was evaluated, for expressions with `inner` levels in its 26s
 pub record RunsTitled (m w out out′ : List ℕ) (fill room : ℕ) (here : Here) (inner p : ℕ) (x : Labelled) (built : Bool) (r : Filled) : Type 0 where
@@ -65,7 +72,7 @@ pub record RunsTitled (m w out out′ : List ℕ) (fill room : ℕ) (here : Here
   pub within : Within fill room r
   pub says : Siblings m (suc inner) AttributeKind (endOf m (p + 5)) (endOf m p) → p + 5 ≤ 65535 → endOf m p ≤ 65535 → built ≡ builtInOf w (two m (p + 3))
       → (k : Known) (es : List Entry) (n : ℕ) → Ready m w out fill k es
-      → Means w out′ fill room n es (at (p + 5) (stringIn (x .value)) >>= λ t. evaluateAll k (contextOf here) (stateOf w es n room) (attributesAt m (suc inner) (fieldsIn m (endOf m (p + 5)) (endOf m p))) >>= λ gs. addResource k p (two m (p + 3)) t (x .labels) gs (contextOf here) (stateOf w es n room)) r
+      → Means w out′ fill room n es (titledRun m (suc inner) p x k (contextOf here) (stateOf w es n room)) r
 
 -- the 25 at p, with d levels: whatever is known and whatever a declaration does, the answer means what the definition's run gives
 pub record Runs (m w out out′ : List ℕ) (fill room : ℕ) (here : Here) (d p : ℕ) (built : Bool) (r : Filled) : Type 0 where

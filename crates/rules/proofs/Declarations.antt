@@ -11,8 +11,8 @@ use Rattle.values.specs.declared.Reason.{Reason}
 use Rattle.rules.specs.Outcome.{done, _>>=_, refuseIf}
 use Rattle.rules.specs.Tree.{Constant, Block, Parameter, Parent, TypeDefinition, ClassDefinition, Definition, Devices, Item}
 use Rattle.rules.specs.State.{Scope, bodyScope, Cell, State, Context, Known, isDeclared, freed, noCell, markDeclared, free}
-use Rattle.rules.specs.Evaluate.{any, firstWith, findType, findClass}
-use Rattle.rules.specs.Run.{Given, isGiven, namedOnce, parametersKnown, defaultOf, givenOr, parameterValues, store, storeAll, storeTitle, placedUnder, inBody, parentFirst, enterClass, Declaration, Declare, runBlock, declaration, runAtTop, topContext, nodeContext, withDefinition, runItems}
+use Rattle.rules.specs.Evaluate.{any, firstWith, findType, findClass, comeToAll}
+use Rattle.rules.specs.Run.{Given, isGiven, namedOnce, parametersKnown, defaultOf, givenOr, parameterValues, takenDefaults, store, storeAll, storeTitle, placedUnder, inBody, parentFirst, enterClass, Declaration, Declare, runBlock, declaration, runAtTop, topContext, nodeContext, withDefinition, runItems}
 use Rattle.rules.specs.Compile.{withoutNodes, withNode, isNode, names, isDefaultNode, itemsFor, start}
 use Rattle.rules.proofs.Same.{Edit, Pairwise, nonePaired, paired, Optional, bothNone, bothSome, SameConstant, SameBlock, sameEnd, sameNext, SameParameter, sameParameter, SameParent, sameParent, SameType, sameType, SameClassDefinition, sameClassDefinition, SameDefinition, sameTypeDefinition, sameClassDefinitions, SameItem, sameStatementItem, sameNode, sameDefinitionItem}
 use Rattle.rules.proofs.Outcome.{allDone, allAny, allIf, Two, leftRefused, bothDone, twoBind, twoAny, twoIf, twoOr, twoStep}
@@ -89,8 +89,8 @@ module _ (D : Edit) where
 
   -- ---- A level, given the one below
 
-  again-quiet : (k : Known) (declare : Declare) (quietly : QuietDeclare D declare) (n : ℕ) (d : ClassDefinition) (vs : List Given) (c : Context) → QuietRun D (λ st. elim (isDeclared n st) [ true ↦ done st | false ↦ enterClass k declare d vs c st ])
-  again-quiet k declare quietly n d vs c st h = allIf (isDeclared n st) (allDone (quiet D noGrowth λ g. g)) (enter-quiet D k declare quietly d vs c st (inr h))
+  again-quiet : (k : Known) (declare : Declare) (quietly : QuietDeclare D declare) (n : ℕ) (d : ClassDefinition) (ds : List Constant) (vs : List Given) (c : Context) → QuietRun D (λ st. elim (isDeclared n st) [ true ↦ done st | false ↦ enterClass k declare d ds vs c st ])
+  again-quiet k declare quietly n d ds vs c st h = allIf (isDeclared n st) (allDone (quiet D noGrowth λ g. g)) (enter-quiet D k declare quietly d ds vs c st (inr h))
 
   module _ (k k′ : Known) (declare declare′ : Declare) (quietly : QuietDeclare D declare) (quietly′ : QuietDeclare D declare′) (alike : SameDeclare D declare declare′) where
     parent-low : {o o′ : Option Parent} → Optional (SameParent D) o o′ → (c : Context) {st st′ : State} → Low D st st′ → Two (Related D) (parentFirst k declare o c st) (parentFirst k′ declare′ o′ c st′)
@@ -98,42 +98,44 @@ module _ (D : Edit) where
     parent-low bothNone c l = bothDone (relatedLow l)
     parent-low (bothSome (sameParent {n = n})) c (low {q = q} hc hk u u′) = twoIf (declaredIn D q n) (bothDone (relatedLow (low hc hk u u′))) (twoStep _ _ _ _ _ _ λ m m′. alike _ _ sameIncluded c _ _ (relatedLow (low hc hk u u′)))
 
-    enter-low : {d d′ : ClassDefinition} → SameClassDefinition D d d′ → {vs vs′ : List Given} → SameGivens D vs vs′ → (c : Context) {st st′ : State} → Low D st st′ → Two (Related D) (enterClass k declare d vs c st) (enterClass k′ declare′ d′ vs′ c st′)
+    enter-low : {d d′ : ClassDefinition} → SameClassDefinition D d d′ → (ds ds′ : List Constant) {vs vs′ : List Given} → SameGivens D vs vs′ → (c : Context) {st st′ : State} → Low D st st′ → Two (Related D) (enterClass k declare d ds vs c st) (enterClass k′ declare′ d′ ds′ vs′ c st′)
     unfolding enterClass placedUnder markDeclared
-    enter-low (sameClassDefinition bothNone ps b) g c (low hc hk u u′) = twoBind (store-all-related _ g (relatedLow (low hc hk u u′))) λ st st′ h. block-related D k k′ declare declare′ quietly quietly′ alike b _ h
-    enter-low (sameClassDefinition (bothSome sameParent) ps b) g c (low hc hk u u′) = twoBind (store-all-related _ g (relatedLow (low hc hk u u′))) λ st st′ h. block-related D k k′ declare declare′ quietly quietly′ alike b _ h
+    enter-low (sameClassDefinition bothNone ps b) ds ds′ g c (low hc hk u u′) = twoAny _ _ λ _ _. twoBind (store-all-related _ g (relatedLow (low hc hk u u′))) λ st st′ h. block-related D k k′ declare declare′ quietly quietly′ alike b _ h
+    enter-low (sameClassDefinition (bothSome sameParent) ps b) ds ds′ g c (low hc hk u u′) = twoAny _ _ λ _ _. twoBind (store-all-related _ g (relatedLow (low hc hk u u′))) λ st st′ h. block-related D k k′ declare declare′ quietly quietly′ alike b _ h
 
     -- looks again after the parent: a 29 or a parent does nothing more
-    again-low : (n : ℕ) {d d′ : ClassDefinition} → SameClassDefinition D d d′ → {vs vs′ : List Given} → SameGivens D vs vs′ → (c : Context) {st st′ : State} → Low D st st′ → Two (Related D) (elim (isDeclared n st) [ true ↦ done st | false ↦ enterClass k declare d vs c st ]) (elim (isDeclared n st′) [ true ↦ done st′ | false ↦ enterClass k′ declare′ d′ vs′ c st′ ])
+    again-low : (n : ℕ) {d d′ : ClassDefinition} → SameClassDefinition D d d′ → (ds ds′ : List Constant) {vs vs′ : List Given} → SameGivens D vs vs′ → (c : Context) {st st′ : State} → Low D st st′
+        → Two (Related D) (elim (isDeclared n st) [ true ↦ done st | false ↦ enterClass k declare d ds vs c st ]) (elim (isDeclared n st′) [ true ↦ done st′ | false ↦ enterClass k′ declare′ d′ ds′ vs′ c st′ ])
     unfolding isDeclared
-    again-low n h g c (low {q = q} hc hk u u′) = twoIf (declaredIn D q n) (bothDone (relatedLow (low hc hk u u′))) (enter-low h g c (low hc hk u u′))
+    again-low n h ds ds′ g c (low {q = q} hc hk u u′) = twoIf (declaredIn D q n) (bothDone (relatedLow (low hc hk u u′))) (enter-low h ds ds′ g c (low hc hk u u′))
 
     -- the three declarations, once the definition is found
     type-low : (n : ℕ) {d d′ : TypeDefinition} → SameType D d d′ → (o : Option ℕ) (p q : ℕ) {x y : Labelled} → SameLabelled D x y → {gs gs′ : List Given} → SameGivens D gs gs′ → (c : Context) {st st′ : State} → Low D st st′
-        → Two (Related D) (parametersKnown (d .parameters) gs >>= λ _. parameterValues (d .parameters) gs >>= λ vs. namedOnce [] gs >>= λ _. storeTitle o (inBody n c) p x st >>= λ st₁. storeAll (inBody n c) vs st₁ >>= λ st₂. runBlock k declare (d .body) (inBody n c) st₂ >>= λ st₃. done (free (bodyScope n) st₃))
-        (parametersKnown (d′ .parameters) gs′ >>= λ _. parameterValues (d′ .parameters) gs′ >>= λ vs. namedOnce [] gs′ >>= λ _. storeTitle o (inBody n c) q y st′ >>= λ st₁. storeAll (inBody n c) vs st₁ >>= λ st₂. runBlock k′ declare′ (d′ .body) (inBody n c) st₂ >>= λ st₃. done (free (bodyScope n) st₃))
+        → Two (Related D) (parametersKnown (d .parameters) gs >>= λ _. parameterValues (d .parameters) gs >>= λ vs. namedOnce [] gs >>= λ _. storeTitle o (inBody n c) p x st >>= λ st₁. comeToAll k (takenDefaults (d .parameters) gs) >>= λ _. storeAll (inBody n c) vs st₁ >>= λ st₂. runBlock k declare (d .body) (inBody n c) st₂ >>= λ st₃. done (free (bodyScope n) st₃))
+        (parametersKnown (d′ .parameters) gs′ >>= λ _. parameterValues (d′ .parameters) gs′ >>= λ vs. namedOnce [] gs′ >>= λ _. storeTitle o (inBody n c) q y st′ >>= λ st₁. comeToAll k′ (takenDefaults (d′ .parameters) gs′) >>= λ _. storeAll (inBody n c) vs st₁ >>= λ st₂. runBlock k′ declare′ (d′ .body) (inBody n c) st₂ >>= λ st₃. done (free (bodyScope n) st₃))
     type-low n (sameType ps b) o p q w g c l = twoAny _ _ λ _ _. twoBind (values-same ps g) λ vs vs′ v. twoAny _ _ λ _ _.
-        twoBind (store-title-related o (inBody n c) p q w (relatedLow l)) λ st₁ st₁′ h₁. twoBind (store-all-related (inBody n c) v h₁) λ st₂ st₂′ h₂.
+        twoBind (store-title-related o (inBody n c) p q w (relatedLow l)) λ st₁ st₁′ h₁. twoAny _ _ λ _ _. twoBind (store-all-related (inBody n c) v h₁) λ st₂ st₂′ h₂.
         twoBind (block-related D k k′ declare declare′ quietly quietly′ alike b (inBody n c) h₂) λ st₃ st₃′ h₃. bothDone (free-related (bodyScope n) h₃)
 
     class-low : (n p q : ℕ) {d d′ : ClassDefinition} → SameClassDefinition D d d′ → {gs gs′ : List Given} → SameGivens D gs gs′ → (c : Context) {st st′ : State} → Low D st st′
-        → Two (Related D) (refuseIf (isDeclared n st) Reason.DeclaredAgain p >>= λ _. parametersKnown (d .parameters) gs >>= λ _. parameterValues (d .parameters) gs >>= λ vs. namedOnce [] gs >>= λ _. parentFirst k declare (d .parent) c st >>= λ st₁. refuseIf (isDeclared n st₁) Reason.DeclaredAgain p >>= λ _. enterClass k declare d vs c st₁)
-        (refuseIf (isDeclared n st′) Reason.DeclaredAgain q >>= λ _. parametersKnown (d′ .parameters) gs′ >>= λ _. parameterValues (d′ .parameters) gs′ >>= λ vs. namedOnce [] gs′ >>= λ _. parentFirst k′ declare′ (d′ .parent) c st′ >>= λ st₁. refuseIf (isDeclared n st₁) Reason.DeclaredAgain q >>= λ _. enterClass k′ declare′ d′ vs c st₁)
-    class-low n p q {d} {d′} (sameClassDefinition o ps b) g c l = twoAny _ _ λ _ _. twoAny _ _ λ _ _. twoBind (values-same ps g) λ vs vs′ v. twoAny _ _ λ _ _.
+        → Two (Related D) (refuseIf (isDeclared n st) Reason.DeclaredAgain p >>= λ _. parametersKnown (d .parameters) gs >>= λ _. parameterValues (d .parameters) gs >>= λ vs. namedOnce [] gs >>= λ _. parentFirst k declare (d .parent) c st >>= λ st₁. refuseIf (isDeclared n st₁) Reason.DeclaredAgain p >>= λ _. enterClass k declare d (takenDefaults (d .parameters) gs) vs c st₁)
+        (refuseIf (isDeclared n st′) Reason.DeclaredAgain q >>= λ _. parametersKnown (d′ .parameters) gs′ >>= λ _. parameterValues (d′ .parameters) gs′ >>= λ vs. namedOnce [] gs′ >>= λ _. parentFirst k′ declare′ (d′ .parent) c st′ >>= λ st₁. refuseIf (isDeclared n st₁) Reason.DeclaredAgain q >>= λ _. enterClass k′ declare′ d′ (takenDefaults (d′ .parameters) gs′) vs c st₁)
+    class-low n p q {d} {d′} (sameClassDefinition o ps b) {gs} {gs′} g c l = twoAny _ _ λ _ _. twoAny _ _ λ _ _. twoBind (values-same ps g) λ vs vs′ v. twoAny _ _ λ _ _.
         twoBind (parent-low o c l) λ st₁ st₁′ h₁.
-        go-on D (λ st h. allAny (refuseIf (isDeclared n st) Reason.DeclaredAgain p) λ _. enter-quiet D k declare quietly d vs c st (inr h)) (λ st h. allAny (refuseIf (isDeclared n st) Reason.DeclaredAgain q) λ _. enter-quiet D k′ declare′ quietly′ d′ vs′ c st (inr h)) (λ st st′ l. twoAny _ _ λ _ _. enter-low (sameClassDefinition o ps b) v c l) h₁
+        go-on D (λ st h. allAny (refuseIf (isDeclared n st) Reason.DeclaredAgain p) λ _. enter-quiet D k declare quietly d (takenDefaults (d .parameters) gs) vs c st (inr h)) (λ st h. allAny (refuseIf (isDeclared n st) Reason.DeclaredAgain q) λ _. enter-quiet D k′ declare′ quietly′ d′ (takenDefaults (d′ .parameters) gs′) vs′ c st (inr h)) (λ st st′ l. twoAny _ _ λ _ _. enter-low (sameClassDefinition o ps b) _ _ v c l) h₁
 
     include-low : (n : ℕ) {d d′ : ClassDefinition} → SameClassDefinition D d d′ → (c : Context) {st st′ : State} → Low D st st′
-        → Two (Related D) (parameterValues (d .parameters) [] >>= λ vs. parentFirst k declare (d .parent) c st >>= λ st₁. elim (isDeclared n st₁) [ true ↦ done st₁ | false ↦ enterClass k declare d vs c st₁ ])
-        (parameterValues (d′ .parameters) [] >>= λ vs. parentFirst k′ declare′ (d′ .parent) c st′ >>= λ st₁. elim (isDeclared n st₁) [ true ↦ done st₁ | false ↦ enterClass k′ declare′ d′ vs c st₁ ])
+        → Two (Related D) (parameterValues (d .parameters) [] >>= λ vs. parentFirst k declare (d .parent) c st >>= λ st₁. elim (isDeclared n st₁) [ true ↦ done st₁ | false ↦ enterClass k declare d (takenDefaults (d .parameters) []) vs c st₁ ])
+        (parameterValues (d′ .parameters) [] >>= λ vs. parentFirst k′ declare′ (d′ .parent) c st′ >>= λ st₁. elim (isDeclared n st₁) [ true ↦ done st₁ | false ↦ enterClass k′ declare′ d′ (takenDefaults (d′ .parameters) []) vs c st₁ ])
     include-low n {d} {d′} (sameClassDefinition o ps b) c l = twoBind (values-same ps nonePaired) λ vs vs′ v. twoBind (parent-low o c l) λ st₁ st₁′ h₁.
-        go-on D (again-quiet k declare quietly n d vs c) (again-quiet k′ declare′ quietly′ n d′ vs′ c)
-        (λ st st′ l. again-low n (sameClassDefinition o ps b) v c l) h₁
+        go-on D (again-quiet k declare quietly n d _ vs c) (again-quiet k′ declare′ quietly′ n d′ _ vs′ c)
+        (λ st st′ l. again-low n (sameClassDefinition o ps b) _ _ v c l) h₁
 
   -- ---- The levels
 
   pub data SameKnown : Known → Known → Type 0 where
-    sameKnown : {b b′ : ℕ → Bool} {t : Option ℕ} {ds ds′ : List Definition} → Pairwise (SameDefinition D) ds ds′ → SameKnown (record { builtIn = b; title = t; definitions = ds }) (record { builtIn = b′; title = t; definitions = ds′ })
+    sameKnown : {b b′ : ℕ → Bool} {t : Option ℕ} {ds ds′ : List Definition} {s s′ : Constant → Bool} → Pairwise (SameDefinition D) ds ds′
+        → SameKnown (record { builtIn = b; title = t; definitions = ds; struckOut = s }) (record { builtIn = b′; title = t; definitions = ds′; struckOut = s′ })
 
   -- declarations from low states, and so from related ones
   at-all-levels : (k k′ : Known) (n : ℕ) → ((d d′ : Declaration) → SameDeclaration D d d′ → (c : Context) (st st′ : State) → Low D st st′ → Two (Related D) (declaration k n d c st) (declaration k′ n d′ c st′)) → SameDeclare D (declaration k n) (declaration k′ n)

@@ -1,8 +1,9 @@
 -- Demand 3, proved: the edit rule over the definition's whole compile.
 use Prim.Native.Nat.{ℕ, _-_}
 use mathlib.Core.Path.{_≡_, refl, sym, ap, subst, _∙_}
-use mathlib.Core.Bool.{true, true≢false}
-use mathlib.Core.List.{List, _++_, List·Memᴰ, List·Memᴰ·head, List·Memᴰ·tail}
+use mathlib.Core.Bool.{Bool, true, _&&_, true≢false}
+use mathlib.Core.List.{List, [], _∷_, _++_, List·Memᴰ, List·Memᴰ·head, List·Memᴰ·tail}
+use lib.Dec.{eqb}
 use lib.ListN.{length, take, replicate}
 use lib.Seq.{take-append-seam}
 use Rattle.labels.specs.declared.Labels.{Labels}
@@ -10,14 +11,14 @@ use Rattle.values.specs.declared.Reason.{Reason}
 use Rattle.values.specs.declared.Answer.{Answer}
 use Rattle.values.specs.declared.Answer.the-variants.{Catalog, Refused}
 use Rattle.rules.specs.Outcome.{Outcome, refused, done, _>>=_}
-use Rattle.rules.specs.Tree.{Item}
+use Rattle.rules.specs.Tree.{Constant, Item}
 use Rattle.rules.specs.Read.{manifestOf}
 use Rattle.rules.specs.State.{Attribute, Entry, State}
 use Rattle.rules.specs.Evaluate.{isEntry, isAttribute}
 use Rattle.rules.specs.Run.{runItems}
-use Rattle.rules.specs.Catalog.{readCatalog}
-use Rattle.rules.specs.Compile.{knownFirst, itemsFor, start, runManifest, finalState, onto, entriesInOrder, Compiled, compiledFrom, compiled, answerOf, outputOf, Effect, compile}
-use Rattle.rules.specs.EditRule.{oneTree, differing, Untouched, howMany, KeptResource, KeptAttribute, Claim, IsBytes}
+use Rattle.rules.specs.Catalog.{shown, shownAll, readCatalog}
+use Rattle.rules.specs.Compile.{knownFirst, noneStruckOut, itemsFor, start, runManifest, finalState, onto, entriesInOrder, Compiled, compiledFrom, compiled, answerOf, outputOf, Effect, compile}
+use Rattle.rules.specs.EditRule.{oneTree, differing, Untouched, oneMore, howMany, KeptResource, KeptAttribute, Claim, IsBytes}
 use Rattle.rules.proofs.Same.{Edit, anywhere, High, Pairwise, nonePaired, paired, SameItem}
 use Rattle.rules.proofs.Outcome.{allRefused, allGet, Two, twoAny, results}
 use Rattle.rules.proofs.Lists.{each-member}
@@ -30,10 +31,10 @@ use Rattle.rules.proofs.Laws.{catalog-reads-back, type-and-title-once, 
 module _ (D : Edit) where
   -- ---- Two whole runs end in related states
 
-  run-related : (ss ss′ : List (List ℕ)) (device : List ℕ) {is is′ : List Item} → ss ≡ ss′ → Pairwise (SameItem D) is is′ → (limit output limit′ output′ : ℕ)
-      → Two (Related D) (runItems (knownFirst ss) (itemsFor ss device is) (start limit output)) (runItems (knownFirst ss′) (itemsFor ss′ device is′) (start limit′ output′))
+  run-related : (s s′ : Constant → Bool) (ss ss′ : List (List ℕ)) (device : List ℕ) {is is′ : List Item} → ss ≡ ss′ → Pairwise (SameItem D) is is′ → (limit output limit′ output′ : ℕ)
+      → Two (Related D) (runItems (knownFirst s ss) (itemsFor ss device is) (start limit output)) (runItems (knownFirst s′ ss′) (itemsFor ss′ device is′) (start limit′ output′))
   unfolding knownFirst
-  run-related ss ss′ device e r limit output limit′ output′ = rw e (items-related D (sameKnown nonePaired) (items-for-same D ss′ device r) (start-related D limit output limit′ output′))
+  run-related s s′ ss ss′ device e r limit output limit′ output′ = rw e (items-related D (sameKnown nonePaired) (items-for-same D ss′ device r) (start-related D limit output limit′ output′))
 
   catalogs : {st st′ : State} → Related D st st′ → SameCatalog D (st .entries) (st′ .entries)
   catalogs (relatedLow (low hc hk u u′)) = hk
@@ -95,18 +96,72 @@ module _ (m m′ : List ℕ) {d : List Entry} (once : Once d) where
     attributes = λ e a p i u. let y = opposite (between m m′) r p (λ h. not-high m m′ u (each-member (h .all) i)) in attribute-of-kept (y .same) (y .present) i (not-high m m′ u);
   }
 
+-- ---- The claim, about entries as they are shown
+
+record Behind (e : Entry) (c : List Entry) : Type 0 where
+  entry : Entry
+  present : List·Memᴰ entry c
+  same : shown entry ≡ e
+
+behind : (c : List Entry) {e : Entry} → List·Memᴰ e (shownAll c) → Behind e c
+unfolding shownAll
+behind (x ∷ c) (List·Memᴰ·head p) = record { entry = x; present = List·Memᴰ·head refl; same = sym p }
+behind (x ∷ c) (List·Memᴰ·tail i) = let b = behind c i in record { entry = b .entry; present = List·Memᴰ·tail (b .present); same = b .same }
+
+shown-present : {c : List Entry} {e : Entry} → List·Memᴰ e c → List·Memᴰ (shown e) (shownAll c)
+unfolding shownAll
+shown-present (List·Memᴰ·head p) = List·Memᴰ·head (ap shown p)
+shown-present (List·Memᴰ·tail i) = List·Memᴰ·tail (shown-present i)
+
+shown-many : (t n : ℕ) (c : List Entry) → howMany (isEntry t n) (shownAll c) ≡ howMany (isEntry t n) c
+unfolding shownAll shown howMany isEntry
+shown-many t n [] = refl
+shown-many t n (e ∷ c) = ap (oneMore (eqb (e .type) t && eqb (e .title) n)) (shown-many t n c)
+
+module _ {m m′ : List ℕ} {c d : List Entry} (x : Claim m m′ c d) where
+  shown-resource : (e : Entry) → List·Memᴰ e c → Untouched m m′ (e .labels) → KeptResource (shown e) (shownAll d)
+  unfolding shown
+  shown-resource e i u =
+      let k = x .resources e i u in
+      record { entry = shown (k .entry); present = shown-present (k .present); type = k .type; title = k .title; labels = k .labels; once = shown-many (e .type) (e .title) d ∙ k .once }
+
+  shown-attribute : (e : Entry) (a : Attribute) → List·Memᴰ e c → List·Memᴰ a (e .attributes) → Untouched m m′ (a .content .labels) → KeptAttribute (shown e) a (shownAll d)
+  unfolding shown
+  shown-attribute e a i j u =
+      let k = x .attributes e a i j u in
+      record {
+        entry = shown (k .entry);
+        present = shown-present (k .present);
+        type = k .type;
+        title = k .title;
+        entryOnce = shown-many (e .type) (e .title) d ∙ k .entryOnce;
+        attribute = k .attribute;
+        within = k .within;
+        name = k .name;
+        value = k .value;
+        labels = k .labels;
+        once = k .once;
+      }
+
+  claim-shown : Claim m m′ (shownAll c) (shownAll d)
+  unfolding shown
+  claim-shown = record {
+    resources = λ e i u. let b = behind c i in subst (λ (y : Entry). Untouched m m′ (y .labels) → KeptResource y (shownAll d)) (b .same) (shown-resource (b .entry) (b .present)) u;
+    attributes = λ e a i j u. let b = behind c i in subst (λ (y : Entry). List·Memᴰ a (y .attributes) → KeptAttribute y a (shownAll d)) (b .same) (λ z. shown-attribute (b .entry) a (b .present) z u) j;
+  }
+
 -- ---- The claim, about two accepted compiles
 
 final-related : (m m′ device : List ℕ) → oneTree m m′ ≡ true → (limit limit′ output output′ memory memory′ : ℕ) → Two (Related (between m m′)) (finalState m device limit output memory) (finalState m′ device limit′ output′ memory′)
 unfolding finalState runManifest
 final-related m m′ device t limit limit′ output output′ memory memory′ = twoAny _ _ λ _ _. twoAny _ _ λ _ _. twoAny _ _ λ _ _.
-    run-related (between m m′) (manifestOf m .strings) (manifestOf m′ .strings) device (one-table m m′ t) (one-tree m m′ t) limit output limit′ output′
+    run-related (between m m′) noneStruckOut noneStruckOut (manifestOf m .strings) (manifestOf m′ .strings) device (one-table m m′ t) (one-tree m m′ t) limit output limit′ output′
 
-states : (m m′ device : List ℕ) → oneTree m m′ ≡ true → (limit limit′ output output′ memory memory′ : ℕ) {st st′ : State} → finalState m device limit output memory ≡ done st → finalState m′ device limit′ output′ memory′ ≡ done st′ → Claim m m′ (entriesInOrder st) (entriesInOrder st′)
+states : (m m′ device : List ℕ) → oneTree m m′ ≡ true → (limit limit′ output output′ memory memory′ : ℕ) {st st′ : State} → finalState m device limit output memory ≡ done st → finalState m′ device limit′ output′ memory′ ≡ done st′ → Claim m m′ (shownAll (entriesInOrder st)) (shownAll (entriesInOrder st′))
 unfolding entriesInOrder
 states m m′ device t limit limit′ output output′ memory memory′ e e′ =
-    claim m m′ (record { entries = type-and-title-once m′ device limit′ output′ memory′ e′; names = names-once m′ device limit′ output′ memory′ e′ })
-    (onto-same (between m m′) (catalogs (between m m′) (results (final-related m m′ device t limit limit′ output output′ memory memory′) e e′)) emptyBoth)
+    claim-shown (claim m m′ (record { entries = type-and-title-once m′ device limit′ output′ memory′ e′; names = names-once m′ device limit′ output′ memory′ e′ })
+    (onto-same (between m m′) (catalogs (between m m′) (results (final-related m m′ device t limit limit′ output output′ memory memory′) e e′)) emptyBoth))
 
 -- an accepted compile has a final state, whose catalog it gives
 record Accepted (m device : List ℕ) (limit output memory : ℕ) (c : Compiled) : Type 0 where
@@ -122,8 +177,8 @@ accepted m device limit output memory c h = go (finalState m device limit output
     go (refused r p) e h = absurd (allGet {P = λ (x : Compiled). ⊥} allRefused h)
     go (done st) e h = record { state = st; final = e; gives = cc }
 
--- a byte string's catalog, read back, has the entries of the final state
-read-entries : (m device : List ℕ) → IsBytes m → (limit output memory : ℕ) (c : Compiled) (a : Accepted m device limit output memory c) → readCatalog (c .catalog) ≡ entriesInOrder (a .state)
+-- a byte string's catalog, read back, has the entries of the final state as they are shown
+read-entries : (m device : List ℕ) → IsBytes m → (limit output memory : ℕ) (c : Compiled) (a : Accepted m device limit output memory c) → readCatalog (c .catalog) ≡ shownAll (entriesInOrder (a .state))
 unfolding compiledFrom
 read-entries m device b limit output memory c a = ap (λ (x : Compiled). readCatalog (x .catalog)) (sym (a .gives)) ∙ catalog-reads-back m device limit output memory b (a .final)
 

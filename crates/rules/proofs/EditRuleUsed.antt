@@ -15,7 +15,7 @@ use Rattle.rules.specs.Bytes.{byte}
 use Rattle.rules.specs.Outcome.{done}
 use Rattle.rules.specs.State.{Attribute, Entry}
 use Rattle.rules.specs.Evaluate.{firstWith, isAttribute}
-use Rattle.rules.specs.Catalog.{readCatalog}
+use Rattle.rules.specs.Catalog.{noParts, readCatalog}
 use Rattle.rules.specs.Compile.{Compiled, compiled}
 use Rattle.rules.specs.EditRule.{oneTree, differing, KeptAttribute, IsBytes}
 use Rattle.rules.proofs.Lists.{both-left, both-right, eqb-true}
@@ -86,7 +86,7 @@ only-peak l h = rw (eqb-true l 2 (alone (eqb l 2) h)) refl
     alone false e = e
 
 front : Entry
-front = record { type = 2; title = 1; labels = record { w0 = 16; w1 = 0; w2 = 0; w3 = 0 }; attributes = price ∷ screens ∷ [] }
+front = record { type = 2; title = 1; labels = record { w0 = 16; w1 = 0; w2 = 0; w3 = 0 }; attributes = price ∷ screens ∷ []; parts = λ n. noParts }
 
 -- by the rule alone: `screens` is in the second catalog, once, with its value and its labels
 screens-kept : KeptAttribute front screens (readCatalog (result row2 .catalog))

@@ -14,7 +14,7 @@ use Rattle.values.specs.declared.Reason.{Reason}
 use Rattle.rules.specs.Outcome.{Outcome, _>>=_, orRefuse, Result, at, under, joining}
 use Rattle.rules.specs.Arithmetic.{integerIn, stringIn, booleanIn, sum, difference, quotient, isGreater}
 use Rattle.rules.specs.Tree.{Constant, Operator, plus, minus, divide, greater, equal, and, or, Expression, Arms}
-use Rattle.rules.specs.State.{Scope, topScope, classScope, DeclaredClass, upward, Cell, Cells, Attribute, Entry, State, Context, Known, scopesTried}
+use Rattle.rules.specs.State.{Scope, topScope, classScope, DeclaredClass, upward, Cell, Cells, Attribute, SetParts, Entry, State, Context, Known, scopesTried}
 use Rattle.rules.specs.Evaluate.{any, firstWith, isEntry, isAttribute, orElse, readIn, readAttribute, integers, booleans, equality, operate, ofConstant, select, evaluate, armPatterns}
 use Rattle.rules.specs.Patterns.{Patterns}
 use Rattle.rules.proofs.Same.{Edit, High, high-one, high-left, high-right, Pairwise, nonePaired, paired, Optional, bothNone, bothSome, SameConstant, sameConstant, SameExpression, sameConstants, sameVariable, sameTopVariable, sameClassVariable, sameOperation, sameNegation, sameAttributeRead, sameSelector, sameUnreadable, SameArms, sameNoArm, sameArm, sameDefaultArm}
@@ -60,9 +60,9 @@ module _ (D : Edit) where
       go (equals {x = x}) = joining-same _ (k x)
 
   -- the patterns tried, then what is chosen under their set
-  select-same : {ps qs : Patterns (Outcome Labelled)} → SamePatterns D (Two SameLabelled) ps qs → (p q : ℕ) (x : Value) → Two SameLabelled (select ps p x) (select qs q x)
+  select-same : (k k′ : Known) {ps qs : Patterns (Outcome Labelled)} → SamePatterns D (Two SameLabelled) ps qs → (p q : ℕ) (x : Value) → Two SameLabelled (select k ps p x) (select k′ qs q x)
   unfolding select
-  select-same s p q x = go (choice-same D (Two SameLabelled) s x leftRefused)
+  select-same k k′ s p q x = twoAny _ _ λ _ _. go (choice-same D (Two SameLabelled) s x leftRefused)
     where
       go : {k k′ : Labels} {m n : Outcome Labelled} → SameChoice D (Two SameLabelled) k k′ m n → Two SameLabelled (joining k m) (joining k′ n)
       go (highPatterns h h′) = apart (joining-high _ h) (joining-high _ h′) λ a b p q. bothHigh p q
@@ -100,7 +100,8 @@ module _ (D : Edit) where
   HighAttribute a = High D (a .content .labels)
 
   pub data SameEntry : Entry → Entry → Type 0 where
-    sameEntry : {t m : ℕ} {k : Labels} {l l′ : List Attribute} → Pairwise SameAttribute l l′ → UniqueNames l → UniqueNames l′ → SameEntry (record { type = t; title = m; labels = k; attributes = l }) (record { type = t; title = m; labels = k; attributes = l′ })
+    sameEntry : {t m : ℕ} {k : Labels} {l l′ : List Attribute} {o o′ : ℕ → SetParts} → Pairwise SameAttribute l l′ → UniqueNames l → UniqueNames l′
+        → SameEntry (record { type = t; title = m; labels = k; attributes = l; parts = o }) (record { type = t; title = m; labels = k; attributes = l′; parts = o′ })
 
   pub record HighEntry (e : Entry) : Type 0 where
     pub own : High D (e .labels)
@@ -161,7 +162,7 @@ module _ (D : Edit) where
   only-high : {c d : List Entry} (k : Key) → SameCatalog c d → any (hasKey k) c ≡ false → Perhaps HighEntry (firstWith (hasKey k) d)
   unfolding any firstWith isEntry
   only-high k emptyBoth h = notThere
-  only-high k (entryBoth (sameEntry {t = t} {m = m} {k = s} {l = l} a u u′) q) h = not-found-if (hasKey k (record { type = t; title = m; labels = s; attributes = l })) _ _ h λ h′. only-high k q h′
+  only-high k (entryBoth (sameEntry {t = t} {m = m} {k = s} {l = l} {o = o} a u u′) q) h = not-found-if (hasKey k (record { type = t; title = m; labels = s; attributes = l; parts = o })) _ _ h λ h′. only-high k q h′
   only-high k (entryLeft {e = e} g q) h = only-high k q (either-right (hasKey k e) _ h)
   only-high k (entryRight {f = f} g q) h = found-if (hasKey k f) f g (only-high k q h)
 
@@ -191,7 +192,7 @@ module _ (D : Edit) where
   find-same : {c d : List Entry} (k : Key) → SameCatalog c d → UniqueEntries c → UniqueEntries d → IfBoth Found (firstWith (hasKey k) c) (firstWith (hasKey k) d)
   unfolding firstWith isEntry
   find-same k emptyBoth u u′ = leftNone
-  find-same k (entryBoth (sameEntry {t = t} {m = m} {k = s} {l = l} a w w′) z) (unique h u) (unique h′ u′) = both-if (hasKey k (record { type = t; title = m; labels = s; attributes = l })) _ _ (foundSame (sameEntry a w w′)) (find-same k z u u′)
+  find-same k (entryBoth (sameEntry {t = t} {m = m} {k = s} {l = l} {o = o} a w w′) z) (unique h u) (unique h′ u′) = both-if (hasKey k (record { type = t; title = m; labels = s; attributes = l; parts = o })) _ _ (foundSame (sameEntry a w w′)) (find-same k z u u′)
   find-same k (entryLeft {e = e} g z) (unique h u) u′ = found-left (hasKey k e) e g (λ t. only-high k z (lacks-key e k _ h t)) (find-same k z u u′)
   find-same k (entryRight {f = f} g z) u (unique h u′) = found-right (hasKey k f) f g (λ t. only-high k (catalog-sym z) (lacks-key f k _ h t)) (find-same k z u u′)
 
@@ -261,14 +262,14 @@ module _ (D : Edit) where
       unfolding evaluate
 
       pub evaluate-same : {e e′ : Expression} → SameExpression D e e′ → Two SameLabelled (evaluate k c st e) (evaluate k′ c st′ e′)
-      evaluate-same (sameConstants h) = bothDone (same-constant h)
+      evaluate-same (sameConstants h) = twoAny _ _ λ _ _. bothDone (same-constant h)
       evaluate-same (sameVariable {p = p} {q = q} {n = n}) = rw same-scopes (read-same p q n (scopesTried c st′) (view .cells))
       evaluate-same (sameTopVariable {p = p} {q = q} {n = n}) = read-same p q n (topScope ∷ []) (view .cells)
       evaluate-same (sameClassVariable {p = p} {q = q} {c = b} {n = n}) = twoAny _ _ λ _ _. read-same p q n (classScope b ∷ []) (view .cells)
       evaluate-same (sameOperation {o = o} a b) = then-same (evaluate-same a) λ x. operate-same o _ _ _ _ _ _ (x .value) (evaluate-same b)
       evaluate-same (sameNegation a) = then-same (evaluate-same a) λ x. twoAt _ _ (booleanIn (x .value)) λ t. bothDone equals
       evaluate-same (sameAttributeRead {p = p} {q = q} {t = t} {n = n} a) = then-same (evaluate-same a) λ x. twoAt _ _ (stringIn (x .value)) λ m. twoAny _ _ λ _ _. read-attribute-same p q t m n (view .catalogs) (view .once) (view .once′)
-      evaluate-same (sameSelector {p = p} {q = q} a s) = then-same (evaluate-same a) λ x. select-same (arms-same s) p q (x .value)
+      evaluate-same (sameSelector {p = p} {q = q} a s) = then-same (evaluate-same a) λ x. select-same k k′ (arms-same s) p q (x .value)
       evaluate-same sameUnreadable = leftRefused
 
       arms-same : {s s′ : Arms} → SameArms D s s′ → SamePatterns D (Two SameLabelled) (armPatterns k c st s) (armPatterns k′ c st′ s′)

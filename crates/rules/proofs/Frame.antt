@@ -89,7 +89,7 @@ module _ (D : Edit) where
           allIf t
           (allMap (block-frame a _ _ (high-right D _ h) (either-left (declaresIn a) (declaresIn b) i) (λ n e. m′ n (or-true-left (assignsIn a n) (assignsIn b n) e))) λ st′ g. frame-trans f g)
           (allMap (block-frame b _ _ (high-right D _ h) (either-right (declaresIn a) (declaresIn b) i) (λ n e. m′ n (or-true-right (assignsIn a n) (assignsIn b n) e))) λ st′ g. frame-trans f g))
-      run-frame (choice p e bs) c st h i m = allAny _ λ x.
+      run-frame (choice p e bs) c st h i m = allAny _ λ x. allAny _ λ _.
           allThen _ _ _
           (let f = tested-frame (c .scope) (assignsAny bs) (declaresAny bs) _ st i m in
           allMap (branch-holds (branches-frame bs _ _ (high-right D _ h) i (frame-marked (c .scope) (assignsAny bs) f m)) (x .value) (frame λ s n. keptCell)) λ st′ g. frame-trans f g)

@@ -16,9 +16,9 @@ use Rattle.labels.proofs.Laws.{words-none, words-union}
 use Rattle.values.specs.declared.Labelled.{Labelled}
 use Rattle.values.specs.declared.Reason.the-variants.{StepLimit}
 use Rattle.rules.specs.Outcome.{refused, done}
-use Rattle.rules.specs.Tree.{Constant, Expression, AttributeField, Statement, Block, Branches, Parameter, Parent, TypeDefinition, ClassDefinition, Definition, Item}
+use Rattle.rules.specs.Tree.{Constant, Expression, AttributeField, Statement, Block, Branches, Parameter, Parent, ClassDefinition, Item}
 use Rattle.rules.specs.State.{Scope, sameScope, bodyScope, DeclaredClass, Cell, noCell, valueInto, markInto, freed, Entry, State, Context, Known, isDeclared, takeStep, assign, trailWith, tested, markDeclared, free, withEntry}
-use Rattle.rules.specs.Evaluate.{any, isEntry, findType, findClass, evaluate}
+use Rattle.rules.specs.Evaluate.{any, isEntry, evaluate}
 use Rattle.rules.specs.Catalog.{entryBytes, catalogBytes}
 use Rattle.rules.specs.Run.{assignsIn, assignsAny, declaresIn, declaresAny, pathAndTrail, withPathAndTrail, inBranch, stored, store, Given as GivenValue, isGiven, evaluateAll, defaultOf, givenOr, parameterValues, storeAll, storeTitle, attributesUnder, entryFrom, addEntry, addResource, afterTest, Declaration, ofType, ofClass, included, Declare, statementPlace, run, runBlock, branchPatterns, placedUnder, inClass, inBody, parentFirst, enterClass, declaration, runAtTop, topContext, nodeContext, withDefinition, runItems}
 use Rattle.rules.proofs.Lists.{Perhaps, notThere, there, Each, noneLeft, also, found}
@@ -26,7 +26,7 @@ use Rattle.rules.specs.Patterns.{triedLabels}
 use Rattle.rules.proofs.Patterns.{everyNone, everyConstant, everyDefault, EveryBranch, branch-holds, tried-labels-fit}
 use Rattle.rules.proofs.Outcome.{All, allRefused, allDone, allBind, allAny, allIf, allPassed, allFound, allAt}
 use Rattle.rules.proofs.ReadBack.{FitsAttribute, FitsEntry}
-use Rattle.rules.proofs.Fits.{FitsName, FitsConstant, FitsExpression, FitsAttributeField, FitsStatement, fitsAssignment, fitsConditional, fitsChoice, fitsResource, fitsDefined, fitsClass, fitsInclude, fitsUnreadableStatement, FitsBlock, fitsEnd, fitsNext, FitsBranches, fitsNoBranch, fitsBranch, fitsDefaultBranch, FitsParameter, FitsParent, FitsType, FitsClassDefinition, FitsDefinition, fitsTypeDefinition, fitsClassDefinitions, FitsItem, fitsStatementItem, fitsNode, fitsDefinitionItem}
+use Rattle.rules.proofs.Fits.{FitsName, FitsConstant, FitsExpression, FitsAttributeField, FitsStatement, fitsAssignment, fitsConditional, fitsChoice, fitsResource, fitsDefined, fitsClass, fitsInclude, fitsUnreadableStatement, FitsBlock, fitsEnd, fitsNext, FitsBranches, fitsNoBranch, fitsBranch, fitsDefaultBranch, FitsParameter, FitsParent, FitsClassDefinition, FitsDefinition, FitsItem, fitsStatementItem, fitsNode, fitsDefinitionItem, type-found, class-found}
 use Rattle.rules.proofs.Ranges.{Ranged, string-fits, constant-fits, CellFits, CellsFit, evaluate-fits}
 use Rattle.rules.proofs.Unique.{UniqueEntries, UniqueNames, unique, hasKey, keyOf, named-once, unique-under}
 
@@ -210,13 +210,13 @@ module _ (Given : Type 0) (limit room : ℕ) where
       also (record { name = f .name y; content = record { value = f .content y .value; labels = words-union k (pathAndTrail c st ∪ g .content .labels) (l y) set } })
       (attributes-fit k c st l w h fs y)
 
-  resource-sound : (k : Known) (p t m : ℕ) (l : Labels) {gs : List GivenValue} (c : Context) (st : State)
-      → FitsName Given t → FitsName Given m → (Given → Words64 l) → Each GivenFits gs → PathFits c → Sound st → All Sound (addResource k p t m l gs c st)
+  resource-sound : (k : Known) (p t m : ℕ) (l : Labels) (o : ℕ → Labels) {gs : List GivenValue} (c : Context) (st : State)
+      → FitsName Given t → FitsName Given m → (Given → Words64 l) → Each GivenFits gs → PathFits c → Sound st → All Sound (addResource k p t m l o gs c st)
   unfolding addResource entryFrom
-  resource-sound k p t m l {gs} c st tf mf lf gf w h =
+  resource-sound k p t m l o {gs} c st tf mf lf gf w h =
       let set : Given → Words64 (withPathAndTrail c st l) = with-path-and-trail-fit c st l w h lf in
       allAny _ λ _. allBind (allPassed (any (isEntry t m) (st .entries)) _ _) λ _ new. allBind (named-once gs) λ _ names.
-      entry-sound p (entryFrom t m l c st gs) st new (unique-under (withPathAndTrail c st l) c st names)
+      entry-sound p (entryFrom t m l o c st gs) st new (unique-under (withPathAndTrail c st l) c st names)
       (λ y. record { type = tf y; title = mf y; labels = set y; attributes = attributes-fit (withPathAndTrail c st l) c st set w h gf y }) h
 
   -- ---- Statements
@@ -247,7 +247,7 @@ module _ (Given : Type 0) (limit room : ℕ) where
           allBind (after-test-sound p c (λ n. assignsIn a n || assignsIn b n) (declaresIn a || declaresIn b) (withPathAndTrail c st (x .labels)) st l h) λ st′ h′.
           allIf t (block-sound fa (inBranch (withPathAndTrail c st (x .labels)) c) st′ w′ h′) (block-sound fb (inBranch (withPathAndTrail c st (x .labels)) c) st′ w′ h′)
       run-sound (fitsChoice {p = p} {bs = bs} e fb) c st w h =
-          allBind (value-fits k c st e h) λ x f.
+          allBind (value-fits k c st e h) λ x f. allAny _ λ _.
           let set : Labels = x .labels ∪ triedLabels (branchPatterns k declare bs) (x .value) in
           let l : Given → Words64 (withPathAndTrail c st set) =
           with-path-and-trail-fit c st set w h (λ y. words-union (x .labels) (triedLabels (branchPatterns k declare bs) (x .value)) (f y .labels) (tried-labels-fit (branchPatterns k declare bs) (x .value))) in
@@ -256,7 +256,7 @@ module _ (Given : Type 0) (limit room : ℕ) where
           branch-holds (branches-sound fb (inBranch (withPathAndTrail c st set) c) st′ w′ h′) (x .value) h′
       run-sound (fitsResource {p = p} {t = t} tf e fs) c st w h =
           allBind (value-fits k c st e h) λ x f. allBind (allAt _ (string-fits Given (x .value) (λ y. f y .value))) λ m mf.
-          allBind (given-fits k c st fs h) λ gs gf. resource-sound k p t m (x .labels) c st tf mf (λ y. f y .labels) gf w h
+          allBind (given-fits k c st fs h) λ gs gf. resource-sound k p t m (x .labels) _ c st tf mf (λ y. f y .labels) gf w h
       run-sound (fitsDefined tf e fs) c st w h =
           allBind (value-fits k c st e h) λ x f. allAny _ λ m. allBind (given-fits k c st fs h) λ gs gf. below .sound (typeFits f gf) c st w h
       run-sound (fitsClass _ fs) c st w h = allBind (given-fits k c st fs h) λ gs gf. below .sound (classFits gf) c st w h
@@ -280,33 +280,13 @@ module _ (Given : Type 0) (limit room : ℕ) where
     parent-sound notThere c st w h = allDone h
     parent-sound (there {x = q} f) c st w h = allIf (isDeclared (q .name) st) (allDone h) (allBind (step-sound (q .place) st h) λ st′ h′. below .sound includedFits c st′ w h′)
 
-    enter-sound : {d : ClassDefinition} {vs : List GivenValue} → FitsClassDefinition Given d → Each GivenFits vs → (c : Context) (st : State) → PathFits c → Sound st
-        → All Sound (enterClass k declare d vs c st)
+    enter-sound : {d : ClassDefinition} (ds : List Constant) {vs : List GivenValue} → FitsClassDefinition Given d → Each GivenFits vs → (c : Context) (st : State) → PathFits c → Sound st
+        → All Sound (enterClass k declare d ds vs c st)
     unfolding enterClass inClass
-    enter-sound {d} f g c st w h =
+    enter-sound {d} ds f g c st w h =
         let above : DeclaredClass = placedUnder (d .parent) c st in
-        allBind (store-all-sound (inClass (d .name) above c) (markDeclared (d .name) above st) g w (declared-sound (d .name) above st h)) λ st′ h′.
+        allAny _ λ _. allBind (store-all-sound (inClass (d .name) above c) (markDeclared (d .name) above st) g w (declared-sound (d .name) above st h)) λ st′ h′.
         block-sound (f .body) (inClass (d .name) above c) st′ w h′
-
-  type-found : (n : ℕ) {ds : List Definition} → Each (FitsDefinition Given) ds → Perhaps (FitsType Given) (findType n ds)
-  unfolding findType
-  type-found n noneLeft = notThere
-  type-found n (also (fitsTypeDefinition {d = d} f) fs) = go (eqb (d .name) n) (type-found n fs)
-    where
-      go : (b : Bool) {o : Option TypeDefinition} → Perhaps (FitsType Given) o → Perhaps (FitsType Given) (elim b [ true ↦ some d | false ↦ o ])
-      go true r = there f
-      go false r = r
-  type-found n (also (fitsClassDefinitions f) fs) = type-found n fs
-
-  class-found : (n : ℕ) {ds : List Definition} → Each (FitsDefinition Given) ds → Perhaps (FitsClassDefinition Given) (findClass n ds)
-  unfolding findClass
-  class-found n noneLeft = notThere
-  class-found n (also (fitsTypeDefinition f) fs) = class-found n fs
-  class-found n (also (fitsClassDefinitions {d = d} f) fs) = go (eqb (d .name) n) (class-found n fs)
-    where
-      go : (b : Bool) {o : Option ClassDefinition} → Perhaps (FitsClassDefinition Given) o → Perhaps (FitsClassDefinition Given) (elim b [ true ↦ some d | false ↦ o ])
-      go true r = there f
-      go false r = r
 
   -- a level, given the one below it
   level-sound : (k : Known) → Each (FitsDefinition Given) (k .definitions) → (n : ℕ) → Keeps (declaration k n)
@@ -314,14 +294,14 @@ module _ (Given : Type 0) (limit room : ℕ) where
   unfolding declaration inBody
   level-sound k defs n below (typeFits {p = p} {t = t} {x = x} f g) c st w h =
       allBind (allFound _ _ (type-found t defs)) λ d df. allAny _ λ _. allBind (parameters-fit (df .parameters) g) λ vs vf. allAny _ λ _.
-      allBind (title-sound (k .title) (inBody n c) p x st f w h) λ st₁ h₁. allBind (store-all-sound (inBody n c) st₁ vf w h₁) λ st₂ h₂.
+      allBind (title-sound (k .title) (inBody n c) p x st f w h) λ st₁ h₁. allAny _ λ _. allBind (store-all-sound (inBody n c) st₁ vf w h₁) λ st₂ h₂.
       allBind (block-sound k (declaration k n) below (df .body) (inBody n c) st₂ w h₂) λ st₃ h₃. allDone (free-sound (bodyScope n) st₃ h₃)
   level-sound k defs n below (classFits {p = p} {q = q} g) c st w h =
       allBind (allFound _ _ (class-found q defs)) λ d df. allAny _ λ _. allAny _ λ _. allBind (parameters-fit (df .parameters) g) λ vs vf. allAny _ λ _.
-      allBind (parent-sound k (declaration k n) below (df .parent) c st w h) λ st₁ h₁. allAny _ λ _. enter-sound k (declaration k n) below df vf c st₁ w h₁
+      allBind (parent-sound k (declaration k n) below (df .parent) c st w h) λ st₁ h₁. allAny _ λ _. enter-sound k (declaration k n) below _ df vf c st₁ w h₁
   level-sound k defs n below (includedFits {p = p} {q = q}) c st w h =
       allBind (allFound _ _ (class-found q defs)) λ d df. allBind (parameters-fit (df .parameters) noneLeft) λ vs vf.
-      allBind (parent-sound k (declaration k n) below (df .parent) c st w h) λ st₁ h₁. allIf (isDeclared q st₁) (allDone h₁) (enter-sound k (declaration k n) below df vf c st₁ w h₁)
+      allBind (parent-sound k (declaration k n) below (df .parent) c st w h) λ st₁ h₁. allIf (isDeclared q st₁) (allDone h₁) (enter-sound k (declaration k n) below _ df vf c st₁ w h₁)
 
   declaration-sound : (k : Known) → Each (FitsDefinition Given) (k .definitions) → (n : ℕ) → Keeps (declaration k n)
   unfolding declaration

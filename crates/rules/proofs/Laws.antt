@@ -13,8 +13,8 @@ use Rattle.rules.specs.Tree.{Devices, Item, statement, node, definition}
 use Rattle.rules.specs.Read.{manifestOf}
 use Rattle.rules.specs.State.{Attribute, Entry, State}
 use Rattle.rules.specs.Evaluate.{any, isEntry, isAttribute}
-use Rattle.rules.specs.Catalog.{entryBytes, catalogBytes, readCatalog}
-use Rattle.rules.specs.Compile.{knownFirst, names, isDefaultNode, withoutNodes, withNode, isNode, itemsFor, roomIn, start, runManifest, finalState, onto, entriesInOrder, Compiled, compiledFrom, compiled}
+use Rattle.rules.specs.Catalog.{entryBytes, catalogBytes, shownAll, readCatalog}
+use Rattle.rules.specs.Compile.{knownFirst, noneStruckOut, names, isDefaultNode, withoutNodes, withNode, isNode, itemsFor, roomIn, start, runManifest, finalState, onto, entriesInOrder, Compiled, compiledFrom, compiled}
 use Rattle.rules.specs.EditRule.{oneMore, howMany, IsBytes}
 use Rattle.rules.proofs.Lists.{Each, noneLeft, also, each-member, each-apply}
 use Rattle.rules.proofs.Outcome.{All, allDone, allBind, allAny, allGet}
@@ -77,7 +77,7 @@ pub final-sound : (m device : List ℕ) (limit output memory : ℕ) → All (Sou
 unfolding finalState runManifest knownFirst
 final-sound m device limit output memory =
     allAny _ λ _. allAny _ λ _. allAny _ λ _.
-    items-sound (IsBytes m) limit (roomIn output) (knownFirst (manifestOf m .strings)) noneLeft (items-for-each (manifestOf m .strings) device (manifest-fits m))
+    items-sound (IsBytes m) limit (roomIn output) (knownFirst noneStruckOut (manifestOf m .strings)) noneLeft (items-for-each (manifestOf m .strings) device (manifest-fits m))
     (start limit output) (start-sound (IsBytes m) limit output)
 
 -- ---- Entries in order: the same entries
@@ -136,8 +136,8 @@ module _ (m device : List ℕ) (limit output memory : ℕ) where
   pub accepted-sound : {st : State} → finalState m device limit output memory ≡ done st → Sound (IsBytes m) limit (roomIn output) st
   accepted-sound p = allGet (final-sound m device limit output memory) p
 
-  -- a catalog reads back as its entries, if the manifest is a byte string
-  pub catalog-reads-back : {st : State} → IsBytes m → finalState m device limit output memory ≡ done st → readCatalog (catalogBytes (entriesInOrder st)) ≡ entriesInOrder st
+  -- a catalog reads back as its entries are shown, if the manifest is a byte string
+  pub catalog-reads-back : {st : State} → IsBytes m → finalState m device limit output memory ≡ done st → readCatalog (catalogBytes (entriesInOrder st)) ≡ shownAll (entriesInOrder st)
   unfolding entriesInOrder
   catalog-reads-back {st} b e =
       let h : Sound (IsBytes m) limit (roomIn output) st = accepted-sound e in

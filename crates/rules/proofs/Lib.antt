@@ -6,7 +6,11 @@ pub mod Same
 pub mod Patterns
 pub mod Lists
 pub mod Outcome
+pub mod ThreeRuns
+pub mod Strikes
 pub mod Unique
+pub mod Entries
+pub mod SetParts
 pub mod ReadBack
 pub mod Fits
 pub mod Ranges
@@ -14,6 +18,9 @@ pub mod Invariant
 pub mod Counting
 pub mod Scopes
 pub mod Laws
+pub mod LabelsMet
+pub mod Refusals
+pub mod Explained
 pub mod Within
 pub mod WriteBack
 pub mod Listed

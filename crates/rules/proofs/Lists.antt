@@ -2,7 +2,7 @@
 use Prim.Native.Nat.{ℕ}
 use mathlib.Core.Path.{_≡_, refl, sym, ap, subst, _∙_}
 use mathlib.Core.Bool.{Bool, true, false, _||_, _&&_, true≢false, false≢true}
-use mathlib.Core.List.{List, [], _∷_, List·Memᴰ, List·Memᴰ·head, List·Memᴰ·tail}
+use mathlib.Core.List.{List, [], _∷_, _++_, List·Memᴰ, List·Memᴰ·head, List·Memᴰ·tail}
 use mathlib.Core.Option.{Option, none, some}
 use lib.Dec.{T, eqb, eqb→eq, eqb-refl}
 use Rattle.rules.specs.State.{Scope, topScope, nodeScope, classScope, bodyScope, sameScope}
@@ -31,6 +31,10 @@ pub or-true-right : (a b : Bool) → b ≡ true → (a || b) ≡ true
 or-true-right true b h = refl
 or-true-right false b h = h
 
+pub either-true : {C : Type 0} (a b : Bool) → (a || b) ≡ true → (a ≡ true → C) → (b ≡ true → C) → C
+either-true true b h f g = f refl
+either-true false b h f g = g h
+
 pub both-left : (a b : Bool) → (a && b) ≡ true → a ≡ true
 both-left true b h = refl
 both-left false b h = absurd (true≢false (sym h))
@@ -38,6 +42,11 @@ both-left false b h = absurd (true≢false (sym h))
 pub both-right : (a b : Bool) → (a && b) ≡ true → b ≡ true
 both-right true b h = h
 both-right false b h = absurd (true≢false (sym h))
+
+-- the one fails, if not both hold and the other does
+pub left-fails : (a b : Bool) → b ≡ true → (a && b) ≡ false → a ≡ false
+left-fails true b h g = absurd (true≢false (sym h ∙ g))
+left-fails false b h g = refl
 
 pub both-true : (a b : Bool) → a ≡ true → b ≡ true → (a && b) ≡ true
 both-true true b h g = g
@@ -81,6 +90,20 @@ pub data Perhaps {A : Type 0} (P : A → Type 0) : Option A → Type 0 where
   notThere : Perhaps P none
   there : {x : A} → P x → Perhaps P (some x)
 
+pub perhaps-map : {A : Type 0} {P Q : A → Type 0} {o : Option A} → ((a : A) → P a → Q a) → Perhaps P o → Perhaps Q o
+perhaps-map k notThere = notThere
+perhaps-map k (there h) = there (k _ h)
+
+pub perhaps-get : {A : Type 0} {P : A → Type 0} {o : Option A} {a : A} → Perhaps P o → o ≡ some a → P a
+perhaps-get {P} h e = inside (rw e at h)
+  where
+    inside : {A : Type 0} {P : A → Type 0} {a : A} → Perhaps P (some a) → P a
+    inside (there p) = p
+
+pub perhaps-itself : {A : Type 0} (o : Option A) → Perhaps (λ (a : A). o ≡ some a) o
+perhaps-itself none = notThere
+perhaps-itself (some a) = there refl
+
 -- ---- Each element of a list
 
 pub each-member : {A : Type 0} {P : A → Type 0} {x : A} {xs : List A} → Each P xs → List·Memᴰ x xs → P x
@@ -97,11 +120,24 @@ found {A} {P} f (also {x = x} {xs = xs} p ps) = go (f x) (found f ps)
     go false h = h
 
 module _ {A : Type 0} {P : A → Type 0} where
-  each-first : {x : A} {xs : List A} → Each P (x ∷ xs) → P x
+  pub each-first : {x : A} {xs : List A} → Each P (x ∷ xs) → P x
   each-first (also p ps) = p
 
   each-rest : {x : A} {xs : List A} → Each P (x ∷ xs) → Each P xs
   each-rest (also p ps) = ps
+
+  -- two lists one after the other
+  pub each-left : (xs ys : List A) → Each P (xs ++ ys) → Each P xs
+  each-left [] ys h = noneLeft
+  each-left (x ∷ xs) ys (also p ps) = also p (each-left xs ys ps)
+
+  pub each-right : (xs ys : List A) → Each P (xs ++ ys) → Each P ys
+  each-right [] ys h = h
+  each-right (x ∷ xs) ys (also p ps) = each-right xs ys ps
+
+  pub each-append : {xs ys : List A} → Each P xs → Each P ys → Each P (xs ++ ys)
+  each-append noneLeft q = q
+  each-append (also p ps) q = also p (each-append ps q)
 
   pub each-map : {Q : A → Type 0} {xs : List A} → ((x : A) → P x → Q x) → Each P xs → Each Q xs
   each-map k noneLeft = noneLeft

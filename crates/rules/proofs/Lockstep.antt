@@ -155,14 +155,14 @@ module _ (D : Edit) where
   -- ---- Resources
 
   -- high on both sides: each catalog gets an entry of its own
-  add-high : (k k′ : Known) (p q t m m′ : ℕ) (s s′ : Labels) (gs gs′ : List Given) (c : Context) {st st′ : State} → Low st st′ → High D s → High D s′ → Two Related (addResource k p t m s gs c st) (addResource k′ q t m′ s′ gs′ c st′)
+  add-high : (k k′ : Known) (p q t m m′ : ℕ) (s s′ : Labels) (o o′ : ℕ → Labels) (gs gs′ : List Given) (c : Context) {st st′ : State} → Low st st′ → High D s → High D s′ → Two Related (addResource k p t m s o gs c st) (addResource k′ q t m′ s′ o′ gs′ c st′)
   unfolding addResource addEntry withEntry entryFrom withPathAndTrail
-  add-high k k′ p q t m m′ s s′ gs gs′ c {st} {st′} (low hc hk u u′) h h′ = twoAny _ _ λ _ _. passed _ _ _ _ _ _ λ _ _ f f′. twoAny _ _ λ _ _. twoAny _ _ λ _ _.
-      bothDone (relatedLow (low hc (entryLeft (entry-high D t m s c st gs (high-right D _ h)) (entryRight (entry-high D t m′ s′ c st′ gs′ (high-right D _ h′)) hk)) (unique f u) (unique f′ u′)))
+  add-high k k′ p q t m m′ s s′ o o′ gs gs′ c {st} {st′} (low hc hk u u′) h h′ = twoAny _ _ λ _ _. passed _ _ _ _ _ _ λ _ _ f f′. twoAny _ _ λ _ _. twoAny _ _ λ _ _.
+      bothDone (relatedLow (low hc (entryLeft (entry-high D t m s o c st gs (high-right D _ h)) (entryRight (entry-high D t m′ s′ o′ c st′ gs′ (high-right D _ h′)) hk)) (unique f u) (unique f′ u′)))
 
-  add-low : (k k′ : Known) (p q t m : ℕ) (s : Labels) {gs gs′ : List Given} (c : Context) {st st′ : State} → Low st st′ → SameGivens gs gs′ → Two Related (addResource k p t m s gs c st) (addResource k′ q t m s gs′ c st′)
+  add-low : (k k′ : Known) (p q t m : ℕ) (s : Labels) (o o′ : ℕ → Labels) {gs gs′ : List Given} (c : Context) {st st′ : State} → Low st st′ → SameGivens gs gs′ → Two Related (addResource k p t m s o gs c st) (addResource k′ q t m s o′ gs′ c st′)
   unfolding addResource addEntry withEntry entryFrom withPathAndTrail
-  add-low k k′ p q t m s {gs} {gs′} c {st} {st′} (low {t = w} hc hk u u′) g = twoAny _ _ λ _ _. passed _ _ _ _ _ _ λ _ _ f f′. twoAll (named-once gs) (named-once gs′) λ _ _ d d′. twoAny _ _ λ _ _.
+  add-low k k′ p q t m s o o′ {gs} {gs′} c {st} {st′} (low {t = w} hc hk u u′) g = twoAny _ _ λ _ _. passed _ _ _ _ _ _ λ _ _ f f′. twoAll (named-once gs) (named-once gs′) λ _ _ d d′. twoAny _ _ λ _ _.
       bothDone (relatedLow (low hc (entryBoth (sameEntry (attributes-under-same ((c .path ∪ w) ∪ s) c (low hc hk u u′) g) (unique-under _ c st d) (unique-under _ c st′ d′)) hk) (unique f u) (unique f′ u′)))
 
   -- ---- What a condition with a high set does to one run, whatever branch is taken
@@ -301,12 +301,12 @@ module _ (D : Edit) where
           (go-on (quiet-block a (inBranch s c)) (quiet-block′ a′ (inBranch s c)) (λ st st′ l. block-low ra (inBranch s c) l) h)
           (go-on (quiet-block b (inBranch s c)) (quiet-block′ b′ (inBranch s c)) (λ st st′ l. block-low rb (inBranch s c) l) h)))
       run-low (sameChoice {p = p} {q = q} {bs = bs} {bs′ = bs′} e rs) c (low {t = t} hc hk u u′) = by-value (evaluate-same D k k′ c (low-view (low hc hk u u′)) e)
-          (λ x y h h′. condition-two (c .scope) (assignsAny bs) (assignsAny bs′) (declaresAny bs) (declaresAny bs′) (declares-same-any rs) (assigns-same-any rs) (low hc hk u u′)
+          (λ x y h h′. twoAny _ _ λ _ _. condition-two (c .scope) (assignsAny bs) (assignsAny bs′) (declaresAny bs) (declaresAny bs′) (declares-same-any rs) (assigns-same-any rs) (low hc hk u u′)
           (case-condition k declare quietly p bs (x .value) _ c _ (high-right D _ (high-left D _ h))) (case-condition k′ declare′ quietly′ q bs′ (y .value) _ c _ (high-right D _ (high-left D _ h′))))
-          (λ x. choice-low p q rs c (x .value) (x .labels) (low hc hk u u′) (choice-same D SameBranch (branches-low rs) (x .value) nothing-same))
+          (λ x. twoAny _ _ λ _ _. choice-low p q rs c (x .value) (x .labels) (low hc hk u u′) (choice-same D SameBranch (branches-low rs) (x .value) nothing-same))
       run-low (sameResource {p = p} {q = q} {t = t} e fs) c l = by-value (evaluate-same D k k′ c (low-view l) e)
-          (λ x y h h′. twoAny _ _ λ m m′. twoAny _ _ λ gs gs′. add-high k k′ p q t m m′ (x .labels) (y .labels) gs gs′ c l h h′)
-          (λ x. twoAt _ _ _ λ m. twoBind (evaluate-all-same k k′ c (low-view l) fs) λ gs gs′ g. add-low k k′ p q t m (x .labels) c l g)
+          (λ x y h h′. twoAny _ _ λ m m′. twoAny _ _ λ gs gs′. add-high k k′ p q t m m′ (x .labels) (y .labels) _ _ gs gs′ c l h h′)
+          (λ x. twoAt _ _ _ λ m. twoBind (evaluate-all-same k k′ c (low-view l) fs) λ gs gs′ g. add-low k k′ p q t m (x .labels) _ _ c l g)
       run-low (sameDefined e fs) c l = twoBind (evaluate-same D k k′ c (low-view l) e) λ x y w. twoAny _ _ λ m m′. twoBind (evaluate-all-same k k′ c (low-view l) fs) λ gs gs′ g. alike _ _ (sameOfType w g) c _ _ (relatedLow l)
       run-low (sameClass fs) c l = twoBind (evaluate-all-same k k′ c (low-view l) fs) λ gs gs′ g. alike _ _ (sameOfClass g) c _ _ (relatedLow l)
       run-low (sameInclude {c = n}) c (low {q = q} hc hk u u′) = twoIf (declaredIn q n) (bothDone (relatedLow (low hc hk u u′))) (alike _ _ sameIncluded c _ _ (relatedLow (low hc hk u u′)))

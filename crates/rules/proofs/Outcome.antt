@@ -81,6 +81,10 @@ allGet {P} h e = inside (rw e at h)
     inside : {A : Type 0} {P : A → Type 0} {a : A} → All P (done a) → P a
     inside (allDone p) = p
 
+pub all-itself : {A : Type 0} (m : Outcome A) → All (λ (a : A). m ≡ done a) m
+all-itself (refused r p) = allRefused
+all-itself (done a) = allDone refl
+
 -- the answer of an operation on values
 
 pub data Gives {A : Type 0} (P : A → Type 0) : Result A → Type 0 where

@@ -4,13 +4,14 @@ use Prim.Native.Nat.{ℕ}
 use mathlib.Core.Path.{_≡_, refl, sym, ap, _∙_}
 use mathlib.Core.Logic.{inl, inr}
 use mathlib.Core.Bool.{Bool, true, false}
+use mathlib.Core.List.{List, [], _∷_}
 use Rattle.labels.specs.declared.Labels.{Labels}
 use Rattle.labels.specs.Sets.{oneLabel, _∪_, Words64}
-use Rattle.labels.proofs.Laws.{words-none, words-one, words-union}
+use Rattle.labels.proofs.Laws.{union-none-after, words-none, words-one, words-union}
 use Rattle.values.specs.declared.Value.{Value}
 use Rattle.rules.specs.Arithmetic.{sameValue}
 use Rattle.rules.specs.Tree.{Constant}
-use Rattle.rules.specs.Patterns.{Patterns, noPattern, constantPattern, defaultPattern, firstEqual, firstDefault, chosen, triedLabels}
+use Rattle.rules.specs.Patterns.{Patterns, noPattern, constantPattern, defaultPattern, firstEqual, firstDefault, chosen, tried, labelsOf, triedLabels}
 use Rattle.rules.specs.Outcome.{Outcome}
 use Rattle.rules.specs.State.{State, Context}
 use Rattle.rules.specs.Run.{doNothing}
@@ -55,11 +56,21 @@ module _ {A : Type 0} (x : Value) where
   default-last {a} {ps} h o = ap (firstEqual ps x) (default-found h o) ∙ constants-equal ps a ∙ sym (ap (firstEqual (constantsOf ps) x) (constants-only ps a))
 
   -- "The patterns tried, and so the label sets, follow the new order."
-  pub constants-tried : (ps : Patterns A) → triedLabels ps x ≡ triedLabels (constantsOf ps) x
-  unfolding triedLabels constantsOf
+  pub constants-tried : (ps : Patterns A) → tried ps x ≡ tried (constantsOf ps) x
+  unfolding tried constantsOf
   constants-tried noPattern = refl
-  constants-tried (constantPattern v a ps) = ap (λ (k : Labels). elim (sameValue x (v .value)) [ true ↦ oneLabel (v .label) | false ↦ oneLabel (v .label) ∪ k ]) (constants-tried ps)
+  constants-tried (constantPattern v a ps) = ap (λ (vs : List Constant). v ∷ elim (sameValue x (v .value)) [ true ↦ [] | false ↦ vs ]) (constants-tried ps)
   constants-tried (defaultPattern a ps) = constants-tried ps
+
+-- the labels of the patterns tried, by the first of them
+module _ {A : Type 0} (v : Constant) (a : A) (ps : Patterns A) (x : Value) where
+  pub tried-equal : sameValue x (v .value) ≡ true → triedLabels (constantPattern v a ps) x ≡ oneLabel (v .label)
+  unfolding triedLabels tried labelsOf
+  tried-equal e = rw e (union-none-after (oneLabel (v .label)))
+
+  pub tried-other : sameValue x (v .value) ≡ false → triedLabels (constantPattern v a ps) x ≡ oneLabel (v .label) ∪ triedLabels ps x
+  unfolding triedLabels tried labelsOf
+  tried-other e = rw e refl
 
 -- ---- What follows
 
@@ -104,15 +115,14 @@ unfolding doNothing
 branch-holds {Q} {c} {st} h x q = chosen-holds (λ (f : Context → State → Outcome State). All Q (f c st)) h x (allDone q)
 
 -- the labels of the patterns tried are a set
+labels-fit : (vs : List Constant) → Words64 (labelsOf vs)
+unfolding labelsOf
+labels-fit [] = words-none
+labels-fit (v ∷ vs) = words-union (oneLabel (v .label)) (labelsOf vs) (words-one (v .label)) (labels-fit vs)
+
 pub tried-labels-fit : {A : Type 0} (ps : Patterns A) (x : Value) → Words64 (triedLabels ps x)
 unfolding triedLabels
-tried-labels-fit noPattern x = words-none
-tried-labels-fit (constantPattern v a ps) x = go (sameValue x (v .value)) (tried-labels-fit ps x)
-  where
-    go : (t : Bool) → Words64 (triedLabels ps x) → Words64 (elim t [ true ↦ oneLabel (v .label) | false ↦ oneLabel (v .label) ∪ triedLabels ps x ])
-    go true w = words-one (v .label)
-    go false w = words-union (oneLabel (v .label)) (triedLabels ps x) (words-one (v .label)) w
-tried-labels-fit (defaultPattern a ps) x = tried-labels-fit ps x
+tried-labels-fit ps x = labels-fit (tried ps x)
 
 -- ---- What follows, by a function
 
@@ -122,10 +132,10 @@ mapPatterns f (constantPattern v a ps) = constantPattern v (f a) (mapPatterns f 
 mapPatterns f (defaultPattern a ps) = defaultPattern (f a) (mapPatterns f ps)
 
 module _ {A B : Type 0} (f : A → B) where
-  pub tried-mapped : (ps : Patterns A) (x : Value) → triedLabels (mapPatterns f ps) x ≡ triedLabels ps x
-  unfolding triedLabels mapPatterns
+  pub tried-mapped : (ps : Patterns A) (x : Value) → tried (mapPatterns f ps) x ≡ tried ps x
+  unfolding tried mapPatterns
   tried-mapped noPattern x = refl
-  tried-mapped (constantPattern v a ps) x = ap (λ (k : Labels). elim (sameValue x (v .value)) [ true ↦ oneLabel (v .label) | false ↦ oneLabel (v .label) ∪ k ]) (tried-mapped ps x)
+  tried-mapped (constantPattern v a ps) x = ap (λ (vs : List Constant). v ∷ elim (sameValue x (v .value)) [ true ↦ [] | false ↦ vs ]) (tried-mapped ps x)
   tried-mapped (defaultPattern a ps) x = tried-mapped ps x
 
   equal-mapped : (ps : Patterns A) (x : Value) (o : A) → firstEqual (mapPatterns f ps) x (f o) ≡ f (firstEqual ps x o)
@@ -162,22 +172,18 @@ module _ (D : Edit) {A B : Type 0} (R : A → B → Type 0) where
     highPatterns : High D k → High D k′ → SameChoice k k′ a b
     samePatterns : k ≡ k′ → R a b → SameChoice k k′ a b
 
-  tried-high : (t : Bool) (l : ℕ) (k : Labels) → D .differs l → High D (elim t [ true ↦ oneLabel l | false ↦ oneLabel l ∪ k ])
-  tried-high true l k d = high-one D d
-  tried-high false l k d = high-left D k (high-one D d)
-
   -- one pattern, the same on both sides, before the others
-  before : (t : Bool) (l : ℕ) {k k′ : Labels} {a c : A} {b d : B} → R a b → SameChoice k k′ c d
-      → SameChoice (elim t [ true ↦ oneLabel l | false ↦ oneLabel l ∪ k ]) (elim t [ true ↦ oneLabel l | false ↦ oneLabel l ∪ k′ ]) (elim t [ true ↦ a | false ↦ c ]) (elim t [ true ↦ b | false ↦ d ])
-  before true l r h = samePatterns refl r
-  before false l r (highPatterns h h′) = highPatterns (high-right D _ h) (high-right D _ h′)
-  before false l r (samePatterns e r′) = samePatterns (ap (λ (k : Labels). oneLabel l ∪ k) e) r′
+  before : (t : Bool) (l : ℕ) (vs ws : List Constant) {a c : A} {b d : B} → R a b → SameChoice (labelsOf vs) (labelsOf ws) c d
+      → SameChoice (oneLabel l ∪ labelsOf (elim t [ true ↦ [] | false ↦ vs ])) (oneLabel l ∪ labelsOf (elim t [ true ↦ [] | false ↦ ws ])) (elim t [ true ↦ a | false ↦ c ]) (elim t [ true ↦ b | false ↦ d ])
+  before true l vs ws r h = samePatterns refl r
+  before false l vs ws r (highPatterns h h′) = highPatterns (high-right D _ h) (high-right D _ h′)
+  before false l vs ws r (samePatterns e r′) = samePatterns (ap (λ (k : Labels). oneLabel l ∪ k) e) r′
 
   equal-same : {ps : Patterns A} {qs : Patterns B} → SamePatterns ps qs → (x : Value) {a : A} {b : B} → R a b → SameChoice (triedLabels ps x) (triedLabels qs x) (firstEqual ps x a) (firstEqual qs x b)
-  unfolding triedLabels firstEqual
+  unfolding triedLabels tried labelsOf firstEqual
   equal-same sameNoPattern x r = samePatterns refl r
-  equal-same (sameConstantPattern (sameConstant {l = l} {v = v} {w = w} z (inl d)) _ s) x r = highPatterns (tried-high (sameValue x v) l _ d) (tried-high (sameValue x w) l _ d)
-  equal-same (sameConstantPattern (sameConstant {l = l} {w = w} z (inr e)) h s) x r = rw e (before (sameValue x w) l h (equal-same s x r))
+  equal-same (sameConstantPattern (sameConstant z (inl d)) _ s) x r = highPatterns (high-left D _ (high-one D d)) (high-left D _ (high-one D d))
+  equal-same (sameConstantPattern (sameConstant {l = l} {w = w} z (inr e)) h s) x r = rw e (before (sameValue x w) l _ _ h (equal-same s x r))
   equal-same (sameDefaultPattern _ s) x r = equal-same s x r
 
   default-same : {ps : Patterns A} {qs : Patterns B} → SamePatterns ps qs → {a : A} {b : B} → R a b → R (firstDefault ps a) (firstDefault qs b)

@@ -10,7 +10,7 @@ use Rattle.labels.specs.Sets.{_∪_}
 use Rattle.values.specs.declared.Value.{Value}
 use Rattle.values.specs.declared.Labelled.{Labelled}
 use Rattle.rules.specs.Outcome.{Outcome, _>>=_}
-use Rattle.rules.specs.Tree.{Statement, assignment, conditional, choice, builtInResource, definedResource, classWithAttributes, include, Block, end, next, Branches, noBranch, branch, defaultBranch, Parent, ClassDefinition}
+use Rattle.rules.specs.Tree.{Constant, Statement, assignment, conditional, choice, builtInResource, definedResource, classWithAttributes, include, Block, end, next, Branches, noBranch, branch, defaultBranch, Parent, ClassDefinition}
 use Rattle.rules.specs.Tree
 use Rattle.rules.specs.Patterns.{chosen}
 use Rattle.rules.specs.State.{Entry, State, Context, Known, isDeclared, assign, trailWith, tested, markDeclared, free, withEntry}
@@ -104,9 +104,9 @@ module _ (D : Edit) where
   attributes-high c st [] h = noneLeft
   attributes-high c st (g ∷ gs) h = also (high-left D _ h) (attributes-high c st gs h)
 
-  pub entry-high : (t m : ℕ) (k : Labels) (c : Context) (st : State) (gs : List Given) → High D (withPathAndTrail c st k) → HighEntry D (entryFrom t m k c st gs)
+  pub entry-high : (t m : ℕ) (k : Labels) (o : ℕ → Labels) (c : Context) (st : State) (gs : List Given) → High D (withPathAndTrail c st k) → HighEntry D (entryFrom t m k o c st gs)
   unfolding entryFrom
-  entry-high t m k c st gs h = record { own = h; all = attributes-high c st gs h }
+  entry-high t m k o c st gs h = record { own = h; all = attributes-high c st gs h }
 
   pub stored-high : (k : Labels) (c : Context) (st : State) → Under (c .path) (st .trail) → High D (withPathAndTrail c st k)
   unfolding withPathAndTrail
@@ -116,9 +116,9 @@ module _ (D : Edit) where
   unfolding addEntry withEntry
   add-entry-quiet p e st h f = allAny _ λ _. allDone (quiet (grown h f noGrowth) λ g. g)
 
-  pub add-resource-quiet : (k : Known) (p t m : ℕ) (s : Labels) (gs : List Given) (c : Context) (st : State) → High D (withPathAndTrail c st s) → All (QuietFrom st) (addResource k p t m s gs c st)
+  pub add-resource-quiet : (k : Known) (p t m : ℕ) (s : Labels) (o : ℕ → Labels) (gs : List Given) (c : Context) (st : State) → High D (withPathAndTrail c st s) → All (QuietFrom st) (addResource k p t m s o gs c st)
   unfolding addResource entryFrom
-  add-resource-quiet k p t m s gs c st h = allAny _ λ _. allBind (allPassed _ _ _) λ _ f. allAny _ λ _. add-entry-quiet p _ st (entry-high t m s c st gs h) f
+  add-resource-quiet k p t m s o gs c st h = allAny _ λ _. allBind (allPassed _ _ _) λ _ f. allAny _ λ _. add-entry-quiet p _ st (entry-high t m s o c st gs h) f
 
   -- ---- Statements and blocks, if declarations are quiet
 
@@ -137,8 +137,8 @@ module _ (D : Edit) where
       pub run-quiet : (s : Statement) (c : Context) (st : State) → Under (c .path) (st .trail) → All (QuietFrom st) (run k declare s c st)
       run-quiet (assignment p n e) c st h = allAny _ λ x. store-quiet c p n x st
       run-quiet (conditional p e a b) c st h = allAny _ λ x. allAny _ λ t. after-test-quiet p c _ _ _ st _ (allIf t (block-quiet a _ _ (inl (high-left D _ (stored-high (x .labels) c st h)))) (block-quiet b _ _ (inl (high-left D _ (stored-high (x .labels) c st h)))))
-      run-quiet (choice p e bs) c st h = allAny _ λ x. after-test-quiet p c _ _ _ st _ (branch-holds (branches-quiet bs _ _ (inl (high-left D _ (stored-high _ c st h)))) (x .value) (quiet noGrowth λ g. g))
-      run-quiet (builtInResource p t e fs) c st h = allAny _ λ x. allAny _ λ m. allAny _ λ gs. add-resource-quiet k p t m (x .labels) gs c st (stored-high _ c st h)
+      run-quiet (choice p e bs) c st h = allAny _ λ x. allAny _ λ _. after-test-quiet p c _ _ _ st _ (branch-holds (branches-quiet bs _ _ (inl (high-left D _ (stored-high _ c st h)))) (x .value) (quiet noGrowth λ g. g))
+      run-quiet (builtInResource p t e fs) c st h = allAny _ λ x. allAny _ λ m. allAny _ λ gs. add-resource-quiet k p t m (x .labels) _ gs c st (stored-high _ c st h)
       run-quiet (definedResource p t e fs) c st h = allAny _ λ x. allAny _ λ m. allAny _ λ gs. quietly _ c st h
       run-quiet (classWithAttributes p q fs) c st h = allAny _ λ gs. quietly _ c st h
       run-quiet (include p q) c st h = allIf (isDeclared q st) (allDone (quiet noGrowth λ g. g)) (quietly _ c st h)
@@ -164,9 +164,9 @@ module _ (D : Edit) where
     parent-quiet none c st h = allDone (quiet noGrowth λ g. g)
     parent-quiet (some q) c st h = allIf (isDeclared (q .name) st) (allDone (quiet noGrowth λ g. g)) (allStep _ st _ λ n. quietly _ c (withSteps n st) h)
 
-    pub enter-quiet : (d : ClassDefinition) (vs : List Given) (c : Context) (st : State) → Under (c .path) (st .trail) → All (QuietFrom st) (enterClass k declare d vs c st)
+    pub enter-quiet : (d : ClassDefinition) (ds : List Constant) (vs : List Given) (c : Context) (st : State) → Under (c .path) (st .trail) → All (QuietFrom st) (enterClass k declare d ds vs c st)
     unfolding enterClass markDeclared inClass
-    enter-quiet d vs c st h = allBind (store-all-quiet _ vs (markDeclared (d .name) (placedUnder (d .parent) c st) st)) λ st′ q. allMap (block-quiet (d .body) _ st′ (still-under q h)) λ st″ q′. quiet-trans q q′
+    enter-quiet d ds vs c st h = allAny _ λ _. allBind (store-all-quiet _ vs (markDeclared (d .name) (placedUnder (d .parent) c st) st)) λ st′ q. allMap (block-quiet (d .body) _ st′ (still-under q h)) λ st″ q′. quiet-trans q q′
 
   -- ---- The levels
 
@@ -174,14 +174,14 @@ module _ (D : Edit) where
   unfolding declaration free inBody
   declaration-quiet k zero d c st h = allRefused
   declaration-quiet k (suc n) (ofType p t x gs) c st h = allAny _ λ d. allAny _ λ _. allAny _ λ vs. allAny _ λ _.
-      allBind (store-title-quiet (k .title) (inBody n c) p x st) λ st₁ q₁.
+      allBind (store-title-quiet (k .title) (inBody n c) p x st) λ st₁ q₁. allAny _ λ _.
       allBind (store-all-quiet (inBody n c) vs st₁) λ st₂ q₂.
       allBind (block-quiet k (declaration k n) (declaration-quiet k n) (d .body) (inBody n c) st₂ (still-under q₂ (still-under q₁ h))) λ st₃ q₃.
       let q = quiet-trans q₁ (quiet-trans q₂ q₃) in
       allDone (quiet (q .growth) (q .stays))
   declaration-quiet k (suc n) (ofClass p q gs) c st h = allAny _ λ d. allAny _ λ _. allAny _ λ _. allAny _ λ vs. allAny _ λ _.
       allBind (parent-quiet k (declaration k n) (declaration-quiet k n) (d .parent) c st h) λ st₁ q₁. allAny _ λ _.
-      allMap (enter-quiet k (declaration k n) (declaration-quiet k n) d vs c st₁ (still-under q₁ h)) λ st₂ q₂. quiet-trans q₁ q₂
+      allMap (enter-quiet k (declaration k n) (declaration-quiet k n) d _ vs c st₁ (still-under q₁ h)) λ st₂ q₂. quiet-trans q₁ q₂
   declaration-quiet k (suc n) (included p q) c st h = allAny _ λ d. allAny _ λ vs.
       allBind (parent-quiet k (declaration k n) (declaration-quiet k n) (d .parent) c st h) λ st₁ q₁.
-      allIf (isDeclared q st₁) (allDone q₁) (allMap (enter-quiet k (declaration k n) (declaration-quiet k n) d vs c st₁ (still-under q₁ h)) λ st₂ q₂. quiet-trans q₁ q₂)
+      allIf (isDeclared q st₁) (allDone q₁) (allMap (enter-quiet k (declaration k n) (declaration-quiet k n) d _ vs c st₁ (still-under q₁ h)) λ st₂ q₂. quiet-trans q₁ q₂)

@@ -123,23 +123,23 @@ module _ (Given : Type 0) where
       allBind (allFound _ _ (found (isAttribute n) (each-under (e .attributes) (λ y. g y .attributes)))) λ a h. allDone (λ y. h y .content)
 
   -- the patterns tried and what is chosen
-  select-fits : {ps : Patterns (Outcome Labelled)} → Every (All Ranged) ps → (p : ℕ) (x : Value) → All Ranged (select ps p x)
+  select-fits : (k : Known) {ps : Patterns (Outcome Labelled)} → Every (All Ranged) ps → (p : ℕ) (x : Value) → All Ranged (select k ps p x)
   unfolding select
-  select-fits {ps} h p x = joining-fits _ (λ y. tried-labels-fit ps x) (chosen-holds (All Ranged) h x allRefused)
+  select-fits k {ps} h p x = allAny _ λ _. joining-fits _ (λ y. tried-labels-fit ps x) (chosen-holds (All Ranged) h x allRefused)
 
   module _ (k : Known) (c : Context) (st : State) (cells : CellsFit (st .cells)) (entries : Each (λ (e : Entry). Given → FitsEntry e) (st .entries)) where
     mutual
       unfolding evaluate
 
       pub evaluate-fits : {e : Expression} → FitsExpression Given e → All Ranged (evaluate k c st e)
-      evaluate-fits (fitsConstant v) = allDone (constant-fits v)
+      evaluate-fits (fitsConstant v) = allAny _ λ _. allDone (constant-fits v)
       evaluate-fits (fitsVariable {p = p} {n = n} f) = read-fits p (st .cells) n (scopesTried c st) cells
       evaluate-fits (fitsTopVariable {p = p} {n = n} f) = read-fits p (st .cells) n (topScope ∷ []) cells
       evaluate-fits (fitsClassVariable {p = p} {q = q} {n = n} f g) = allAny _ λ _. read-fits p (st .cells) n (classScope q ∷ []) cells
       evaluate-fits (fitsOperation {p = p} {o = o} {a = a} {b = b} f g) = operand-fits (evaluate-fits f) λ x. operate-fits o p (placeOf a) (placeOf b) (x .value) (evaluate-fits g)
       evaluate-fits (fitsNegation f) = operand-fits (evaluate-fits f) λ x. allAny _ λ b. plain-fits fitsBoolean
       evaluate-fits (fitsAttributeRead {p = p} {t = t} {n = n} f g h) = operand-fits (evaluate-fits h) λ x. allAny _ λ m. allAny _ λ _. attribute-read-fits p t m n (st .entries) entries
-      evaluate-fits (fitsSelector {p = p} f g) = operand-fits (evaluate-fits f) λ x. select-fits (arms-fit g) p (x .value)
+      evaluate-fits (fitsSelector {p = p} f g) = operand-fits (evaluate-fits f) λ x. select-fits k (arms-fit g) p (x .value)
       evaluate-fits fitsUnreadable = allRefused
 
       arms-fit : {s : Arms} → FitsArms Given s → Every (All Ranged) (armPatterns k c st s)

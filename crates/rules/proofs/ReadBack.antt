@@ -17,7 +17,7 @@ use Rattle.rules.specs.Bytes.{two}
 use Rattle.rules.specs.Read.{number, signed64}
 use Rattle.rules.specs.Arithmetic.{fits64}
 use Rattle.rules.specs.State.{Attribute, Entry}
-use Rattle.rules.specs.Catalog.{highBytes, fieldBytes, word64, booleanByte, valueBytes, attributeBytes, attributesBytes, entryBytes, catalogBytes, bodiesUp, bodies, valueOf, attributeOf, attributesOf, entryOf, entriesOf, readCatalog}
+use Rattle.rules.specs.Catalog.{highBytes, fieldBytes, word64, booleanByte, valueBytes, attributeBytes, attributesBytes, entryBytes, catalogBytes, noParts, shown, shownAll, bodiesUp, bodies, valueOf, attributeOf, attributesOf, entryOf, entriesOf, readCatalog}
 use Rattle.wire.proofs.Laws.{number-back}
 use Rattle.rules.proofs.Lists.{Each, noneLeft, also}
 pub use Rattle.rules.specs.Ranges.{FitsValue, fitsInteger, fitsString, fitsBoolean, FitsLabelled, FitsAttribute, FitsEntry}
@@ -113,19 +113,41 @@ attributes-back ats f l =
     bodies-back 0x41 attributeBody attributeOf attributesBytes attributesOf refl (λ x xs. refl) refl (λ b bs. refl) FitsAttribute attribute-back
     (length (attributesBytes ats)) ats (omega arith) l f
 
-entry-back : (e : Entry) → FitsEntry e → length (entryBody e) < 65536 → entryOf (entryBody e) ≡ e
-unfolding entryOf entryBody highBytes two
-entry-back e f l =
+-- an entry that fits, of which no more is known than its bytes show
+record Plain (e : Entry) : Type 0 where
+  fits : FitsEntry e
+  plain : shown e ≡ e
+
+entry-back : (e : Entry) → Plain e → length (entryBody e) < 65536 → entryOf (entryBody e) ≡ e
+unfolding entryOf entryBody highBytes two shown
+entry-back e x l =
+    let f = x .fits in
     let rest : List ℕ = attributesBytes (e .attributes) in
     let m : List ℕ = labelBytes (e .labels) ++ rest in
     let size : length m ≡ 32 + length rest = length-append (labelBytes (e .labels)) rest ∙ ap (λ (n : ℕ). n + length rest) (label-length (e .labels)) in
     let read : _≡_ {A = ℕ × ℕ × Labels × List Attribute} (two (entryBody e) 0, two (highBytes 2 (e .title) ++ m) 0, labelsFrom m, attributesOf (bodies (drop 32 m))) (e .type, e .title, e .labels, e .attributes) =
     rw (two-back (e .type) (highBytes 2 (e .title) ++ m) (f .type), two-back (e .title) m (f .title), after-labels (e .labels) rest, label-back (e .labels) rest (f .labels), attributes-back (e .attributes) (f .attributes) (omega arith)) in
-    ap (λ (x : ℕ × ℕ × Labels × List Attribute). record { type = x .0; title = x .1; labels = x .2; attributes = x .3 }) read
+    ap (λ (x : ℕ × ℕ × Labels × List Attribute). record { type = x .0; title = x .1; labels = x .2; attributes = x .3; parts = λ n. noParts }) read ∙ x .plain
 
--- the law: entries that fit, in at most 65,535 bytes, are read back
-pub read-back : (es : List Entry) → Each FitsEntry es → length (catalogBytes es) < 65536 → readCatalog (catalogBytes es) ≡ es
+pub shown-bytes : (es : List Entry) → catalogBytes (shownAll es) ≡ catalogBytes es
+unfolding catalogBytes shownAll shown entryBytes
+shown-bytes [] = refl
+shown-bytes (e ∷ es) = ap (λ (b : List ℕ). entryBytes e ++ b) (shown-bytes es)
+
+pub shown-fit : (es : List Entry) → Each FitsEntry es → Each FitsEntry (shownAll es)
+unfolding shownAll shown
+shown-fit [] noneLeft = noneLeft
+shown-fit (e ∷ es) (also f fs) = also (record { type = f .type; title = f .title; labels = f .labels; attributes = f .attributes }) (shown-fit es fs)
+
+shown-plain : (es : List Entry) → Each FitsEntry (shownAll es) → Each Plain (shownAll es)
+unfolding shownAll shown
+shown-plain [] noneLeft = noneLeft
+shown-plain (e ∷ es) (also f fs) = also (record { fits = f; plain = refl }) (shown-plain es fs)
+
+-- the law: entries that fit, in at most 65,535 bytes, are read back as they are shown
+pub read-back : (es : List Entry) → Each FitsEntry es → length (catalogBytes es) < 65536 → readCatalog (catalogBytes es) ≡ shownAll es
 unfolding readCatalog bodies catalogBytes entriesOf entryBytes entryBody
 read-back es f l =
-    bodies-back 0x40 entryBody entryOf catalogBytes entriesOf refl (λ x xs. refl) refl (λ b bs. refl) FitsEntry entry-back
-    (length (catalogBytes es)) es (omega arith) l f
+    ap readCatalog (sym (shown-bytes es))
+    ∙ bodies-back 0x40 entryBody entryOf catalogBytes entriesOf refl (λ x xs. refl) refl (λ b bs. refl) Plain entry-back
+    (length (catalogBytes (shownAll es))) (shownAll es) (omega arith) (omega (arith, l, ap length (shown-bytes es))) (shown-plain es (shown-fit es f))

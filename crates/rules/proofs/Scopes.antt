@@ -11,11 +11,11 @@ use borrow.Author.Tests.{ne-eqb}
 use Rattle.labels.specs.declared.Labels.{Labels}
 use Rattle.values.specs.declared.Labelled.{Labelled}
 use Rattle.rules.specs.Outcome.{done, _>>=_}
-use Rattle.rules.specs.Tree.{Statement, assignment, conditional, choice, builtInResource, definedResource, classWithAttributes, include, Block, end, next, Branches, noBranch, branch, defaultBranch, Parent, ClassDefinition, Definition, typeDefinition, classDefinition, Devices, Item, statement, node, definition}
+use Rattle.rules.specs.Tree.{Constant, Statement, assignment, conditional, choice, builtInResource, definedResource, classWithAttributes, include, Block, end, next, Branches, noBranch, branch, defaultBranch, Parent, ClassDefinition, Definition, typeDefinition, classDefinition, Devices, Item, statement, node, definition}
 use Rattle.rules.specs.Tree
 use Rattle.rules.specs.State.{Scope, topScope, nodeScope, classScope, bodyScope, sameScope, Base, topBase, nodeBase, baseScope, DeclaredClass, parentOfClass, parentOf, upward, Cell, noCell, valueInto, markInto, freed, count, State, Context, Known, scopesTried, isDeclared, takeStep, assign, tested, markDeclared, free, withEntry}
 use Rattle.rules.specs.Evaluate.{findClass}
-use Rattle.rules.specs.Run.{inBranch, store, Given, storeAll, storeTitle, addEntry, addResource, afterTest, Declaration, ofType, ofClass, included, Declare, run, runBlock, branchPatterns, placedUnder, inClass, inBody, parentFirst, enterClass, declaration, runAtTop, topContext, nodeContext, definedName, withDefinition, runItems}
+use Rattle.rules.specs.Run.{inBranch, store, Given, takenDefaults, storeAll, storeTitle, addEntry, addResource, afterTest, Declaration, ofType, ofClass, included, Declare, run, runBlock, branchPatterns, placedUnder, inClass, inBody, parentFirst, enterClass, declaration, runAtTop, topContext, nodeContext, definedName, withDefinition, runItems}
 use Rattle.rules.specs.Compile.{start}
 use Rattle.rules.proofs.Lists.{Perhaps, notThere, there, Each, noneLeft, also, eqb-true, eqb-same, both-left, both-right, both-true}
 use Rattle.rules.proofs.Patterns.{everyNone, everyConstant, everyDefault, EveryBranch, branch-holds}
@@ -178,9 +178,9 @@ module _ (vacant : ℕ → Bool) where
     stays = λ c h. h;
   })
 
-  resource-tidy : (known : Known) (p t m : ℕ) (l : Labels) (gs : List Given) (here : Context) (st : State) → Tidy vacant st → All (After vacant st) (addResource known p t m l gs here st)
+  resource-tidy : (known : Known) (p t m : ℕ) (l : Labels) (o : ℕ → Labels) (gs : List Given) (here : Context) (st : State) → Tidy vacant st → All (After vacant st) (addResource known p t m l o gs here st)
   unfolding addResource addEntry withEntry isDeclared
-  resource-tidy known p t m l gs here st h = allAny _ λ _. allAny _ λ _. allAny _ λ _. allAny _ λ _. allDone (record { tidy = record { empty = h .empty; ends = h .ends }; stays = λ c z. z })
+  resource-tidy known p t m l o gs here st h = allAny _ λ _. allAny _ λ _. allAny _ λ _. allAny _ λ _. allDone (record { tidy = record { empty = h .empty; ends = h .ends }; stays = λ c z. z })
 
   store-all-tidy : (here : Context) (gs : List Given) (st : State) → Outside vacant (here .scope) → Tidy vacant st → All (After vacant st) (storeAll here gs st)
   unfolding storeAll store
@@ -252,8 +252,8 @@ module _ (known : Known) (n : ℕ) (declare : Declare) (below : Orderly n declar
     run-tidy (assignment p name e) here st o t = allAny _ λ x. assign-tidy vacant p (here .scope) name _ st o t
     run-tidy (conditional p e a b) here st o t = allAny _ λ x. allAny _ λ z. allBind (test-tidy vacant p here _ _ _ st o t) λ st′ h.
         allMap (allIf z (block-tidy a _ st′ o (h .tidy)) (block-tidy b _ st′ o (h .tidy))) λ st″ g. onward vacant h g
-    run-tidy (choice p e bs) here st o t = allAny _ λ x. allBind (test-tidy vacant p here _ _ _ st o t) λ st′ h. allMap (branch-holds (branches-tidy bs _ st′ o (h .tidy)) _ (unchanged vacant st′ (h .tidy))) λ st″ g. onward vacant h g
-    run-tidy (builtInResource p type e ats) here st o t = allAny _ λ x. allAny _ λ m. allAny _ λ gs. resource-tidy vacant known p type m _ gs here st t
+    run-tidy (choice p e bs) here st o t = allAny _ λ x. allAny _ λ _. allBind (test-tidy vacant p here _ _ _ st o t) λ st′ h. allMap (branch-holds (branches-tidy bs _ st′ o (h .tidy)) _ (unchanged vacant st′ (h .tidy))) λ st″ g. onward vacant h g
+    run-tidy (builtInResource p type e ats) here st o t = allAny _ λ x. allAny _ λ m. allAny _ λ gs. resource-tidy vacant known p type m _ _ gs here st t
     run-tidy (definedResource p type e ats) here st o t = allAny _ λ x. allAny _ λ m. allAny _ λ gs. below .orderly vacant all _ here st o t
     run-tidy (classWithAttributes p q ats) here st o t = allAny _ λ gs. below .orderly vacant all _ here st o t
     run-tidy (include p q) here st o t = allIf (isDeclared q st) (allDone (unchanged vacant st t)) (below .orderly vacant all _ here st o t)
@@ -294,15 +294,15 @@ module _ (known : Known) (n : ℕ) (declare : Declare) (below : Orderly n declar
   parent-ends none here st h t = ends-later (st .classes) _ (omega arith) (base-ends (st .classes) (here .base))
   parent-ends (some q) here st (parentThere h) t = t .ends (q .name) h
 
-  enter-tidy : (class : ClassDefinition) (values : List Given) (here : Context) (st : State) → class .name < 1024 → isDeclared (class .name) st ≡ false → ParentThere st (class .parent) → Tidy vacant st
-      → All (λ (st′ : State). After vacant st st′ × (isDeclared (class .name) st′ ≡ true)) (enterClass known declare class values here st)
+  enter-tidy : (class : ClassDefinition) (defaults : List Constant) (values : List Given) (here : Context) (st : State) → class .name < 1024 → isDeclared (class .name) st ≡ false → ParentThere st (class .parent) → Tidy vacant st
+      → All (λ (st′ : State). After vacant st st′ × (isDeclared (class .name) st′ ≡ true)) (enterClass known declare class defaults values here st)
   unfolding enterClass inClass sameScope
-  enter-tidy class values here st small new parent t =
+  enter-tidy class defaults values here st small new parent t =
       let declared : DeclaredClass = placedUnder (class .parent) here st in
       let inside : Context = inClass (class .name) declared here in
       let out : Outside vacant (classScope (class .name)) = record { other = λ j f. refl } in
       let marked = marked-tidy vacant (class .name) declared st small new (parent-ends (class .parent) here st parent t) t in
-      allBind (store-all-tidy vacant inside values (markDeclared (class .name) declared st) out (marked .tidy)) λ st₁ a.
+      allAny _ λ _. allBind (store-all-tidy vacant inside values (markDeclared (class .name) declared st) out (marked .tidy)) λ st₁ a.
       allMap (block-tidy (class .body) inside st₁ out (a .tidy)) λ st₂ b.
       (onward vacant marked (onward vacant a b), b .stays _ (a .stays _ (now-declared (class .name) declared st)))
 
@@ -368,7 +368,7 @@ module _ (known : Known) (small : Each Small (known .definitions)) (n : ℕ) (be
       let less : Tidy (without n vacant) st = fewer vacant n st t in
       let out : Outside (without n vacant) (bodyScope n) = body-outside vacant n in
       allAny _ λ d. allAny _ λ _. allAny _ λ values. allAny _ λ _.
-      allBind (title-tidy (without n vacant) (known .title) (inBody n here) p title st out less) λ st₁ a.
+      allBind (title-tidy (without n vacant) (known .title) (inBody n here) p title st out less) λ st₁ a. allAny _ λ _.
       allBind (store-all-tidy (without n vacant) (inBody n here) values st₁ out (a .tidy)) λ st₂ b.
       allBind (block-tidy known n (declaration known n) below (without n vacant) but-this (d .body) (inBody n here) st₂ out (b .tidy)) λ st₃ c.
       allDone (record { tidy = free-tidy vacant n st₃ (c .tidy); stays = λ q h. c .stays q (b .stays q (a .stays q h)) })
@@ -379,7 +379,7 @@ module _ (known : Known) (small : Each Small (known .definitions)) (n : ℕ) (be
       allBind (allFound _ _ (class-found name small)) λ class f. allAny _ λ _. allAny _ λ _. allAny _ λ values. allAny _ λ _.
       allBind (parent-tidy known n (declaration known n) below vacant fewer-levels (class .parent) here st o t) λ st₁ h.
       allBind (allPassed (isDeclared name st₁) _ _) λ _ new.
-      allMap (enter-tidy known n (declaration known n) below vacant fewer-levels class values here st₁ (f .small) (rw (f .named) new) (h .1) (h .0 .tidy)) λ st₂ g. onward vacant (h .0) (g .0)
+      allMap (enter-tidy known n (declaration known n) below vacant fewer-levels class _ values here st₁ (f .small) (rw (f .named) new) (h .1) (h .0 .tidy)) λ st₂ g. onward vacant (h .0) (g .0)
 
   include-tidy : (p name : ℕ) (here : Context) (st : State) → Outside vacant (here .scope) → Tidy vacant st
       → All (λ (st′ : State). After vacant st st′ × (isDeclared name st′ ≡ true)) (declaration known (suc n) (included p name) here st)
@@ -389,10 +389,10 @@ module _ (known : Known) (small : Each Small (known .definitions)) (n : ℕ) (be
       allBind (parent-tidy known n (declaration known n) below vacant fewer-levels (class .parent) here st o t) λ st₁ h. go class values f st₁ h (isDeclared name st₁) refl
     where
       go : (class : ClassDefinition) (values : List Given) → Found name class → (st₁ : State) → After vacant st st₁ × ParentThere known n (declaration known n) below vacant fewer-levels st₁ (class .parent) → (b : Bool) → isDeclared name st₁ ≡ b
-          → All (λ (st′ : State). After vacant st st′ × (isDeclared name st′ ≡ true)) (elim b [ true ↦ done st₁ | false ↦ enterClass known (declaration known n) class values here st₁ ])
+          → All (λ (st′ : State). After vacant st st′ × (isDeclared name st′ ≡ true)) (elim b [ true ↦ done st₁ | false ↦ enterClass known (declaration known n) class (takenDefaults (class .parameters) []) values here st₁ ])
       go class values f st₁ h true e = allDone (h .0, e)
       go class values f st₁ h false e =
-          allMap (enter-tidy known n (declaration known n) below vacant fewer-levels class values here st₁ (f .small) (rw (f .named) e) (h .1) (h .0 .tidy))
+          allMap (enter-tidy known n (declaration known n) below vacant fewer-levels class _ values here st₁ (f .small) (rw (f .named) e) (h .1) (h .0 .tidy))
           λ st₂ g. (onward vacant (h .0) (g .0), rw (f .named) at (g .1))
 
   level-tidy : (asked : Declaration) (here : Context) (st : State) → Outside vacant (here .scope) → Tidy vacant st → All (After vacant st) (declaration known (suc n) asked here st)

@@ -10,7 +10,8 @@ use Rattle.values.specs.declared.Value.the-variants.{Integer, String, Boolean}
 unfoldable pub use Rattle.wire.specs.Numbers.{highBytes, word64}
 use Rattle.rules.specs.Bytes.{byte, two}
 use Rattle.rules.specs.Read.{number, signed64}
-use Rattle.rules.specs.State.{Attribute, Entry}
+use Rattle.labels.specs.Sets.{noLabels}
+use Rattle.rules.specs.State.{Attribute, SetParts, Entry}
 
 -- ---- Written
 
@@ -68,8 +69,19 @@ unfoldable pub attributesOf : List (List ℕ) → List Attribute
 attributesOf [] = []
 attributesOf (b ∷ bs) = attributeOf b ∷ attributesOf bs
 
+-- what the bytes of a catalog show of an entry: all but the parts of its sets
+unfoldable pub noParts : SetParts
+noParts = record { title = noLabels; path = noLabels; trail = noLabels; marks = noLabels; value = noLabels }
+
+unfoldable pub shown : Entry → Entry
+shown e = record { type = e .type; title = e .title; labels = e .labels; attributes = e .attributes; parts = λ n. noParts }
+
+unfoldable pub shownAll : List Entry → List Entry
+shownAll [] = []
+shownAll (e ∷ es) = shown e ∷ shownAll es
+
 unfoldable pub entryOf : List ℕ → Entry
-entryOf b = record { type = two b 0; title = two b 2; labels = labelsFrom (drop 4 b); attributes = attributesOf (bodies (drop 36 b)) }
+entryOf b = record { type = two b 0; title = two b 2; labels = labelsFrom (drop 4 b); attributes = attributesOf (bodies (drop 36 b)); parts = λ n. noParts }
 
 unfoldable pub entriesOf : List (List ℕ) → List Entry
 entriesOf [] = []

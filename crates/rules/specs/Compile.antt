@@ -12,7 +12,7 @@ use Rattle.values.specs.declared.Reason.the-variants.{MemoryTooShort, ManifestL
 use Rattle.rules.specs.declared.Verdict.{Verdict}
 use Rattle.rules.specs.declared.Verdict.the-variants.{Sound, Fault}
 use Rattle.rules.specs.Check.{check}
-use Rattle.rules.specs.Tree.{Devices, named, byDefault, Item, statement, node, definition, Manifest}
+use Rattle.rules.specs.Tree.{Constant, Devices, named, byDefault, Item, statement, node, definition, Manifest}
 use Rattle.rules.specs.Read.{manifestOf}
 use Rattle.rules.specs.Outcome.{Outcome, refused, done, _>>=_, refuseIf}
 use Rattle.rules.specs.State.{Entry, State, Known, noCell}
@@ -58,8 +58,12 @@ unfoldable pub isBuiltIn : List (List ℕ) → ℕ → Bool
 isBuiltIn strings n = any (sameBytes (stringAt strings n)) builtInTypes
 
 -- before the first item runs
-unfoldable pub knownFirst : List (List ℕ) → Known
-knownFirst strings = record { builtIn = isBuiltIn strings; title = stringNumber titleText strings 0; definitions = [] }
+unfoldable pub knownFirst : (struckOut : Constant → Bool) → List (List ℕ) → Known
+knownFirst struckOut strings = record { builtIn = isBuiltIn strings; title = stringNumber titleText strings 0; definitions = []; struckOut = struckOut }
+
+-- a compile takes the manifest as it is
+unfoldable pub noneStruckOut : Constant → Bool
+noneStruckOut v = false
 
 -- ---- The node that runs
 
@@ -111,9 +115,9 @@ start limit outputLength = record {
   room = roomIn outputLength;
 }
 
-unfoldable pub runManifest : Manifest → (device : List ℕ) → (limit outputLength : ℕ) → Outcome State
-runManifest manifest device limit outputLength =
-    runItems (knownFirst (manifest .strings)) (itemsFor (manifest .strings) device (manifest .items)) (start limit outputLength)
+unfoldable pub runManifest : (struckOut : Constant → Bool) → Manifest → (device : List ℕ) → (limit outputLength : ℕ) → Outcome State
+runManifest struckOut manifest device limit outputLength =
+    runItems (knownFirst struckOut (manifest .strings)) (itemsFor (manifest .strings) device (manifest .items)) (start limit outputLength)
 
 -- ---- The whole
 
@@ -127,7 +131,7 @@ finalState manifest device limit outputLength memoryLength = do
   _ ← refuseIf (ltb memoryLength 65536) MemoryTooShort 0
   _ ← refuseIf (eqb (length manifest) 0 || ltb 65535 (length manifest)) ManifestLength 0
   _ ← checked (check manifest)
-  runManifest (manifestOf manifest) device limit outputLength
+  runManifest noneStruckOut (manifestOf manifest) device limit outputLength
 
 -- "Entries in declaration order": the state has the latest first
 unfoldable pub onto : List Entry → List Entry → List Entry

@@ -5,7 +5,8 @@ use mathlib.Core.List.{List, [], _∷_}
 use mathlib.Core.Option.{Option, none, some}
 use lib.Dec.{eqb}
 use lib.IntN.{ℤ}
-use Rattle.labels.specs.Sets.{oneLabel}
+use Rattle.labels.specs.declared.Labels.{Labels}
+use Rattle.labels.specs.Sets.{noLabels, oneLabel, _∪_}
 use Rattle.values.specs.declared.Value.{Value}
 use Rattle.values.specs.declared.Value.the-variants.{Boolean}
 use Rattle.values.specs.declared.Labelled.{Labelled}
@@ -13,7 +14,7 @@ use Rattle.values.specs.declared.Reason.the-variants.{Malformed, Unknown, NoVal
 use Rattle.rules.specs.Outcome.{Outcome, refused, done, _>>=_, refuseIf, orRefuse, Result, at, plain, joining}
 use Rattle.rules.specs.Arithmetic.{integerIn, stringIn, booleanIn, sum, difference, quotient, isGreater, sameValue}
 use Rattle.rules.specs.Tree.{Constant, Operator, plus, minus, divide, greater, equal, and, or, Expression, constant, variable, topVariable, classVariable, operation, negation, attributeRead, selector, Arms, noArm, arm, defaultArm, placeOf, TypeDefinition, ClassDefinition, Definition, typeDefinition, classDefinition}
-use Rattle.rules.specs.Patterns.{Patterns, noPattern, constantPattern, defaultPattern, chosen, triedLabels}
+use Rattle.rules.specs.Patterns.{Patterns, noPattern, constantPattern, defaultPattern, chosen, tried, triedLabels}
 use Rattle.rules.specs.State.{Scope, topScope, classScope, Cells, Attribute, Entry, State, Context, Known, scopesTried, isSome}
 use Rattle.rules.specs.Tree
 
@@ -114,21 +115,38 @@ operate equal p l r x evaluateRight = equality x evaluateRight
 operate and p l r x evaluateRight = booleans false l r x evaluateRight
 operate or p l r x evaluateRight = booleans true l r x evaluateRight
 
--- ---- Expressions
+-- ---- Constants
 
 -- "A constant's set is its label"
 unfoldable pub ofConstant : Constant → Labelled
 ofConstant v = record { value = v .value; labels = oneLabel (v .label) }
 
+-- A compile comes to a constant where it evaluates it, tries it as a pattern or assigns it to a parameter as its default. One that is struck out
+-- is no field as listed (3).
+unfoldable pub comeTo : Known → Constant → Outcome (Unit {0})
+comeTo known v = refuseIf (known .struckOut v) Malformed (v .place)
+
+unfoldable pub comeToAll : Known → List Constant → Outcome (Unit {0})
+comeToAll known [] = done tt
+comeToAll known (v ∷ vs) = do
+  _ ← comeTo known v
+  comeToAll known vs
+
+-- ---- Expressions
+
 -- the patterns tried and what the chosen one gives; "No pattern of a selector matches" (18)
-unfoldable pub select : Patterns (Outcome Labelled) → (place : ℕ) → Value → Outcome Labelled
-select patterns p x = joining (triedLabels patterns x) (chosen patterns x (refused NoMatch p))
+unfoldable pub select : Known → Patterns (Outcome Labelled) → (place : ℕ) → Value → Outcome Labelled
+select known patterns p x = do
+  _ ← comeToAll known (tried patterns x)
+  joining (triedLabels patterns x) (chosen patterns x (refused NoMatch p))
 
 -- with what is known so far, in the context `here` and a state
 module _ (known : Known) (here : Context) (st : State) where
   unfoldable mutual
     pub evaluate : Expression → Outcome Labelled
-    evaluate (constant v) = done (ofConstant v)
+    evaluate (constant v) = do
+      _ ← comeTo known v
+      done (ofConstant v)
     evaluate (variable p n) = readIn p (st .cells) n (scopesTried here st)
     -- "14 tries top only, 15 the class only"; a class that is not defined so far is 9
     evaluate (topVariable p n) = readIn p (st .cells) n (topScope ∷ [])
@@ -154,7 +172,7 @@ module _ (known : Known) (here : Context) (st : State) where
     -- "a selector's is scrutinee, patterns tried and chosen expression"
     evaluate (selector p a arms) = do
       scrutinee ← evaluate a
-      joining (scrutinee .labels) (select (armPatterns arms) p (scrutinee .value))
+      joining (scrutinee .labels) (select known (armPatterns arms) p (scrutinee .value))
     evaluate (Expression.unreadable p) = refused Malformed p
 
     -- the patterns of a selector, each with what its expression gives
@@ -162,3 +180,45 @@ module _ (known : Known) (here : Context) (st : State) where
     armPatterns noArm = noPattern
     armPatterns (arm pattern a arms) = constantPattern pattern (evaluate a) (armPatterns arms)
     armPatterns (defaultArm a arms) = defaultPattern (evaluate a) (armPatterns arms)
+
+-- ---- Marks read: a part of an attribute's set (Why.antt)
+
+-- "the marks of every scope tried": up to the first that has a value
+unfoldable pub marksIn : Cells → (name : ℕ) → List Scope → Labels
+marksIn cells n [] = noLabels
+marksIn cells n (scope ∷ above) = cells scope n .mark ∪ elim (cells scope n .value) [ none ↦ marksIn cells n above | some x ↦ noLabels ]
+
+-- whether an operand is this boolean
+unfoldable pub isBoolean : Bool → Outcome Labelled → Bool
+isBoolean b (refused r p) = false
+isBoolean b (done x) = sameValue (Boolean b) (x .value)
+
+-- ""and" and "or" skip the right side when the left decides": whether an operator does, with this left operand
+unfoldable pub skipsRight : Operator → Outcome Labelled → Bool
+skipsRight plus left = false
+skipsRight minus left = false
+skipsRight divide left = false
+skipsRight greater left = false
+skipsRight equal left = false
+skipsRight and left = isBoolean false left
+skipsRight or left = isBoolean true left
+
+module _ (known : Known) (here : Context) (st : State) where
+  unfoldable mutual
+    -- the marks "of every scope tried by every variable read made while" an expression is evaluated, "also of reads whose value is then dropped"
+    pub marksRead : Expression → Labels
+    marksRead (constant v) = noLabels
+    marksRead (variable p n) = marksIn (st .cells) n (scopesTried here st)
+    marksRead (topVariable p n) = marksIn (st .cells) n (topScope ∷ [])
+    marksRead (classVariable p class n) = marksIn (st .cells) n (classScope class ∷ [])
+    marksRead (operation p operator a b) = marksRead a ∪ elim (skipsRight operator (evaluate known here st a)) [ true ↦ noLabels | false ↦ marksRead b ]
+    marksRead (negation p a) = marksRead a
+    marksRead (attributeRead p type name a) = marksRead a
+    marksRead (selector p a arms) = marksRead a ∪ elim (evaluate known here st a) [ refused r q ↦ noLabels | done x ↦ chosen (armMarks arms) (x .value) noLabels ]
+    marksRead (Expression.unreadable p) = noLabels
+
+    -- the patterns of a selector, each with the marks that its expression reads
+    pub armMarks : Arms → Patterns Labels
+    armMarks noArm = noPattern
+    armMarks (arm pattern a arms) = constantPattern pattern (marksRead a) (armMarks arms)
+    armMarks (defaultArm a arms) = defaultPattern (marksRead a) (armMarks arms)

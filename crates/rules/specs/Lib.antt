@@ -12,6 +12,7 @@ pub mod Evaluate
 pub mod Catalog
 pub mod Run
 pub mod Compile
+pub mod Why
 pub mod Schedule
 pub mod EditRule
 pub mod Ranges

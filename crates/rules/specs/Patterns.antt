@@ -2,6 +2,7 @@
 -- document 02: "a default in a case or selector is tried only after every other pattern, as source document 000 says of Puppet itself. With two
 -- defaults the first counts. The patterns tried, and so the label sets, follow the new order."
 use mathlib.Core.Bool.{true, false}
+use mathlib.Core.List.{List, [], _∷_}
 use Rattle.labels.specs.declared.Labels.{Labels}
 use Rattle.labels.specs.Sets.{noLabels, oneLabel, _∪_}
 use Rattle.values.specs.declared.Value.{Value}
@@ -30,11 +31,16 @@ firstDefault (defaultPattern follows patterns) without = follows
 unfoldable pub chosen : {A : Type 0} → Patterns A → Value → (without : A) → A
 chosen patterns x without = firstEqual patterns x (firstDefault patterns without)
 
--- "The patterns tried, and so the label sets, follow the new order.": the constants up to the one that equals x, or all of them; a default has no label
+-- "The patterns tried .. follow the new order.": the constants up to the one that equals x, or all of them; a default is no constant
+unfoldable pub tried : {A : Type 0} → Patterns A → Value → List Constant
+tried noPattern x = []
+tried (constantPattern constant follows patterns) x = constant ∷ elim (sameValue x (constant .value)) [ true ↦ [] | false ↦ tried patterns x ]
+tried (defaultPattern follows patterns) x = tried patterns x
+
+-- ".. and so the label sets": those of the patterns tried
+unfoldable pub labelsOf : List Constant → Labels
+labelsOf [] = noLabels
+labelsOf (constant ∷ constants) = oneLabel (constant .label) ∪ labelsOf constants
+
 unfoldable pub triedLabels : {A : Type 0} → Patterns A → Value → Labels
-triedLabels noPattern x = noLabels
-triedLabels (constantPattern constant follows patterns) x = elim (sameValue x (constant .value)) [
-  | true ↦ oneLabel (constant .label)
-  | false ↦ oneLabel (constant .label) ∪ triedLabels patterns x
-]
-triedLabels (defaultPattern follows patterns) x = triedLabels patterns x
+triedLabels patterns x = labelsOf (tried patterns x)

@@ -1,7 +1,7 @@
 -- How a manifest runs: statements, blocks, declarations, items.
 use Prim.Native.Nat.{ℕ, zero, suc, _-_}
 use mathlib.Core.Bool.{Bool, true, false, _||_, not}
-use mathlib.Core.List.{List, [], _∷_}
+use mathlib.Core.List.{List, [], _∷_, _++_}
 use mathlib.Core.Option.{Option, none, some}
 use lib.Dec.{eqb, ltb}
 use lib.ListN.{length}
@@ -13,9 +13,9 @@ use Rattle.rules.specs.Outcome.{Outcome, refused, done, _>>=_, refuseIf,
 use Rattle.rules.specs.Arithmetic.{stringIn, booleanIn}
 use Rattle.rules.specs.Tree.{Constant, placeOf, AttributeField, Statement, assignment, conditional, choice, builtInResource, definedResource, classWithAttributes, include, Block, end, next, Branches, noBranch, branch, defaultBranch, Parameter, Parent, ClassDefinition, Definition, typeDefinition, classDefinition, Item, statement, node, definition}
 use Rattle.rules.specs.Tree
-use Rattle.rules.specs.Patterns.{Patterns, noPattern, constantPattern, defaultPattern, chosen, triedLabels}
-use Rattle.rules.specs.State.{topScope, nodeScope, classScope, bodyScope, Base, topBase, nodeBase, baseScope, DeclaredClass, newCells, Attribute, Entry, State, Context, Known, isDeclared, takeStep, cellsFor, assign, tested, markDeclared, free, withEntry}
-use Rattle.rules.specs.Evaluate.{any, firstWith, isEntry, findType, findClass, ofConstant, evaluate}
+use Rattle.rules.specs.Patterns.{Patterns, noPattern, constantPattern, defaultPattern, chosen, tried, triedLabels}
+use Rattle.rules.specs.State.{topScope, nodeScope, classScope, bodyScope, Base, topBase, nodeBase, baseScope, DeclaredClass, newCells, Attribute, SetParts, Entry, State, Context, Known, isDeclared, takeStep, cellsFor, assign, tested, markDeclared, free, withEntry}
+use Rattle.rules.specs.Evaluate.{any, firstWith, isEntry, findType, findClass, ofConstant, comeToAll, evaluate, marksRead}
 use Rattle.rules.specs.Catalog.{entryBytes}
 
 -- ---- What the branches of a condition hold, taken or not
@@ -135,6 +135,16 @@ parameterValues (parameter ∷ parameters) givens = do
   values ← parameterValues parameters givens
   done (record { place = parameter .place; name = parameter .name; content = x } ∷ values)
 
+-- the defaults that are assigned, in the order of the 33s: those of the parameters that nothing is given to
+unfoldable pub takenDefault : Option Given → Option Constant → List Constant
+takenDefault none none = []
+takenDefault none (some constant) = constant ∷ []
+takenDefault (some given) default = []
+
+unfoldable pub takenDefaults : List Parameter → List Given → List Constant
+takenDefaults [] givens = []
+takenDefaults (parameter ∷ parameters) givens = takenDefault (firstWith (isGiven (parameter .name)) givens) (parameter .default) ++ takenDefaults parameters givens
+
 -- the parameters assigned, "each as a 21 would do it"
 unfoldable pub storeAll : Context → List Given → State → Outcome State
 storeAll here [] st = done st
@@ -156,13 +166,28 @@ attributesUnder own here st (given ∷ givens) =
     record { name = given .name; content = under own (stored here st (given .content)) }
     ∷ attributesUnder own here st givens
 
--- the entry of a resource whose title expression has this set
-unfoldable pub entryFrom : (type title : ℕ) → Labels → Context → State → List Given → Entry
-entryFrom type title set here st givens = record {
+-- the marks that the expression of the attribute of this name reads
+unfoldable pub marksFor : Known → Context → State → List AttributeField → (name : ℕ) → Labels
+marksFor known here st [] n = noLabels
+marksFor known here st (attribute ∷ attributes) n = elim (eqb (attribute .name) n) [ true ↦ marksRead known here st (attribute .expression) | false ↦ marksFor known here st attributes n ]
+
+-- the set of what is given
+unfoldable pub givenLabels : Option Given → Labels
+givenLabels none = noLabels
+givenLabels (some given) = given .content .labels
+
+-- the parts of an attribute's set, by its name; the title expression has this set
+unfoldable pub partsFrom : Labels → Context → State → (marks : ℕ → Labels) → List Given → (name : ℕ) → SetParts
+partsFrom set here st marks givens n = record { title = set; path = here .path; trail = st .trail; marks = marks n; value = givenLabels (firstWith (isGiven n) givens) }
+
+-- the entry of a resource whose title expression has this set, and the expressions of whose attributes read these marks
+unfoldable pub entryFrom : (type title : ℕ) → Labels → (marks : ℕ → Labels) → Context → State → List Given → Entry
+entryFrom type title set marks here st givens = record {
   type = type;
   title = title;
   labels = withPathAndTrail here st set;
   attributes = attributesUnder (withPathAndTrail here st set) here st givens;
+  parts = partsFrom set here st marks givens;
 }
 
 -- "The finished entry passes the output's end or 65,535 bytes in all" (23)
@@ -172,12 +197,12 @@ addEntry p entry st = do
   done (withEntry entry (st .room - length (entryBytes entry)) st)
 
 -- a 25 whose parts are evaluated: 9, 20, 21, 23
-unfoldable pub addResource : Known → (place type title : ℕ) → Labels → List Given → Context → State → Outcome State
-addResource known p type title set givens here st = do
+unfoldable pub addResource : Known → (place type title : ℕ) → Labels → (marks : ℕ → Labels) → List Given → Context → State → Outcome State
+addResource known p type title set marks givens here st = do
   _ ← refuseIf (not (known .builtIn type)) Unknown p
   _ ← refuseIf (any (isEntry type title) (st .entries)) ResourceAgain p
   _ ← namedOnce [] givens
-  addEntry p (entryFrom type title set here st givens) st
+  addEntry p (entryFrom type title set marks here st givens) st
 
 -- ---- Conditions
 
@@ -228,6 +253,7 @@ module _ (known : Known) (declare : Declare) where
       elim holds [ true ↦ runBlock ifTrue (inBranch set here) st′ | false ↦ runBlock ifFalse (inBranch set here) st′ ]
     run (choice p e branches) here st = do
       x ← evaluate known here st e
+      _ ← comeToAll known (tried (branchPatterns branches) (x .value))
       let set : Labels = withPathAndTrail here st (x .labels ∪ triedLabels (branchPatterns branches) (x .value))
       st′ ← afterTest p here (assignsAny branches) (declaresAny branches) set st
       chosen (branchPatterns branches) (x .value) doNothing (inBranch set here) st′
@@ -235,7 +261,7 @@ module _ (known : Known) (declare : Declare) where
       x ← evaluate known here st e
       title ← at (placeOf e) (stringIn (x .value))
       givens ← evaluateAll known here st attributes
-      addResource known p type title (x .labels) givens here st
+      addResource known p type title (x .labels) (marksFor known here st attributes) givens here st
     run (definedResource p type e attributes) here st = do
       x ← evaluate known here st e
       _ ← at (placeOf e) (stringIn (x .value))
@@ -291,8 +317,9 @@ module _ (known : Known) (declare : Declare) where
   ]
 
   -- "Then it is marked declared, its parameters are assigned and its body runs."
-  unfoldable pub enterClass : ClassDefinition → (parameters : List Given) → Context → State → Outcome State
-  enterClass class values here st = do
+  unfoldable pub enterClass : ClassDefinition → (defaults : List Constant) → (parameters : List Given) → Context → State → Outcome State
+  enterClass class defaults values here st = do
+    _ ← comeToAll known defaults
     let declared : DeclaredClass = placedUnder (class .parent) here st
     let inside : Context = inClass (class .name) declared here
     st′ ← storeAll inside values (markDeclared (class .name) declared st)
@@ -313,6 +340,7 @@ declaration known (suc n) (ofType p name title givens) here st = do
   values ← parameterValues (type .parameters) givens
   _ ← namedOnce [] givens
   st₁ ← storeTitle (known .title) (inBody n here) p title st
+  _ ← comeToAll known (takenDefaults (type .parameters) givens)
   st₂ ← storeAll (inBody n here) values st₁
   st₃ ← runBlock known (declaration known n) (type .body) (inBody n here) st₂
   done (free (bodyScope n) st₃)
@@ -325,13 +353,13 @@ declaration known (suc n) (ofClass p name givens) here st = do
   st₁ ← parentFirst known (declaration known n) (class .parent) here st
   -- "then looks again": "28 is refused"
   _ ← refuseIf (isDeclared name st₁) DeclaredAgain p
-  enterClass known (declaration known n) class values here st₁
+  enterClass known (declaration known n) class (takenDefaults (class .parameters) givens) values here st₁
 declaration known (suc n) (included p name) here st = do
   class ← orRefuse (findClass name (known .definitions)) Unknown p
   values ← parameterValues (class .parameters) []
   st₁ ← parentFirst known (declaration known n) (class .parent) here st
   -- "then looks again": "an include or a parent's declaration does nothing more"
-  elim (isDeclared name st₁) [ true ↦ done st₁ | false ↦ enterClass known (declaration known n) class values here st₁ ]
+  elim (isDeclared name st₁) [ true ↦ done st₁ | false ↦ enterClass known (declaration known n) class (takenDefaults (class .parameters) []) values here st₁ ]
 
 -- ---- Items
 
@@ -361,7 +389,7 @@ unfoldable pub isTaken : Known → ℕ → Bool
 isTaken known n = known .builtIn n || any (isDefinition n) (known .definitions)
 
 unfoldable pub withDefinition : Definition → Known → Known
-withDefinition d known = record { builtIn = known .builtIn; title = known .title; definitions = d ∷ known .definitions }
+withDefinition d known = record { builtIn = known .builtIn; title = known .title; definitions = d ∷ known .definitions; struckOut = known .struckOut }
 
 -- "Items run in order. A definition must run before it is used". Of the nodes only the one that runs is among them.
 unfoldable pub runItems : Known → List Item → State → Outcome State

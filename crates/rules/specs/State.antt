@@ -9,7 +9,7 @@ use Rattle.labels.specs.Sets.{noLabels, _∪_}
 use Rattle.values.specs.declared.Labelled.{Labelled}
 use Rattle.values.specs.declared.Reason.the-variants.{StepLimit, AssignedAgain, CellLimit}
 use Rattle.rules.specs.Outcome.{Outcome, refused, done, _>>=_, refuseIf}
-use Rattle.rules.specs.Tree.{Definition}
+use Rattle.rules.specs.Tree.{Constant, Definition}
 
 -- ---- Scopes: "top, node, one for each declared class, and one for each running defined-type body"
 
@@ -106,11 +106,20 @@ pub record Attribute : Type 0 where
   pub name : ℕ
   pub content : Labelled
 
+-- what an attribute's set is the union of (Why.antt): "title expression, path, trail, marks its expression read, value"
+pub record SetParts : Type 0 where
+  pub title : Labels  -- the set of the title expression
+  pub path : Labels  -- the path that was carried along
+  pub trail : Labels  -- the trail when the resource was added
+  pub marks : Labels  -- the marks of every scope tried by the reads of its expression
+  pub value : Labels  -- the set of its expression
+
 pub record Entry : Type 0 where
   pub type : ℕ
   pub title : ℕ
   pub labels : Labels
   pub attributes : List Attribute
+  pub parts : (attribute : ℕ) → SetParts  -- of each attribute's set, by its name; the catalog's bytes do not tell them
 
 -- ---- The state
 
@@ -129,11 +138,12 @@ pub record Context : Type 0 where
   pub base : Base
   pub path : Labels  -- the path: "the union over the conditions enclosing the statement, through declarations too"
 
--- what a name may mean at this point of the manifest
+-- what a name may mean at this point of the manifest, and which constants are struck out of it
 pub record Known : Type 0 where
   pub builtIn : ℕ → Bool
   pub title : Option ℕ  -- the number of the string "title"
   pub definitions : List Definition  -- those that have run, the latest first
+  pub struckOut : Constant → Bool  -- none in a compile; only Why.antt strikes constants out, to ask whether the compile comes to them
 
 -- the scopes that a plain read tries: at most 1,024 classes, node and top (more of them change no read: proofs/Scopes.antt)
 unfoldable pub scopesTried : Context → State → List Scope

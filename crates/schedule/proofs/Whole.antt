@@ -19,14 +19,14 @@ use Rattle.rules.specs.Check.{check, stringPlaces}
 use Rattle.rules.specs.Read.{manifestOf}
 use Rattle.rules.specs.Outcome.{Outcome, refused, done}
 use Rattle.rules.specs.State.{State}
-use Rattle.rules.specs.Catalog.{catalogBytes, readCatalog}
+use Rattle.rules.specs.Catalog.{catalogBytes, shownAll, readCatalog}
 use Rattle.rules.specs.Compile.{checked, finalState, entriesInOrder, Compiled, compiledFrom, compiled, outputOf}
 use Rattle.rules.specs.EditRule.{IsBytes}
 use Rattle.rules.specs.Schedule.{entryLines, stepsLine, refusalLine, textOf}
 use Rattle.rules.proofs.Lists.{Each, noneLeft, each-apply, either-right}
 use Rattle.rules.proofs.Outcome.{All, allRefused, allDone, allBind, allAny, allGet, allPassed}
 use Rattle.rules.proofs.Laws.{final-sound, onto-each, catalog-within}
-use Rattle.rules.proofs.ReadBack.{FitsEntry, read-back}
+use Rattle.rules.proofs.ReadBack.{FitsEntry, read-back, shown-bytes, shown-fit}
 use Rattle.syntax.specs.Strings.{textsAt, stringTexts, indexed, Indexed}
 use Rattle.syntax.proofs.StringsRead.{Short, short-strings, strings-read, table-holds}
 use Rattle.schedule.specs.Strings.{placesFrom, stringsBy}
@@ -111,8 +111,8 @@ module _ (m device : List ℕ) (limit output memory : ℕ) where
       (allBind (final-sound m device limit output memory) λ st h.
       allDone λ size.
       let fits : IsBytes m → Each FitsEntry (entriesInOrder st) = λ b. onto-each (each-apply (h .entries) b) noneLeft in
-      let back : IsBytes m → readCatalog (catalogBytes (entriesInOrder st)) ≡ entriesInOrder st = λ b. read-back (entriesInOrder st) (fits b) (omega arith) in
-      record { fits = λ b. rw (back b) (fits b); bytes = λ b. ap catalogBytes (sym (back b)) })
+      let back : IsBytes m → readCatalog (catalogBytes (entriesInOrder st)) ≡ shownAll (entriesInOrder st) = λ b. read-back (entriesInOrder st) (fits b) (omega arith) in
+      record { fits = λ b. rw (back b) (shown-fit (entriesInOrder st) (fits b)); bytes = λ b. sym (shown-bytes (entriesInOrder st)) ∙ ap catalogBytes (sym (back b)) })
       p
 
   module _ {c : Compiled} (accepted : compiled m device limit output memory ≡ done c) (room : ℕ) (wide : 2048 ≤ room) where

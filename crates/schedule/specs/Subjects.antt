@@ -7,6 +7,7 @@ use lib.Dec.{eqb, ltb, leb}
 use lib.ListN.{length}
 use Rattle.wire.specs.Bytes.{pick, byte, two, endOf}
 use Rattle.rules.specs.State.{Attribute, Entry}
+use Rattle.rules.specs.Catalog.{noParts}
 use Rattle.labels.specs.Bytes.{setAt}
 use Rattle.catalog.specs.Layout.{entryType, entryTitle, entryLabels, entryAttributes, beforeAttributes, attributeName, attributeValue}
 use Rattle.catalog.specs.Finding.{contentAt}
@@ -68,4 +69,4 @@ attributeAt m q = record { name = two m (q + attributeName); content = contentAt
 
 -- the entry at p, without its attributes: a line names its type and title, and its labels if it has none
 unfoldable pub headAt : List ℕ → ℕ → Entry
-headAt m p = record { type = two m (p + entryType); title = two m (p + entryTitle); labels = setAt m (p + entryLabels); attributes = [] }
+headAt m p = record { type = two m (p + entryType); title = two m (p + entryTitle); labels = setAt m (p + entryLabels); attributes = []; parts = λ n. noParts }

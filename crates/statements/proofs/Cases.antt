@@ -9,10 +9,10 @@ use Rattle.values.specs.declared.Value.{Value}
 use Rattle.values.specs.declared.Refusal.{Refusal}
 use Rattle.wire.specs.Bytes.{byte, endOf, fieldsIn}
 use Rattle.rules.specs.Outcome.{Outcome, refused, done, _>>=_}
-use Rattle.rules.specs.Patterns.{Patterns, constantPattern, defaultPattern, chosen, triedLabels}
-use Rattle.rules.specs.Tree.{Expression, Statement, Block, end, Branches, noBranch, branch, defaultBranch, choice}
+use Rattle.rules.specs.Patterns.{Patterns, constantPattern, defaultPattern, chosen, triedLabels, tried, labelsOf}
+use Rattle.rules.specs.Tree.{Expression, Statement, Block, end, Branches, noBranch, branch, defaultBranch, choice, Constant}
 use Rattle.rules.specs.State.{Entry, State, Context, Known}
-use Rattle.rules.specs.Evaluate.{evaluate}
+use Rattle.rules.specs.Evaluate.{evaluate, comeToAll}
 use Rattle.rules.specs.Run.{Declare, doNothing, run, runBlock, branchPatterns, inBranch, withPathAndTrail, afterTest, assignsAny, declaresAny}
 use Rattle.rules.proofs.Patterns.{mapPatterns, tried-mapped, chosen-mapped, chosen-holds}
 use Rattle.rules.specs.declared.Kind.the-variants.{Statement as StatementKind, Expression as ExpressionKind, Branch as BranchKind}
@@ -41,8 +41,13 @@ use Rattle.statements.specs.Answers.{ranAs}
 use Rattle.statements.proofs.Entering.{preserves-same}
 use Rattle.statements.specs.declared.TestedCase.{TestedCase}
 use Rattle.statements.specs.declared.TestedCase.the-variants.{Branch, Nothing as NoBlock, Refused}
-use Rattle.statements.specs.Tests.{Passed, passed, afterText, Decides, Tests}
-use Rattle.statements.specs.Cases.{branchesOf, blocksIn, chosenBlock, blockFor, blockHere, blockLater, choiceStands, afterCase, decideCase, testCase, testCaseAt, caseAs, blockStands}
+use Rattle.statements.specs.Tests.{Passed, passed, afterText, Decides, Tests, Comes}
+use Rattle.statements.specs.Cases.{branchesOf, blocksIn, chosenBlock, blockFor, blockHere, blockLater, choiceStands, afterCase, decideCase, testCase, testCaseAt, caseAs, blockStands, tryCase}
+use Rattle.patterns.specs.Struck.{firstStruck}
+use Rattle.patterns.proofs.Struck.{cameTo, come-to-all}
+use Rattle.memory.specs.Words.{struckIn}
+use Rattle.values.specs.declared.Reason.the-variants.{Malformed}
+use Rattle.values.specs.Refusals.{refusalAt}
 
 -- ---- The law
 
@@ -60,36 +65,41 @@ branches-run k declare noBranch = refl
 branches-run k declare (branch v b bs) = ap (constantPattern v (ranBlock k declare b)) (branches-run k declare bs)
 branches-run k declare (defaultBranch b bs) = ap (defaultPattern (ranBlock k declare b)) (branches-run k declare bs)
 
-branch-tried : (k : Known) (declare : Declare) (bs : Branches) (x : Value) → triedLabels (branchPatterns k declare bs) x ≡ triedLabels (blocksIn bs) x
-branch-tried k declare bs x = ap (λ (ps : Patterns (Context → State → Outcome State)). triedLabels ps x) (branches-run k declare bs) ∙ tried-mapped (ranBlock k declare) (blocksIn bs) x
+branch-tried : (k : Known) (declare : Declare) (bs : Branches) (x : Value) → tried (branchPatterns k declare bs) x ≡ tried (blocksIn bs) x
+branch-tried k declare bs x = ap (λ (ps : Patterns (Context → State → Outcome State)). tried ps x) (branches-run k declare bs) ∙ tried-mapped (ranBlock k declare) (blocksIn bs) x
 
 branch-runs : (k : Known) (declare : Declare) (bs : Branches) (x : Value) → chosen (branchPatterns k declare bs) x doNothing ≡ ranBlock k declare (chosenBlock bs x)
 unfolding run doNothing
 branch-runs k declare bs x = ap (λ (ps : Patterns (Context → State → Outcome State)). chosen ps x doNothing) (branches-run k declare bs) ∙ chosen-mapped (ranBlock k declare) (blocksIn bs) x end
 
 pub case-runs : (k : Known) (declare : Declare) (p : ℕ) (e : Expression) (bs : Branches) (c : Context) (st : State) → run k declare (choice p e bs) c st ≡ (testCase p e bs k c st >>= intoBlock k declare c)
-unfolding run testCase decideCase afterCase _>>=_
+unfolding run testCase tryCase decideCase afterCase triedLabels _>>=_
 case-runs k declare p e bs c st = go (evaluate k c st e)
   where
     after : Labels → Outcome State
     after set = afterTest p c (assignsAny bs) (declaresAny bs) set st
 
-    -- the set, by the labels of the patterns tried
-    setOf : Labelled → Labels → Labels
-    setOf x tried = withPathAndTrail c st (x .labels ∪ tried)
+    -- the set, by the patterns tried
+    setOf : Labelled → List Constant → Labels
+    setOf x vs = withPathAndTrail c st (x .labels ∪ labelsOf vs)
 
     entered : (b : Block) (set : Labels) (o : Outcome State) → (o >>= λ st′. ranBlock k declare b (inBranch set c) st′) ≡ ((o >>= λ st′. done (passed b set st′)) >>= intoBlock k declare c)
     entered b set (refused r q) = refl
     entered b set (done st′) = refl
 
-    decided : (x : Labelled) (tried : Labels) (then : Context → State → Outcome State) → tried ≡ triedLabels (blocksIn bs) (x .value) → then ≡ ranBlock k declare (chosenBlock bs (x .value))
-        → (after (setOf x tried) >>= λ st′. then (inBranch (setOf x tried) c) st′) ≡ (decideCase p bs x c st >>= intoBlock k declare c)
-    decided x tried then e f = let set : Labels = setOf x (triedLabels (blocksIn bs) (x .value)) in rw (e, f) (entered (chosenBlock bs (x .value)) set (after set))
+    came : (x : Labelled) (vs : List Constant) (b : Block) (o : Outcome (Unit {0}))
+        → (o >>= λ _. after (setOf x vs) >>= λ st′. ranBlock k declare b (inBranch (setOf x vs) c) st′) ≡ ((o >>= λ _. after (setOf x vs) >>= λ st′. done (passed b (setOf x vs) st′)) >>= intoBlock k declare c)
+    came x vs b (refused r q) = refl
+    came x vs b (done u) = entered b (setOf x vs) (after (setOf x vs))
+
+    decided : (x : Labelled) (vs : List Constant) (then : Context → State → Outcome State) → vs ≡ tried (blocksIn bs) (x .value) → then ≡ ranBlock k declare (chosenBlock bs (x .value))
+        → (comeToAll k vs >>= λ _. after (setOf x vs) >>= λ st′. then (inBranch (setOf x vs) c) st′) ≡ (tryCase p bs x k c st >>= intoBlock k declare c)
+    decided x vs then e f = rw (e, f) (came x (tried (blocksIn bs) (x .value)) (chosenBlock bs (x .value)) (comeToAll k (tried (blocksIn bs) (x .value))))
 
     patterns : Patterns (Context → State → Outcome State)
     patterns = branchPatterns k declare bs
 
-    go : (o : Outcome Labelled) → (o >>= λ x. after (setOf x (triedLabels patterns (x .value))) >>= λ st′. chosen patterns (x .value) doNothing (inBranch (setOf x (triedLabels patterns (x .value))) c) st′) ≡ ((o >>= λ x. decideCase p bs x c st) >>= intoBlock k declare c)
+    go : (o : Outcome Labelled) → (o >>= λ x. comeToAll k (tried patterns (x .value)) >>= λ _. after (setOf x (tried patterns (x .value))) >>= λ st′. chosen patterns (x .value) doNothing (inBranch (setOf x (tried patterns (x .value))) c) st′) ≡ ((o >>= λ x. tryCase p bs x k c st) >>= intoBlock k declare c)
     go (refused r q) = refl
     go (done x) = decided x _ _ (branch-tried k declare bs (x .value)) (branch-runs k declare bs (x .value))
 
@@ -108,6 +118,9 @@ blocks-at m d (q ∷ qs) =
     let after : Branches = branchesAt m d qs in
     mapped-first blocksIn (blockFor m (d - 1)) m q qs (defaultBranch b after) (branch (constantAt m (q + 3)) b after) (ap (defaultPattern b) (blocks-at m d qs)) (ap (constantPattern (constantAt m (q + 3)) b) (blocks-at m d qs))
 
+blocks-tried : (m : List ℕ) (d : ℕ) (qs : List ℕ) (x : Value) → tried (blocksIn (branchesAt m d qs)) x ≡ tried (patternsAt m qs) x
+blocks-tried m d qs x = ap (λ (ps : Patterns Block). tried ps x) (blocks-at m d qs) ∙ tried-mapped (blockFor m (d - 1)) (patternsAt m qs) x
+
 module _ {m : List ℕ} {f e : ℕ} {x : Value} {r : Matched} (d : ℕ) (i : Matches m f e x r) where
   block-chosen : blockFor m (d - 1) (r .at) ≡ chosenBlock (branchesAt m d (fieldsIn m f e)) x
   unfolding blockFor
@@ -116,9 +129,8 @@ module _ {m : List ℕ} {f e : ℕ} {x : Value} {r : Matched} (d : ℕ) (i : Mat
       ∙ ap (λ (ps : Patterns Block). chosen ps x end) (sym (blocks-at m d (fieldsIn m f e)))
 
   labels-tried : r .labels ≡ triedLabels (blocksIn (branchesAt m d (fieldsIn m f e))) x
-  labels-tried =
-      i .labels ∙ sym (tried-mapped (blockFor m (d - 1)) (patternsAt m (fieldsIn m f e)) x)
-      ∙ ap (λ (ps : Patterns Block). triedLabels ps x) (sym (blocks-at m d (fieldsIn m f e)))
+  unfolding triedLabels
+  labels-tried = i .labels ∙ ap labelsOf (sym (blocks-tried m d (fieldsIn m f e) x))
 
   block-stands : Siblings m d BranchKind f e → choiceStands m (d - 1) f e (r .at)
   unfolding choiceStands
@@ -183,16 +195,46 @@ module _ (m : List ℕ) (d p : ℕ) {f e : ℕ} (w : List ℕ) (here : Here) (x 
       tt,
     )
 
+-- ---- The ways of `try_case`
+
+module _ (m : List ℕ) (d p : ℕ) {f e : ℕ} (w : List ℕ) (here : Here) (x : Labelled) (found : f ≡ endOf m (p + 3)) (ends : e ≡ endOf m p) {s : Choice} (first : s ≡ firstStruck w (tried (patternsAt m (fieldsIn m f e)) (x .value))) where
+  case-comes : (k : Known) → ((v : Constant) → k .struckOut v ≡ struckIn w v) → (c : Context) (st : State) → (cameTo s >>= λ _. decideCase p (branchesOf m d p) x c st) ≡ tryCase p (branchesOf m d p) x k c st
+  unfolding tryCase
+  case-comes k known c st =
+      let vs : List Constant = tried (blocksIn (branchesOf m d p)) (x .value) in
+      let same : tried (patternsAt m (fieldsIn m f e)) (x .value) ≡ vs = (λ j. tried (patternsAt m (fieldsIn m (found j) (ends j))) (x .value)) ∙ sym (blocks-tried m d (fieldsIn m (endOf m (p + 3)) (endOf m p)) (x .value)) in
+      ap (λ (o : Outcome (Unit {0})). o >>= λ _. decideCase p (branchesOf m d p) x c st) (ap cameTo (first ∙ ap (firstStruck w) same) ∙ sym (come-to-all k w known vs))
+
+  pub case-struck : {q : ℕ} {why : Refusal} → s ≡ At q → why ≡ refusalAt Malformed q → Comes m w w here (caseAs m (d - 1) (Refused why)) (tryCase p (branchesOf m d p) x) × blockStands m (d - 1) p (Refused why)
+  unfolding caseAs cameTo _>>=_ blockStands
+  case-struck is e = (
+    record {
+      says = λ k known es n r. rw e ((λ j. cameTo (sym is j) >>= λ _. decideCase p (branchesOf m d p) x (contextOf here) (stateOf w es n r)) ∙ case-comes k known (contextOf here) (stateOf w es n r));
+      keeps = preserves-same w;
+    },
+    tt,
+  )
+
+  pub case-tried : {w′ : List ℕ} (answer : TestedCase) → s ≡ Nothing → Decides m w w′ here (caseAs m (d - 1) answer) (decideCase p (branchesOf m d p) x) × blockStands m (d - 1) p answer → Comes m w w′ here (caseAs m (d - 1) answer) (tryCase p (branchesOf m d p) x) × blockStands m (d - 1) p answer
+  unfolding cameTo _>>=_
+  case-tried answer is i = (
+    record {
+      says = λ k known es n r. i .0 .says es n r ∙ (λ j. cameTo (sym is j) >>= λ _. decideCase p (branchesOf m d p) x (contextOf here) (stateOf w es n r)) ∙ case-comes k known (contextOf here) (stateOf w es n r);
+      keeps = i .0 .keeps;
+    },
+    i .1,
+  )
+
 -- ---- The ways of `test_case`
 
 pub choice-here : {m : List ℕ} {d p : ℕ} → StandsAs m d StatementKind p → byte m p ≡ 0x23 → ChoiceAt m d (d - 1) p
 choice-here s tag = choice-opens (s .stands) (has-level s) tag
 
 module _ {m w out : List ℕ} {d p fill : ℕ} (here : Here) (s : StandsAs m d StatementKind p) (tag : byte m p ≡ 0x23) (e : Evaluated) (told : StandsAs m (d - 1) ExpressionKind (p + 3) → Tells m w out fill (here .scope) (evaluated e) (λ k c st. evaluate k c st (expressionAt m (d - 1) (p + 3)))) where
-  test-run : {o : Outcome Labelled} (k : Known) (es : List Entry) (n r : ℕ) → evaluated e ≡ o → Ready m w out fill k es → (o >>= λ x. decideCase p (branchesOf m (d - 1) p) x (contextOf here) (stateOf w es n r)) ≡ testCaseAt m (d - 1) p k (contextOf here) (stateOf w es n r)
+  test-run : {o : Outcome Labelled} (k : Known) (es : List Entry) (n r : ℕ) → evaluated e ≡ o → Ready m w out fill k es → (o >>= λ x. tryCase p (branchesOf m (d - 1) p) x k (contextOf here) (stateOf w es n r)) ≡ testCaseAt m (d - 1) p k (contextOf here) (stateOf w es n r)
   unfolding testCaseAt testCase
   test-run k es n r h ready =
-      ap (λ (o : Outcome Labelled). o >>= λ x. decideCase p (branchesOf m (d - 1) p) x (contextOf here) (stateOf w es n r)) (sym h ∙ told (choice-here s tag .scrutinee) .says k (here .path) es n r ready)
+      ap (λ (o : Outcome Labelled). o >>= λ x. tryCase p (branchesOf m (d - 1) p) x k (contextOf here) (stateOf w es n r)) (sym h ∙ told (choice-here s tag .scrutinee) .says k (here .path) es n r ready)
 
   pub test-refused : (why : Refusal) → e ≡ Fails why → Tests m w w out fill here (caseAs m (d - 1 - 1) (Refused why)) (testCaseAt m (d - 1) p) × blockStands m (d - 1 - 1) p (Refused why)
   unfolding caseAs evaluated _>>=_ blockStands
@@ -204,11 +246,11 @@ module _ {m w out : List ℕ} {d p fill : ℕ} (here : Here) (s : StandsAs m d S
     tt,
   )
 
-  pub test-decided : {w′ : List ℕ} (answer : TestedCase) (x : Labelled) → e ≡ Yields x → Decides m w w′ here (caseAs m (d - 1 - 1) answer) (decideCase p (branchesOf m (d - 1) p) x) × blockStands m (d - 1 - 1) p answer → Tests m w w′ out fill here (caseAs m (d - 1 - 1) answer) (testCaseAt m (d - 1) p) × blockStands m (d - 1 - 1) p answer
+  pub test-decided : {w′ : List ℕ} (answer : TestedCase) (x : Labelled) → e ≡ Yields x → Comes m w w′ here (caseAs m (d - 1 - 1) answer) (tryCase p (branchesOf m (d - 1) p) x) × blockStands m (d - 1 - 1) p answer → Tests m w w′ out fill here (caseAs m (d - 1 - 1) answer) (testCaseAt m (d - 1) p) × blockStands m (d - 1 - 1) p answer
   unfolding evaluated _>>=_
   test-decided answer x h i = (
     record {
-      says = λ k es n r ready. i .0 .says es n r ∙ test-run k es n r (ap evaluated h) ready;
+      says = λ k es n r ready. i .0 .says k (ready .known .struck) es n r ∙ test-run k es n r (ap evaluated h) ready;
       keeps = i .0 .keeps;
     },
     i .1,

@@ -9,9 +9,9 @@ use Rattle.values.specs.declared.Labelled.{Labelled}
 use Rattle.wire.specs.Bytes.{endOf, fieldsIn}
 use Rattle.rules.specs.Outcome.{Outcome, done, _>>=_}
 use Rattle.rules.specs.Tree.{Expression, Block, end, Branches, noBranch, branch, defaultBranch}
-use Rattle.rules.specs.Patterns.{Patterns, noPattern, constantPattern, defaultPattern, chosen, triedLabels}
+use Rattle.rules.specs.Patterns.{Patterns, noPattern, constantPattern, defaultPattern, chosen, triedLabels, tried}
 use Rattle.rules.specs.State.{State, Context, Known}
-use Rattle.rules.specs.Evaluate.{evaluate}
+use Rattle.rules.specs.Evaluate.{evaluate, comeToAll}
 use Rattle.rules.specs.Run.{assignsAny, declaresAny, withPathAndTrail, afterTest}
 use Rattle.rules.specs.declared.Kind.the-variants.{Block as BlockKind}
 use Rattle.places.specs.At.{expressionAt, blockAt, branchesAt, StandsAs}
@@ -56,8 +56,12 @@ afterCase p bs k c st = afterTest p c (assignsAny bs) (declaresAny bs) k st
 unfoldable pub decideCase : (p : ℕ) → Branches → Labelled → Context → State → Outcome (Passed Block)
 decideCase p bs x c st = afterCase p bs (withPathAndTrail c st (x .labels ∪ triedLabels (blocksIn bs) (x .value))) c st >>= λ st′. done (passed (chosenBlock bs (x .value)) (withPathAndTrail c st (x .labels ∪ triedLabels (blocksIn bs) (x .value))) st′)
 
+-- the patterns tried, then the rest
+unfoldable pub tryCase : (p : ℕ) → Branches → Labelled → Known → Context → State → Outcome (Passed Block)
+tryCase p bs x k c st = comeToAll k (tried (blocksIn bs) (x .value)) >>= λ _. decideCase p bs x c st
+
 unfoldable pub testCase : (p : ℕ) → Expression → Branches → Known → Context → State → Outcome (Passed Block)
-testCase p e bs k c st = evaluate k c st e >>= λ x. decideCase p bs x c st
+testCase p e bs k c st = evaluate k c st e >>= λ x. tryCase p bs x k c st
 
 -- the case at p, whose parts have b levels left
 unfoldable pub testCaseAt : List ℕ → (b p : ℕ) → Known → Context → State → Outcome (Passed Block)

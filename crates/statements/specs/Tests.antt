@@ -9,7 +9,7 @@ use Rattle.values.specs.declared.Labelled.{Labelled}
 use Rattle.wire.specs.Bytes.{endOf}
 use Rattle.rules.specs.Outcome.{Outcome, done, _>>=_, at}
 use Rattle.rules.specs.Arithmetic.{booleanIn}
-use Rattle.rules.specs.Tree.{Expression, placeOf, Block}
+use Rattle.rules.specs.Tree.{Expression, placeOf, Block, Constant}
 use Rattle.rules.specs.State.{Entry, State, Context, Known}
 use Rattle.rules.specs.Evaluate.{evaluate}
 use Rattle.rules.specs.Run.{assignsIn, declaresIn, withPathAndTrail, afterTest}
@@ -25,6 +25,7 @@ use Rattle.evaluator.specs.Known.{Ready}
 use Rattle.statements.specs.declared.Tested.{Tested}
 use Rattle.statements.specs.declared.Tested.the-variants.{Branch, Refused}
 use Rattle.statements.specs.Answers.{Preserves}
+use Rattle.memory.specs.Words.{struckIn}
 
 -- after a test: what it chose, its set, and the state in which the block runs
 pub record Passed (A : Type 0) : Type 0 where
@@ -72,6 +73,11 @@ pub record Testable (m w : List ℕ) (d p : ℕ) : Type 0 where
 -- an answer is what f gives in a context
 pub record Decides {A : Type 0} (m w w′ : List ℕ) (here : Here) (answer : State → Outcome A) (f : Context → State → Outcome A) : Type 0 where
   pub says : (es : List Entry) (n r : ℕ) → answer (stateOf w′ es n r) ≡ f (contextOf here) (stateOf w es n r)
+  pub keeps : Preserves m w w′
+
+-- the same, where what is struck out counts
+pub record Comes {A : Type 0} (m w w′ : List ℕ) (here : Here) (answer : State → Outcome A) (f : Known → Context → State → Outcome A) : Type 0 where
+  pub says : (k : Known) → ((v : Constant) → k .struckOut v ≡ struckIn w v) → (es : List Entry) (n r : ℕ) → answer (stateOf w′ es n r) ≡ f k (contextOf here) (stateOf w es n r)
   pub keeps : Preserves m w w′
 
 -- an answer is what the test gives, in every state that the bytes stand for

@@ -13,8 +13,8 @@ ghost use Rattle.cells.specs.Memory.{outcome};
 ghost use Rattle.evaluator.specs.Known.{Sized};
 ghost use Rattle.branches.specs.Names.{contains};
 ghost use Rattle.branches.specs.Texts.{textOf};
-ghost use Rattle.statements.specs.Cases.{branchesOf, decideCase, testCaseAt, caseAs, blockStands};
-ghost use Rattle.statements.specs.Tests.{afterText, decideIf, testIfAt, testedAs, Testable, Decides, Tests};
+ghost use Rattle.statements.specs.Cases.{branchesOf, decideCase, tryCase, testCaseAt, caseAs, blockStands};
+ghost use Rattle.statements.specs.Tests.{afterText, decideIf, testIfAt, testedAs, Testable, Comes, Decides, Tests};
 ghost use Rattle.statements.specs.Answers.{ranAs, Does, Runs};
 use cells::Stored;
 use evaluator::Evaluated;
@@ -218,6 +218,28 @@ fn decide_case(
     }
 }
 
+// The same, unless one of the patterns tried is struck out.
+fn try_case(
+    m: &[u8],
+    depth: u8,
+    p: usize,
+    work: &mut [u8],
+    here: Context,
+    x: Labelled,
+) -> TestedCase
+    requires { ⌜ Testable (now m) (now work) depth p × (byte (now m) p ≡ 0x23) ⌝ }
+    ensures { λ r. ⌜ Comes (now (m .entry)) (now (work .entry)) (now (work .exit)) here (caseAs (now (m .entry)) (depth - 1 - 1) r) (tryCase p (branchesOf (now (m .entry)) (depth - 1) p) x) × blockStands (now (m .entry)) (depth - 1 - 1) p r ⌝ }
+{
+    let value = x.value;
+    let from = wire::end_of(m, p + 3);
+    let end = wire::end_of(m, p);
+    let struck = patterns::struck_pattern(m, from, end, value, work);
+    match struck {
+        Choice::At(q) => TestedCase::Refused(Refusal::at(Reason::Malformed, q)),
+        Choice::Nothing => decide_case(m, depth, p, work, here, x),
+    }
+}
+
 // The test of the 23 at p, with `depth` levels left for it.
 pub fn test_case(
     m: &[u8],
@@ -235,6 +257,6 @@ pub fn test_case(
     let e = evaluate(m, depth - 1, p + 3, work, out, fill, scope);
     match e {
         Evaluated::Refused(refusal) => TestedCase::Refused(refusal),
-        Evaluated::Value(x) => decide_case(m, depth, p, work, here, x),
+        Evaluated::Value(x) => try_case(m, depth, p, work, here, x),
     }
 }

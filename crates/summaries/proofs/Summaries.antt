@@ -25,10 +25,13 @@ module _ {m w w′ : List ℕ} where
   lines-same : ((i : ℕ) → i < 16 → lineOf w′ i ≡ lineOf w i) → Summarized m w → Summarized m w′
   lines-same same s = record { each = λ i h. rw (same i h) (s .each i h) }
 
-  -- they stand before the index, and among the bytes of others
-  pub summarized-before : ((k : ℕ) → k < summaryAt 16 → byte w′ k ≡ byte w k) → Summarized m w → Summarized m w′
+  -- they stay where their bytes do: they stand before the index, and among the bytes of others
+  pub summarized-same : ((k : ℕ) → summaryAt 0 ≤ k → k < summaryAt 16 → byte w′ k ≡ byte w k) → Summarized m w → Summarized m w′
   unfolding lineOf
-  summarized-before same = lines-same (λ i h. same-run w′ w (summaryAt i) (summaryAt i) summarySize (λ j l. same (summaryAt i + j) (omega arith)))
+  summarized-same same = lines-same (λ i h. same-run w′ w (summaryAt i) (summaryAt i) summarySize (λ j l. same (summaryAt i + j) (omega arith) (omega arith)))
+
+  pub summarized-before : ((k : ℕ) → k < summaryAt 16 → byte w′ k ≡ byte w k) → Summarized m w → Summarized m w′
+  summarized-before same = summarized-same (λ k from to. same k to)
 
   pub summarized-still : restOf w′ ≡ restOf w → Summarized m w → Summarized m w′
   unfolding lineOf

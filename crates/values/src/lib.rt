@@ -3,7 +3,7 @@ ghost use mathlib.Core.Path.{_≡_};
 ghost use Prim.Native.Nat.{_≤_};
 ghost use Rattle.values.specs.Integers.{sameValue};
 ghost use Rattle.values.specs.Labelled.{under};
-ghost use Rattle.values.specs.Numbers.{numberOf};
+ghost use Rattle.values.specs.Numbers.{numberOf, partNumber};
 ghost use Rattle.values.specs.Refusals.{refusalAt};
 use labels::Labels;
 
@@ -39,7 +39,7 @@ impl Labelled {
     }
 }
 
-// The papers' reasons for refusing: document 01's, 1 to 23, in its order, then those of the text tools.
+// The papers' reasons for refusing: document 01's, 1 to 23, in its order, then those of the text tools and of the why tool.
 pub enum Reason {
     MemoryTooShort,
     ManifestLength,
@@ -67,6 +67,7 @@ pub enum Reason {
     OutsideNotation,
     PastLine255,
     Unprintable,
+    NoSuchAttribute,
 }
 
 // Why a compile refuses, and the place of the field concerned.
@@ -78,6 +79,22 @@ pub struct Refusal {
 // What a compile answers: the catalog's length and the steps taken, or the reason for refusing and its place.
 pub enum Answer {
     Catalog { length: u16, steps: u16 },
+    Refused { reason: Reason, place: u16 },
+}
+
+// The parts of an attribute's set, in the order in which a label is looked for in them.
+pub enum SetPart {
+    Title,
+    Path,
+    Trail,
+    Marks,
+    Value,
+}
+
+// Why a label counts for an attribute: the first part of its set that holds the label and the place of a constant with it, or that the set lacks it; or the reason for refusing and its place.
+pub enum Explanation {
+    Among { part: SetPart, place: u16 },
+    NotAmong,
     Refused { reason: Reason, place: u16 },
 }
 
@@ -159,5 +176,19 @@ pub fn number_of(reason: Reason) -> u8
         Reason::OutsideNotation => 24,
         Reason::PastLine255 => 25,
         Reason::Unprintable => 26,
+        Reason::NoSuchAttribute => 27,
+    }
+}
+
+// The number of a part, by its place in document 02's list.
+pub fn part_number(part: SetPart) -> u8
+    ensures { λ r. ⌜ r ≡ partNumber part ⌝ }
+{
+    match part {
+        SetPart::Title => 1,
+        SetPart::Path => 2,
+        SetPart::Trail => 3,
+        SetPart::Marks => 4,
+        SetPart::Value => 5,
     }
 }

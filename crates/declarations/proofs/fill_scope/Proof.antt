@@ -14,8 +14,8 @@ enum-known-t c = search needs
 enum-told : tie.Need-enum-told
 enum-told c = search needs
 
-store-parameters-requires : tie.Need-store-parameters-requires
-store-parameters-requires c κs = let pre = c .before .before .before .before .before .before .before .before .before .before .pre in ((pre .0 .1, (omega (arith, pre .1 .0 .0), pre .1 .0 .1)), pre .1 .1)
+assign-parameters-requires : tie.Need-assign-parameters-requires
+assign-parameters-requires c κs = let pre = c .before .before .before .before .before .before .before .before .before .before .pre in ((pre .0 .1, (omega (arith, pre .1 .0 .0), pre .1 .0 .1)), pre .1 .1)
 
 same-length : tie.Need-same-length
 same-length c = search needs
@@ -27,7 +27,7 @@ same-length-2 : tie.Need-same-length-2
 same-length-2 c = search needs
 
 returns-2 : tie.Need-returns-2
-returns-2 c = fill-stored (c .before .before .before .before .before .before .before .before .store-title .ensures) _ (c .before .before .before .before .enum-told .given .1) (c .before .before .store-parameters .ensures)
+returns-2 c = fill-stored (c .before .before .before .before .before .before .before .before .store-title .ensures) _ (c .before .before .before .before .enum-told .given .1) (c .before .before .assign-parameters .ensures)
 
 pub fill-scope-spec : {M : Type 1} → statement M
 fill-scope-spec =
@@ -36,7 +36,7 @@ fill-scope-spec =
     store-title-requires
     enum-known-t
     enum-told
-    store-parameters-requires
+    assign-parameters-requires
     same-length
     returns
     same-length-2

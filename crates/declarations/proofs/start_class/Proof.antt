@@ -30,8 +30,8 @@ end-of-parameters-requires c κs = let pre = c .before .before .before .before .
 add-number : tie.Need-add-number
 add-number c = let pre = c .before .before .before .before .before .before .before .before .before .before .before .before .before .pre in omega (arith, c .before .before .before .before .before .before .before .before .before .two-at .ensures, class-small (pre .0 .strings) (pre .1))
 
-store-parameters-requires : tie.Need-store-parameters-requires
-store-parameters-requires c κs =
+assign-parameters-requires : tie.Need-assign-parameters-requires
+assign-parameters-requires c κs =
     let pre = c .before .before .before .before .before .before .before .before .before .before .before .before .before .before .before .pre in
     let parts = class-parts (pre .0) (pre .1) (c .before .before .before .first-parameter .ensures) (c .before .before .end-of-parameters .ensures) in
     ((block-place (pre .0) parts, (omega (arith, pre .0 .memory), pre .0 .manifest)), (parts .laid .parameters, parts .laid .small))
@@ -49,7 +49,7 @@ returns : tie.Need-returns
 returns c =
     let pre = c .before .before .before .before .before .before .before .before .before .before .before .before .before .before .before .before .before .before .before .before .before .pre in
     let parts = class-parts (pre .0) (pre .1) (c .before .before .before .before .before .before .before .before .before .first-parameter .ensures) (c .before .before .before .before .before .before .before .before .end-of-parameters .ensures) in
-    class-stopped _ _ _ _ _ _ _ (c .before .before .before .before .before .before .before .before .before .before .before .before .before .before .before .before .before .two-at .ensures) (class-small (pre .0 .strings) (pre .1)) (c .before .before .before .before .before .before .before .before .before .before .before .before .before .before .parent-scope .ensures) (c .before .before .before .before .before .before .before .before .before .before .before .before .before .before .before .class-base .ensures) (c .before .before .before .before .before .before .before .before .before .before .before .before .declare-class .ensures) (c .before .before .before .before .before .before .before .before .before .first-parameter .ensures) parts (c .before .before .before .before .before .store-parameters .ensures) _ (c .before .r .given .1)
+    class-stopped _ _ _ _ _ _ _ (c .before .before .before .before .before .before .before .before .before .before .before .before .before .before .before .before .before .two-at .ensures) (class-small (pre .0 .strings) (pre .1)) (c .before .before .before .before .before .before .before .before .before .before .before .before .before .before .parent-scope .ensures) (c .before .before .before .before .before .before .before .before .before .before .before .before .before .before .before .class-base .ensures) (c .before .before .before .before .before .before .before .before .before .before .before .before .declare-class .ensures) (c .before .before .before .before .before .before .before .before .before .first-parameter .ensures) parts (c .before .before .before .before .before .assign-parameters .ensures) _ (c .before .r .given .1)
 
 same-length-2 : tie.Need-same-length-2
 same-length-2 c = search needs
@@ -58,7 +58,7 @@ returns-2 : tie.Need-returns-2
 returns-2 c =
     let pre = c .before .before .before .before .before .before .before .before .before .before .before .before .before .before .before .before .before .before .before .before .pre in
     let parts = class-parts (pre .0) (pre .1) (c .before .before .before .before .before .before .before .before .first-parameter .ensures) (c .before .before .before .before .before .before .before .end-of-parameters .ensures) in
-    class-started _ _ _ _ _ _ _ (c .before .before .before .before .before .before .before .before .before .before .before .before .before .before .before .before .two-at .ensures) (class-small (pre .0 .strings) (pre .1)) (c .before .before .before .before .before .before .before .before .before .before .before .before .before .parent-scope .ensures) (c .before .before .before .before .before .before .before .before .before .before .before .before .before .before .class-base .ensures) (c .before .before .before .before .before .before .before .before .before .before .before .declare-class .ensures) (c .before .before .before .before .before .before .before .before .first-parameter .ensures) parts (c .before .before .before .before .store-parameters .ensures) (c .enum-told .given .1)
+    class-started _ _ _ _ _ _ _ (c .before .before .before .before .before .before .before .before .before .before .before .before .before .before .before .before .two-at .ensures) (class-small (pre .0 .strings) (pre .1)) (c .before .before .before .before .before .before .before .before .before .before .before .before .before .parent-scope .ensures) (c .before .before .before .before .before .before .before .before .before .before .before .before .before .before .class-base .ensures) (c .before .before .before .before .before .before .before .before .before .before .before .declare-class .ensures) (c .before .before .before .before .before .before .before .before .first-parameter .ensures) parts (c .before .before .before .before .assign-parameters .ensures) (c .enum-told .given .1)
 
 pub start-class-spec : {M : Type 1} → statement M
 start-class-spec =
@@ -72,7 +72,7 @@ start-class-spec =
     first-parameter-requires
     end-of-parameters-requires
     add-number
-    store-parameters-requires
+    assign-parameters-requires
     enum-known-r
     enum-told
     same-length

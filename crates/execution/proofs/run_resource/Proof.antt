@@ -1,14 +1,17 @@
--- `run_resource`: what `add_resource` answers, in the room that is left; and the new entry goes into the index.
+-- `run_resource`: what is asked about is noted; then what `add_resource` answers, in the room that is left; and the new entry goes into the index.
 use borrow.Author.Needs.{needs}
 use Rattle.execution.proofs.run_resource.Statement.{statement}
 use Rattle.execution.proofs.run_resource.Tie as tie
-use Rattle.execution.proofs.Statements.{sized, room-within, resource-refused, resource-within, resource-done}
+use Rattle.execution.proofs.Statements.{sized, room-within, able-noted, resource-refused, resource-within, resource-done}
 use Rattle.execution.proofs.Names.{name-small}
 use Rattle.rules.specs.Format.{formOf, formIn, forms}
 use mathlib.Core.Path.{refl, ap}
 use native.Mathlib.Omega.{arith}
 use lib.ListN.{length}
 use Prim.Native.Nat.{ℕ, _-_}
+
+note-resource-requires : tie.Need-note-resource-requires
+note-resource-requires c κs = sized (c .before .before .before .before .before .pre .0 .0) (c .before .before .before .before .before .pre .0 .1 .0)
 
 add-two-at : tie.Need-add-two-at
 add-two-at c = search needs
@@ -18,9 +21,7 @@ two-at-requires c κs = search needs
 
 built-in-requires : tie.Need-built-in-requires
 unfolding formOf formIn forms
-built-in-requires c κs =
-    let s = c .before .before .before .before .before in
-    (s .pre .0 .0 .set .memory, let small = name-small (s .pre .0 .1 .0 .stands) (s .pre .1) refl (s .pre .0 .0 .set .strings) (s .pre .0 .1 .1) in omega (arith, c .two-at .ensures))
+built-in-requires c κs = (omega (arith, c .before .before .before .before .before .before .before .before .before .before .pre .0 .0 .set .memory, (c .before .before .before .before .note-resource .kept .1 .1 .1 .0)), let small = name-small (c .before .before .before .before .before .before .before .before .before .before .pre .0 .1 .0 .stands) (c .before .before .before .before .before .before .before .before .before .before .pre .1) refl (c .before .before .before .before .before .before .before .before .before .before .pre .0 .0 .set .strings) (c .before .before .before .before .before .before .before .before .before .before .pre .0 .1 .1) in omega (arith, c .two-at .ensures))
 
 room-in-requires : tie.Need-room-in-requires
 room-in-requires c κs = search needs
@@ -29,9 +30,7 @@ sub-room : tie.Need-sub-room
 sub-room c = search needs
 
 add-resource-requires : tie.Need-add-resource-requires
-add-resource-requires c κs =
-    let s = c .before .before .before .before .before .before .before .before .before in
-    (sized (s .pre .0 .0) (s .pre .0 .1 .0), (omega (arith, c .before .before .room-in .ensures, room-within (length (s .args .out .now)) .1), omega (arith, c .before .before .room-in .ensures, room-within (length (s .args .out .now)) .0)))
+add-resource-requires c κs = (sized (able-noted (c .before .before .before .before .before .before .before .before .note-resource .ensures) (c .before .before .before .before .before .before .before .before .note-resource .kept .1 .1 .1 .0) (c .before .before .before .before .before .before .before .before .before .before .before .before .before .before .pre .0 .0)) (c .before .before .before .before .before .before .before .before .before .before .before .before .before .before .pre .0 .1 .0), (omega (arith, c .before .before .room-in .ensures, room-within (length (c .before .before .before .before .before .before .before .before .before .before .before .before .before .before .args .out .now)) .1), omega (arith, c .before .before .room-in .ensures, room-within (length (c .before .before .before .before .before .before .before .before .before .before .before .before .before .before .args .out .now)) .0)))
 
 enum-known-r : tie.Need-enum-known-r
 enum-known-r c = search needs
@@ -46,17 +45,10 @@ same-length-2 : tie.Need-same-length-2
 same-length-2 c = search needs
 
 returns : tie.Need-returns
-returns c = λ n levels.
-    let b = c .before .before .before .before in
-    let s = b .before .before .before .before .before .before .before .before .before .before in
-    resource-refused (s .pre .0 .0) (s .pre .0 .1 .0) (s .pre .1) (b .before .before .before .before .before .two-at .ensures) (b .before .before .before .before .built-in .ensures) (ap (λ (r : ℕ). r - s .args .fill) (b .before .before .before .room-in .ensures)) (b .add-resource .ensures) n levels (c .enum-told .given .1)
+returns c = λ n levels. resource-refused (c .before .before .before .before .before .before .before .before .before .before .before .before .before .before .before .before .before .before .before .pre .0 .0) (c .before .before .before .before .before .before .before .before .before .before .before .before .before .before .before .before .before .before .before .pre .0 .1 .0) (c .before .before .before .before .before .before .before .before .before .before .before .before .before .before .before .before .before .before .before .pre .1) (c .before .before .before .before .before .before .before .before .before .before .before .before .before .note-resource .ensures) (c .before .before .before .before .before .before .before .before .before .before .before .before .before .note-resource .kept .1 .1 .1 .0) (c .before .before .before .before .before .before .before .before .before .two-at .ensures) (c .before .before .before .before .before .before .before .before .built-in .ensures) (ap (λ (r : ℕ). r - c .before .before .before .before .before .before .before .before .before .before .before .before .before .before .before .before .before .before .before .args .fill) (c .before .before .before .before .before .before .before .room-in .ensures)) (c .before .before .before .before .add-resource .ensures) n levels (c .enum-told .given .1)
 
 index-entry-requires : tie.Need-index-entry-requires
-index-entry-requires c κs =
-    let b = c .before .before .before .before .before .before .before in
-    let s = b .before .before .before .before .before .before .before .before .before .before in
-    let within = resource-within (s .pre .0 .0) (s .pre .0 .1 .0) (s .pre .1) (b .before .before .before .before .before .two-at .ensures) (b .before .before .before .before .built-in .ensures) (ap (λ (r : ℕ). r - s .args .fill) (b .before .before .before .room-in .ensures)) (b .add-resource .ensures) 0 0 (c .before .before .before .r .given .1) in
-    (s .pre .0 .0 .set .memory, (within .0, (within .1, sized (s .pre .0 .0) (s .pre .0 .1 .0) .short)))
+index-entry-requires c κs = let within = resource-within (c .before .before .before .before .before .before .before .before .before .before .before .before .before .before .before .before .before .before .before .before .before .before .pre .0 .0) (c .before .before .before .before .before .before .before .before .before .before .before .before .before .before .before .before .before .before .before .before .before .before .pre .0 .1 .0) (c .before .before .before .before .before .before .before .before .before .before .before .before .before .before .before .before .before .before .before .before .before .before .pre .1) (c .before .before .before .before .before .before .before .before .before .before .before .before .before .before .before .before .note-resource .ensures) (c .before .before .before .before .before .before .before .before .before .before .before .before .before .before .before .before .note-resource .kept .1 .1 .1 .0) (c .before .before .before .before .before .before .before .before .before .before .before .before .two-at .ensures) (c .before .before .before .before .before .before .before .before .before .before .before .built-in .ensures) (ap (λ (r : ℕ). r - c .before .before .before .before .before .before .before .before .before .before .before .before .before .before .before .before .before .before .before .before .before .before .args .fill) (c .before .before .before .before .before .before .before .before .before .before .room-in .ensures)) (c .before .before .before .before .before .before .before .add-resource .ensures) 0 0 (c .before .before .before .r .given .1) in (omega (arith, c .before .before .before .before .before .before .before .before .before .before .before .before .before .before .before .before .before .before .before .before .before .before .pre .0 .0 .set .memory, (c .before .before .before .before .before .before .before .before .before .before .before .before .before .before .before .before .note-resource .kept .1 .1 .1 .0)), (within .0, (within .1, sized (c .before .before .before .before .before .before .before .before .before .before .before .before .before .before .before .before .before .before .before .before .before .before .pre .0 .0) (c .before .before .before .before .before .before .before .before .before .before .before .before .before .before .before .before .before .before .before .before .before .before .pre .0 .1 .0) .short)))
 
 same-length-3 : tie.Need-same-length-3
 same-length-3 c = search needs
@@ -65,15 +57,13 @@ same-length-4 : tie.Need-same-length-4
 same-length-4 c = search needs
 
 returns-2 : tie.Need-returns-2
-returns-2 c = λ n levels.
-    let b = c .before .before .before .before .before .before .before .before .before .before in
-    let s = b .before .before .before .before .before .before .before .before .before .before in
-    resource-done (s .pre .0 .0) (s .pre .0 .1 .0) (s .pre .1) (b .before .before .before .before .before .two-at .ensures) (b .before .before .before .before .built-in .ensures) (ap (λ (r : ℕ). r - s .args .fill) (b .before .before .before .room-in .ensures)) (b .add-resource .ensures) n levels (c .before .before .before .before .before .before .r .given .1) (c .before .before .index-entry .ensures)
+returns-2 c = λ n levels. resource-done (c .before .before .before .before .before .before .before .before .before .before .before .before .before .before .before .before .before .before .before .before .before .before .before .before .before .pre .0 .0) (c .before .before .before .before .before .before .before .before .before .before .before .before .before .before .before .before .before .before .before .before .before .before .before .before .before .pre .0 .1 .0) (c .before .before .before .before .before .before .before .before .before .before .before .before .before .before .before .before .before .before .before .before .before .before .before .before .before .pre .1) (c .before .before .before .before .before .before .before .before .before .before .before .before .before .before .before .before .before .before .before .note-resource .ensures) (c .before .before .before .before .before .before .before .before .before .before .before .before .before .before .before .before .before .before .before .note-resource .kept .1 .1 .1 .0) (c .before .before .before .before .before .before .before .before .before .before .before .before .before .before .before .two-at .ensures) (c .before .before .before .before .before .before .before .before .before .before .before .before .before .before .built-in .ensures) (ap (λ (r : ℕ). r - c .before .before .before .before .before .before .before .before .before .before .before .before .before .before .before .before .before .before .before .before .before .before .before .before .before .args .fill) (c .before .before .before .before .before .before .before .before .before .before .before .before .before .room-in .ensures)) (c .before .before .before .before .before .before .before .before .before .before .add-resource .ensures) n levels (c .before .before .before .before .before .before .r .given .1) (c .before .before .index-entry .ensures)
 
 pub run-resource-spec : {M : Type 1} → statement M
 run-resource-spec =
     tie.close
     (tie.spec
+    note-resource-requires
     add-two-at
     two-at-requires
     built-in-requires

@@ -20,8 +20,8 @@ enum-known-e c = search needs
 enum-known-e-2 : tie.Need-enum-known-e-2
 enum-known-e-2 c = search needs
 
-decide-case-requires : tie.Need-decide-case-requires
-decide-case-requires c κs = search needs
+try-case-requires : tie.Need-try-case-requires
+try-case-requires c κs = search needs
 
 same-length : tie.Need-same-length
 same-length c = search needs
@@ -33,7 +33,7 @@ same-length-2 : tie.Need-same-length-2
 same-length-2 c = search needs
 
 returns-2 : tie.Need-returns-2
-returns-2 c = test-decided _ (c .before .before .before .before .before .before .before .before .before .before .before .before .before .pre .0 .1 .stands) (c .before .before .before .before .before .before .before .before .before .before .before .before .before .pre .1) _ (c .before .before .before .before .before .before .before .evaluate .ensures) _ _ (c .before .before .before .before .before .e2 .given .1) (c .before .before .decide-case .ensures)
+returns-2 c = test-decided _ (c .before .before .before .before .before .before .before .before .before .before .before .before .before .pre .0 .1 .stands) (c .before .before .before .before .before .before .before .before .before .before .before .before .before .pre .1) _ (c .before .before .before .before .before .before .before .evaluate .ensures) _ _ (c .before .before .before .before .before .e2 .given .1) (c .before .before .try-case .ensures)
 
 pub test-case-spec : {M : Type 1} → statement M
 test-case-spec =
@@ -44,7 +44,7 @@ test-case-spec =
     evaluate-requires
     enum-known-e
     enum-known-e-2
-    decide-case-requires
+    try-case-requires
     same-length
     returns
     same-length-2

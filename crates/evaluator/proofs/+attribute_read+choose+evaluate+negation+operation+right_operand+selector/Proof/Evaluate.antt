@@ -15,11 +15,11 @@ returns t c = no-level _ _ _ _ _ _ _ (c .before .if1 .taken)
 pub sub-below : (t : ℕ) → evaluate-lts.Need-sub-below (evaluate-calls t) (evaluate-at t) evaluate.Post
 sub-below t c = omega (arith, c .if1 .left)
 
-pub constant-at-requires : (t : ℕ) → evaluate-lts.Need-constant-at-requires (evaluate-calls t) (evaluate-at t) evaluate.Post
-constant-at-requires t c κs = omega (arith, c .before .before .before .before .before .before .pre .1 .place)
+pub constant-requires : (t : ℕ) → evaluate-lts.Need-constant-requires (evaluate-calls t) (evaluate-at t) evaluate.Post
+constant-requires t c κs = (c .before .before .before .before .before .before .pre .1 .memory, c .before .before .before .before .before .before .pre .1 .place)
 
 pub returns-2 : (t : ℕ) → evaluate-lts.Need-returns-2 (evaluate-calls t) (evaluate-at t) evaluate.Post
-returns-2 t c = says-constant _ _ _ _ _ _ _ (c .before .before .byte-at .ensures) (c .before .if2 .taken) (c .constant-at .ensures)
+returns-2 t c = says-constant _ _ _ _ _ _ _ (c .before .before .byte-at .ensures) (c .before .if2 .taken) (c .constant .ensures)
 
 pub variable-read-requires : (t : ℕ) → evaluate-lts.Need-variable-read-requires (evaluate-calls t) (evaluate-at t) evaluate.Post
 variable-read-requires t c κs = (c .before .before .before .before .before .before .before .pre .1 .memory, c .before .before .before .before .before .before .before .pre .1 .place)

@@ -27,13 +27,14 @@ use Rattle.evaluator.proofs.+attribute_read+choose+evaluate+negation+op
 use Rattle.evaluator.proofs.attribute_of.Reads as attribute-of-reads
 use Rattle.evaluator.proofs.begin.Reads as begin-reads
 use Rattle.evaluator.proofs.combine.Reads as combine-reads
-use Rattle.evaluator.proofs.constant_at.Reads as constant-at-reads
+use Rattle.evaluator.proofs.constant.Reads as constant-reads
 use Rattle.evaluator.proofs.joined.Reads as joined-reads
 use Rattle.evaluator.proofs.negated.Reads as negated-reads
 use Rattle.values.proofs.place.Reads as place-reads
 use Rattle.evaluator.proofs.plain_value.Reads as plain-value-reads
 use Rattle.values.proofs.Refusal.at.Reads as at-reads
 use Rattle.evaluator.proofs.variable_read.Reads as variable-read-reads
+use Rattle.patterns.proofs.struck_pattern.Reads as struck-pattern-reads
 use Rattle.patterns.proofs.try_patterns.Reads as try-patterns-reads
 use Rattle.wire.proofs.byte_at.Reads as byte-at-reads
 use Rattle.wire.proofs.end_of.Reads as end-of-reads
@@ -107,11 +108,11 @@ attribute-read-calls t = (place-reads.Asked, place-reads.Learnt, evaluate-below 
 
 -- what choose knows of its callees
 abbrev pub choose-calls : ℕ → choose-lts.Claims
-choose-calls t = (try-patterns-reads.Asked, try-patterns-reads.Learnt, at-reads.Asked, at-reads.Learnt, place-reads.Asked, place-reads.Learnt, evaluate-below t, evaluate.Post, joined-reads.Asked, joined-reads.Learnt)
+choose-calls t = (struck-pattern-reads.Asked, struck-pattern-reads.Learnt, at-reads.Asked, at-reads.Learnt, try-patterns-reads.Asked, try-patterns-reads.Learnt, place-reads.Asked, place-reads.Learnt, evaluate-below t, evaluate.Post, joined-reads.Asked, joined-reads.Learnt)
 
 -- what evaluate knows of its callees
 abbrev pub evaluate-calls : ℕ → evaluate-lts.Claims
-evaluate-calls t = (at-reads.Asked, at-reads.Learnt, byte-at-reads.Asked, byte-at-reads.Learnt, constant-at-reads.Asked, constant-at-reads.Learnt, variable-read-reads.Asked, variable-read-reads.Learnt, operation-below t, operation.Post, negation-below t, negation.Post, attribute-read-below t, attribute-read.Post, selector-below t, selector.Post)
+evaluate-calls t = (at-reads.Asked, at-reads.Learnt, byte-at-reads.Asked, byte-at-reads.Learnt, constant-reads.Asked, constant-reads.Learnt, variable-read-reads.Asked, variable-read-reads.Learnt, operation-below t, operation.Post, negation-below t, negation.Post, attribute-read-below t, attribute-read.Post, selector-below t, selector.Post)
 
 -- what negation knows of its callees
 abbrev pub negation-calls : ℕ → negation-lts.Claims
