@@ -151,24 +151,26 @@ texts-count m (p ∷ ps) = ap suc (texts-count m ps)
 
 -- ---- prepare
 
-found-back : (o : Option ℕ) {n : ℕ} → foundOf o ≡ At n → o ≡ some n
+pub found-back : (o : Option ℕ) {n : ℕ} → foundOf o ≡ At n → o ≡ some n
 unfolding foundOf
 found-back none e = let z : _≡_ {A = ℕ} 0 1 = cc in absurd (omega arith)
 found-back (some i) e = cc
 
-found-nothing : (o : Option ℕ) → foundOf o ≡ Nothing → o ≡ none
+pub found-nothing : (o : Option ℕ) → foundOf o ≡ Nothing → o ≡ none
 unfolding foundOf
 found-nothing none e = refl
 found-nothing (some i) e = let z : _≡_ {A = ℕ} 0 1 = cc in absurd (omega arith)
 
--- the title's number, as it was looked up
-module _ (m : List ℕ) {r : Found} (told : r ≡ foundOf (stringNumber titleText (stringTexts m) 0)) where
-  pub title-below : {n : ℕ} → length (stringPlaces m) ≤ 1024 → r ≡ At n → n < 1024
-  unfolding stringTexts
-  title-below {n} few h =
-      let below = number-below titleText (stringTexts m) 0 n (found-back _ (sym told ∙ h)) in
-      let count = texts-count m (stringPlaces m) in
-      omega arith
+-- the number of a string, as it was looked up
+pub found-below : (m bytes : List ℕ) {n : ℕ} → stringNumber bytes (stringTexts m) 0 ≡ some n → length (stringPlaces m) ≤ 1024 → n < 1024
+unfolding stringTexts
+found-below m bytes {n} is few =
+    let below = number-below bytes (stringTexts m) 0 n is in
+    let count = texts-count m (stringPlaces m) in
+    omega arith
+
+pub title-below : (m : List ℕ) {r : Found} → r ≡ foundOf (stringNumber titleText (stringTexts m) 0) → {n : ℕ} → length (stringPlaces m) ≤ 1024 → r ≡ At n → n < 1024
+title-below m told few h = found-below m titleText (found-back _ (sym told ∙ h)) few
 
 module _ (m w₀ w : List ℕ) (sound : check m ≡ Sound) (first : Begun w₀) (marked : Becomes w₀ w (λ st. st) (markStrings m 0 (stringPlaces m))) where
   -- the names after the marks

@@ -1,12 +1,14 @@
-// The compiler and the text tools for programs in C and Rust: a call each, whose answer is one word.
+// The compiler, the text tools and the why tool for programs in C and Rust: a call each, whose answer is one word.
 ghost use mathlib.Core.Path.{_≡_};
 ghost use Prim.Native.Nat.{_+_, _*_};
 ghost use lib.ListN.{length};
 ghost use Rattle.values.specs.Numbers.{numberOf, said};
 ghost use Rattle.notation.specs.Convert.{convert, said as saidOfText};
 ghost use Rattle.notation.specs.Printer.{print};
-ghost use Rattle.library.specs.Called.{wordOf, Calls, textWord, Tells};
+ghost use Rattle.rules.specs.Why.{why};
+ghost use Rattle.library.specs.Called.{wordOf, Calls, textWord, Tells, explanationWord, Answers};
 use values::Answer;
+use values::Explanation;
 use values::Reason;
 
 // A refusal in one word.
@@ -71,4 +73,37 @@ pub extern "C" fn rigbanut_print(manifest: &[u8], out: &mut [u8], work: &mut [u8
 {
     let answer = printer::print(manifest, out, work);
     text_word(answer)
+}
+
+// ---- The why tool
+
+// An explanation in one word.
+fn explanation_word(explanation: Explanation) -> u64
+    ensures { λ r. ⌜ r ≡ explanationWord explanation ⌝ }
+{
+    match explanation {
+        Explanation::Among { part, place } => {
+            values::part_number(part) as u64 * 65536 + place as u64
+        }
+        Explanation::NotAmong => 0,
+        Explanation::Refused { reason, place } => refusal_word(reason, place),
+    }
+}
+
+// Why a label counts for an attribute of the device's catalog: the part's number * 65,536 + the place, or 0 where the label is not among them; or as above
+// number * 2^32 + place. The memory is zero after the call.
+#[no_mangle]
+pub extern "C" fn rigbanut_why(
+    manifest: &[u8],
+    device: &[u8],
+    kind: &[u8],
+    title: &[u8],
+    attribute: &[u8],
+    label: u8,
+    work: &mut [u8],
+) -> u64
+    ensures { λ r. ⌜ Answers (why (now (manifest .entry)) (now (device .entry)) (now (kind .entry)) (now (title .entry)) (now (attribute .entry)) label (length (now (work .entry)))) (now (work .exit)) r ⌝ }
+{
+    let explanation = explanation::explain(manifest, device, kind, title, attribute, label, work);
+    explanation_word(explanation)
 }

@@ -1,0 +1,4 @@
+pub mod Preparing
+pub mod Noted
+pub mod Searching
+pub mod Whole
