@@ -1,4 +1,4 @@
-// A program's standard input, read as a line and what follows it, and its standard output, with a count of what was written.
+// A program's standard input, read as a line and what follows it or as a whole, and its standard output, with a count of what was written.
 ghost use mathlib.Core.Path.{_≡_};
 ghost use mathlib.Core.Bool.{true};
 ghost use mathlib.Core.List.{List};
@@ -78,6 +78,31 @@ pub fn read_all(line: &mut [u8], rest: &mut [u8]) -> Taken
         left -= 1;
     }
     too_many_pieces()
+}
+
+// How reading an input as a whole ended: with so many bytes, with as many as the buffer holds or more, or not at all.
+pub enum Whole {
+    Bytes(usize),
+    TooLong,
+    Failed,
+}
+
+// Reads all of standard input into the buffer, if it is shorter than that.
+pub fn read_whole(buffer: &mut [u8]) -> Whole {
+    let mut kept: usize = 0;
+    while kept < buffer.len() {
+        let got = libc::read(STDIN_FILENO, &mut buffer[kept..]);
+        if got < 0 {
+            os::fail(b"standard input");
+            return Whole::Failed;
+        }
+        let more = io::count(got, &buffer[kept..]);
+        if more == 0 {
+            return Whole::Bytes(kept);
+        }
+        kept += more;
+    }
+    Whole::TooLong
 }
 
 // ---- Writing
