@@ -5,8 +5,9 @@
 //! ```
 //!
 //! with `#[path = ".../bindings/rigbanut.rs"] mod rigbanut;` in `main.rs`. `bindings/run` builds the library and an
-//! example. A [`Compiler`] has its own memory and compiles, converts texts to manifests and prints manifests as text
-//! (docs/NOTATION.md); [`compile_into`], [`convert_into`] and [`print_into`] are the plain calls, on memory of the caller's.
+//! example. A [`Compiler`] has its own memory and compiles, converts texts to manifests, prints manifests as text
+//! (docs/NOTATION.md) and tells why a label counts for a value; [`compile_into`], [`convert_into`], [`print_into`] and
+//! [`why_with`] are the plain calls, on memory of the caller's.
 
 #![allow(dead_code)] // A program that includes this file need not use all of it.
 
@@ -40,6 +41,43 @@ pub enum Written {
         length: u32,
     },
     Refused(Refusal),
+}
+
+/// What is asked of [`Compiler::why`]: why the label counts for this attribute of the resource of this type, such as
+/// `b"kiosk"`, and title.
+#[derive(Clone, Copy, Debug, PartialEq, Eq)]
+pub struct Question<'q> {
+    pub kind: &'q [u8],
+    pub title: &'q [u8],
+    pub attribute: &'q [u8],
+    pub label: u8,
+}
+
+/// What it answers.
+#[derive(Clone, Copy, Debug, PartialEq, Eq)]
+pub enum Why {
+    /// The label is among those that decide the value: the first part of the value's set that holds it, and the offset
+    /// in the manifest of the first constant with this label that the compile evaluated, tried as a pattern or assigned
+    /// to a parameter as its default. It need not be the one through which the label came into this set.
+    Among {
+        part: Part,
+        place: u16,
+    },
+    NotAmong,
+}
+
+/// The parts of a value's set, in the order in which a label is looked for.
+#[derive(Clone, Copy, Debug, PartialEq, Eq)]
+pub enum Part {
+    /// The set of the title expression.
+    Title = 1,
+    Path = 2,
+    /// The trail as it is when the resource is added.
+    Trail = 3,
+    /// The marks that the attribute's own expression read.
+    Marks = 4,
+    /// The rest.
+    Value = 5,
 }
 
 /// The first reason met, by its number, and the offset of the field concerned in the manifest, or of the token concerned
@@ -94,6 +132,12 @@ impl Compiler {
         self.written(written)
     }
 
+    /// Tells why a label counts for a value of the device's catalog. A refusal is that of a compile with 65,535 steps
+    /// or, if there is none, 27 at 0, when the catalog has no such attribute.
+    pub fn why(&mut self, manifest: &[u8], device: &[u8], question: Question<'_>) -> Result<Why, Refusal> {
+        why_with(manifest, device, question, &mut self.work)
+    }
+
     fn written(&self, written: Written) -> Result<&[u8], Refusal> {
         match written {
             Written::Bytes { length } => Ok(&self.out[..length as usize]),
@@ -109,7 +153,8 @@ impl Default for Compiler {
 }
 
 /// Compiles into lent memory. Afterwards `out` holds the catalog and then zeros, or zeros alone after a refusal, and
-/// `work` is zero throughout. The deepest manifests take 1 MiB of stack; a Rust thread has 2 MiB unless told otherwise.
+/// `work` is zero throughout. The deepest manifests known take 1.1 MiB of stack; a Rust thread has 2 MiB unless told
+/// otherwise.
 pub fn compile_into(manifest: &[u8], device: &[u8], limit: u16, out: &mut [u8], work: &mut [u8]) -> Answer {
     // SAFETY: a Rust slice is what the function asks for. Its pointer is never null and is good for its length, and
     // the two that are lent exclusively overlap nothing. The function is proved to stay within all four.
@@ -161,6 +206,34 @@ pub fn print_into(manifest: &[u8], out: &mut [u8], work: &mut [u8]) -> Written {
     })
 }
 
+/// Tells why a label counts for a value, with lent memory. Afterwards `work` is zero throughout. A call takes the time
+/// of 17 compiles at most, and 64 KiB of stack besides a compile's, for the catalog.
+pub fn why_with(
+    manifest: &[u8],
+    device: &[u8],
+    question: Question<'_>,
+    work: &mut [u8],
+) -> Result<Why, Refusal> {
+    // SAFETY: as for a compile; the one that is lent exclusively overlaps nothing.
+    Why::from_number(unsafe {
+        rigbanut_why(
+            manifest.as_ptr(),
+            manifest.len(),
+            device.as_ptr(),
+            device.len(),
+            question.kind.as_ptr(),
+            question.kind.len(),
+            question.title.as_ptr(),
+            question.title.len(),
+            question.attribute.as_ptr(),
+            question.attribute.len(),
+            question.label,
+            work.as_mut_ptr(),
+            work.len(),
+        )
+    })
+}
+
 extern "C" {
     fn rigbanut_compile(
         manifest: *const u8,
@@ -186,6 +259,21 @@ extern "C" {
         manifest_length: usize,
         out: *mut u8,
         out_length: usize,
+        work: *mut u8,
+        work_length: usize,
+    ) -> u64;
+    fn rigbanut_why(
+        manifest: *const u8,
+        manifest_length: usize,
+        device: *const u8,
+        device_length: usize,
+        kind: *const u8,
+        kind_length: usize,
+        title: *const u8,
+        title_length: usize,
+        attribute: *const u8,
+        attribute_length: usize,
+        label: u8,
         work: *mut u8,
         work_length: usize,
     ) -> u64;
@@ -216,6 +304,56 @@ impl Written {
     }
 }
 
+impl Why {
+    /// Among them: part * 65536 + place. Not among them: 0. Refused: number * 2^32 + place.
+    fn from_number(answer: u64) -> Result<Why, Refusal> {
+        if let Some(refusal) = Refusal::from_number(answer) {
+            return Err(refusal);
+        }
+        let part = match answer >> 16 {
+            0 => return Ok(Why::NotAmong),
+            1 => Part::Title,
+            2 => Part::Path,
+            3 => Part::Trail,
+            4 => Part::Marks,
+            _ => Part::Value,
+        };
+        Ok(Why::Among {
+            part,
+            place: answer as u16,
+        })
+    }
+}
+
+impl Part {
+    /// 1 to 5, in the order of the parts.
+    pub fn number(self) -> u8 {
+        self as u8
+    }
+
+    /// What the part says of the label, in words.
+    pub fn words(self) -> &'static str {
+        match self {
+            Part::Title => {
+                "the resource's title is worked out from it, or from a variable or attribute that it decides"
+            }
+            Part::Path => "a condition around the resource, or around a declaration that leads to it, depends on it",
+            Part::Trail => "a condition tested before the resource was added depends on it, and one of its branches, taken or not, declares a class or a type",
+            Part::Marks => "a condition depends on it, and one of its branches, taken or not, assigns a variable that the value reads",
+            Part::Value => "the value is worked out from it, or from a variable or attribute that it decides",
+        }
+    }
+}
+
+impl fmt::Display for Why {
+    fn fmt(&self, out: &mut fmt::Formatter<'_>) -> fmt::Result {
+        match self {
+            Why::Among { part, place } => write!(out, "part {} at {place}: {}", part.number(), part.words()),
+            Why::NotAmong => write!(out, "not among them"),
+        }
+    }
+}
+
 impl Refusal {
     fn from_number(answer: u64) -> Option<Refusal> {
         (answer >> 32 != 0).then(|| Refusal {
@@ -224,7 +362,8 @@ impl Refusal {
         })
     }
 
-    /// The reason in words. 24 to 26 are those of the text notation, which a compile never gives.
+    /// The reason in words. 24 to 26 are those of the text notation, which a compile never gives; 27 is given by the
+    /// why call alone.
     pub fn reason(&self) -> &'static str {
         match self.number {
             1 => "the working memory is shorter than 65,536 bytes",
@@ -253,6 +392,7 @@ impl Refusal {
             24 => "the text is outside the notation or a limit, or text or manifest is over 65,535 bytes or the output",
             25 => "a constant stands past line 255",
             26 => "a label falls, a name or type cannot be spelled, or the text is over 65,535 bytes or the output",
+            27 => "the catalog has no such attribute",
             _ => "not a refusal's number",
         }
     }

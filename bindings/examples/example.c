@@ -1,5 +1,6 @@
-/* Compiles the scope paper's schedule manifest for the device "desk", with steps enough and with one too few. Then
- * converts a text, compiles its manifest, prints that as text again, and converts a text that is outside the notation. */
+/* Compiles the scope paper's schedule manifest for the device "desk", with steps enough and with one too few, and asks
+ * why labels count for the kiosk's price. Then converts a text, compiles its manifest, prints that as text again, and
+ * converts a text that is outside the notation. */
 #include "../rigbanut.h"
 
 #include <stdio.h>
@@ -56,6 +57,43 @@ static void compile(const uint8_t *bytes, size_t length, uint16_t limit)
     printf("\n");
 }
 
+static const uint8_t kind[] = {'k', 'i', 'o', 's', 'k'};
+static const uint8_t title[] = {'f', 'r', 'o', 'n', 't'};
+
+static void why(const char *attribute, uint8_t label)
+{
+    uint64_t answer = rigbanut_why(
+        manifest, sizeof manifest, device, sizeof device, kind, sizeof kind, title, sizeof title,
+        (const uint8_t *)attribute, strlen(attribute), label, work, sizeof work);
+    if (!rigbanut_is_accepted(answer)) {
+        say_refusal(answer);
+        return;
+    }
+    if (!rigbanut_is_among(answer)) {
+        printf("label %u: not among them\n", (unsigned)label);
+        return;
+    }
+    unsigned part = rigbanut_part(answer);
+    printf("label %u: part %u at %u: %s\n", (unsigned)label, part, (unsigned)rigbanut_place(answer),
+           rigbanut_part_words(part));
+}
+
+/* Labels 1, 2 and 4 decide the price. The places are the offsets of their constants in the manifest. */
+static void why_all(void)
+{
+    /* fee = 40, at 55: the price reads this fee. */
+    why("price", 1);
+    /* peak = false, at 72. The kiosk stands behind the `if`, not in it, so 2 is not in the path. But a branch of the
+     * `if` assigns fee, though it is not taken: so 2 is in the mark of fee in the node's scope, and reading fee tries
+     * that scope before the top, where fee has its value. */
+    why("price", 2);
+    /* fee = 55 is never evaluated. */
+    why("price", 3);
+    /* The title "front", at 122. A resource's labels are among those of each of its attributes. */
+    why("price", 4);
+    why("colour", 4);
+}
+
 static const char text[] =
     "$fee = 40\n"
     "$peak = false\n"
@@ -93,6 +131,7 @@ int main(void)
     static uint8_t converted[RIGBANUT_LONGEST_MANIFEST];
     compile(manifest, sizeof manifest, 4);
     compile(manifest, sizeof manifest, 3);
+    why_all();
     size_t length = convert(text, converted);
     compile(converted, length, 4);
     print(converted, length);

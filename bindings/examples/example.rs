@@ -1,10 +1,11 @@
-//! Compiles the scope paper's schedule manifest for the device "desk", with steps enough and with one too few. Then
-//! converts a text, compiles its manifest, prints that as text again, and converts a text that is outside the notation.
+//! Compiles the scope paper's schedule manifest for the device "desk", with steps enough and with one too few, and asks
+//! why labels count for the kiosk's price. Then converts a text, compiles its manifest, prints that as text again, and
+//! converts a text that is outside the notation.
 
 #[path = "../rigbanut.rs"]
 mod rigbanut;
 
-use rigbanut::{Compiler, Outcome, Refusal};
+use rigbanut::{Compiler, Outcome, Question, Refusal};
 
 /// A field: its tag, the length of its body, the body.
 fn field(tag: u8, parts: &[&[u8]]) -> Vec<u8> {
@@ -61,6 +62,34 @@ fn compile(compiler: &mut Compiler, manifest: &[u8], limit: u16) {
     }
 }
 
+fn why(compiler: &mut Compiler, manifest: &[u8], attribute: &str, label: u8) {
+    let question = Question {
+        kind: b"kiosk",
+        title: b"front",
+        attribute: attribute.as_bytes(),
+        label,
+    };
+    match compiler.why(manifest, b"desk", question) {
+        Err(refusal) => println!("{refusal}"),
+        Ok(why) => println!("label {label}: {why}"),
+    }
+}
+
+/// Labels 1, 2 and 4 decide the price. The places are the offsets of their constants in the manifest.
+fn why_all(compiler: &mut Compiler, manifest: &[u8]) {
+    // fee = 40, at 55: the price reads this fee.
+    why(compiler, manifest, "price", 1);
+    // peak = false, at 72. The kiosk stands behind the `if`, not in it, so 2 is not in the path. But a branch of the
+    // `if` assigns fee, though it is not taken: so 2 is in the mark of fee in the node's scope, and reading fee tries
+    // that scope before the top, where fee has its value.
+    why(compiler, manifest, "price", 2);
+    // fee = 55 is never evaluated.
+    why(compiler, manifest, "price", 3);
+    // The title "front", at 122. A resource's labels are among those of each of its attributes.
+    why(compiler, manifest, "price", 4);
+    why(compiler, manifest, "colour", 4);
+}
+
 fn texts(compiler: &mut Compiler) -> Result<(), Refusal> {
     let manifest = compiler.convert(TEXT.as_bytes())?.to_vec();
     println!("converted: {} bytes", manifest.len());
@@ -76,6 +105,7 @@ fn main() {
     for limit in [4, 3] {
         compile(&mut compiler, &manifest, limit);
     }
+    why_all(&mut compiler, &manifest);
     if let Err(refusal) = texts(&mut compiler) {
         println!("{refusal}");
     }
