@@ -1,5 +1,5 @@
 # shellcheck shell=sh disable=SC2154
-# What ./schedule and ./manifest have in common. Who reads this in has set `command`, the command's name, and `root`, the repository's folder, and has a function
+# What ./schedule, ./why and ./manifest have in common. Who reads this in has set `command`, the command's name, and `root`, the repository's folder, and has a function
 # `usage`, which prints the help.
 
 # ---- Messages
@@ -44,6 +44,7 @@ reason() {
     24) echo "the text is outside the notation or its limits" ;;
     25) echo "a constant stands past line 255, where the first line is line 0" ;;
     26) echo "a label is below an earlier constant's, the notation cannot spell a name, a 25 names no built-in type, or a 27 names one" ;;
+    27) echo "the catalog has no such attribute" ;;
     *) echo "a number that the papers do not have" ;;
     esac
 }
@@ -105,7 +106,7 @@ run() {
     esac
 }
 
-# PROGRAM LINE FILE ANSWER: hands the line and the file to a program, and puts what it writes into the file ANSWER.
+# PROGRAM LINES FILE ANSWER: hands one line or several and the file to a program, and puts what it writes into the file ANSWER.
 ask() {
     status=0
     said=$({ { printf '%s\n' "$2" && cat "$3"; } | run "$1" >"$4"; } 2>&1) || status=$?
@@ -217,16 +218,17 @@ show_line() {
     }'
 }
 
-# NAME TEXT PLACE WORDS: tells it of a byte of a text: its line and column, both from 1, the words, and the line with a caret below the byte.
-tell_at() {
+# NAME TEXT PLACE WORDS: prints of a byte of a text its line and column, both from 1, the words, and the line with a caret below the byte.
+show_at() {
     lines=$(head -c "$3" "$2" | LC_ALL=C tr -dc '\n' | wc -c)
     before=$(head -n "$lines" "$2" | wc -c)
     column=$(($3 - before + 1))
-    {
-        printf '%s:%s:%s: %s\n' "$1" $((lines + 1)) "$column" "$4" &&
-            tail -c +$((before + 1)) "$2" | head -n 1 | tr -d '\n' | show_line "$column"
-    } >&2 || :
+    printf '%s:%s:%s: %s\n' "$1" $((lines + 1)) "$column" "$4" &&
+        tail -c +$((before + 1)) "$2" | head -n 1 | tr -d '\n' | show_line "$column"
 }
+
+# NAME TEXT PLACE WORDS: tells it of a byte of a text.
+tell_at() { show_at "$@" >&2 || :; }
 
 # TEXT: whether its first byte begins the token at fault, where it is refused 24 at 0: behind a space that token is one byte further on. A length's place stays 0.
 begins_with_fault() {
@@ -260,4 +262,40 @@ explain_manifest() {
     '3 0') if is_text "$2"; then tell "$1" "$(reason 3): it does not begin with byte 01, as a tagged manifest does"; else tell "$1" "$(reason 3); it concerns the field at byte 0"; fi ;;
     *) tell "$1" "$(reason "$3"); it concerns the field at byte $4" ;;
     esac
+}
+
+# ---- Manifests that are compiled. What the file holds is in "$room/given", and "$manifest" is its tagged form: the same file, or for a text another.
+
+# NUMBER PLACE: prints the line of a refusal.
+print_refusal() { echo "refused $1 at $2" || fail "standard output cannot be written"; }
+
+# FILE: takes the manifest that the file holds, a text or a tagged one; or ends with the refusal of a text that is not converted.
+take_manifest() {
+    copy_start "$1" "$room/given"
+    manifest=$room/given
+    is_text "$manifest" || return 0
+    manifest=$room/manifest
+    build_texts
+    if ! ask_texts convert "$room/given" "$manifest"; then
+        refused=$number at=$place
+        print_refusal "$refused" "$at"
+        explain_text "$1" "$room/given" "$refused" "$at"
+        exit 1
+    fi
+}
+
+# Whether the manifest taken came as a text
+from_text() { [ "$manifest" != "$room/given" ]; }
+
+# FILE NUMBER PLACE: ends with what the compile refused. Of a text, the token that became the field concerned is told; a length has no place.
+refuse_manifest() {
+    if from_text && [ "$2" != 1 ] && [ "$2" != 2 ]; then
+        text_place "$room/given" "$3"
+        print_refusal "$2" "$place"
+        tell_at "$1" "$room/given" "$place" "$(reason "$2")"
+    else
+        print_refusal "$2" "$3"
+        explain_manifest "$1" "$manifest" "$2" "$3"
+    fi
+    exit 1
 }
