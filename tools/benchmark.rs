@@ -1,14 +1,18 @@
 //! How long the static library takes, as ratios against the program made apart; `tools/benchmark` builds and runs it.
 //! All sides have one signature and clear the same output and memory. Each row is timed in rounds, a turn of each side
-//! in a round, by the processor time of the thread; the median of each side over the rounds is shown. Built with
-//! `--cfg former` there is a third side, an earlier library, whose functions have names that end in `_formerly`; with
-//! `--cfg former_texts` it converts and prints too.
+//! in a round, by the processor time of the thread; the median of each side over the rounds is shown. In a row of
+//! questions the library also compiles in each round what is asked about. Built with `--cfg former` there is another
+//! side, an earlier library, whose functions have names that end in `_formerly`; with `--cfg former_texts` it converts
+//! and prints too, with `--cfg former_why` it answers questions too.
 
 #![allow(dead_code)] // The modules of the program made apart have more than is used here.
 #![allow(unexpected_cfgs)]
 
 include!("reference.rs");
+mod ask;
 mod benchmark_texts;
+mod benchmark_whys;
+mod hand_made_questions;
 #[path = "../bindings/rigbanut.rs"]
 mod rigbanut;
 
@@ -20,12 +24,15 @@ use std::process::ExitCode;
 use std::time::Duration;
 use text_answer::Written;
 use text_case::{Call, TextCase};
+use why::Why;
+use why_case::WhyCase;
 
-/// What is done in one turn: a manifest compiled, or a text converted, or a manifest printed.
+/// What is done in one turn: a manifest compiled, or a text converted, or a manifest printed, or a question asked.
 #[derive(Clone)]
 enum Job {
     Compile(Case),
     Text(TextCase),
+    Ask(WhyCase),
 }
 
 /// A row of the table: a name and what is done, one job after the other.
@@ -45,7 +52,7 @@ fn main() -> ExitCode {
         }
     };
     println!(
-        "{:<54} {:>6} {:>11} {:>13} {:>13} {:>7} {:>6}{}",
+        "{:<54} {:>6} {:>11} {:>13} {:>13} {:>7} {:>6} {:>8}{}",
         "",
         "bytes",
         "answer",
@@ -53,20 +60,35 @@ fn main() -> ExitCode {
         "library µs",
         "ratio",
         "rounds",
+        "compiles",
         FORMER.map_or("", |_| "     former µs to former"),
     );
+    let too_long = measure_all(wanted);
+    for name in &too_long {
+        eprintln!("benchmark: a question took the time of more than {MOST_COMPILES} compiles: {name}");
+    }
+    ExitCode::from(u8::from(!too_long.is_empty()))
+}
+
+/// Prints the rows wanted, and gives the names of those whose questions take too long.
+fn measure_all(wanted: Option<&String>) -> Vec<String> {
     let mut room = Room {
         out: vec![0; 70_000],
         work: vec![0; 65_536],
     };
+    let mut too_long = Vec::new();
     for row in rows()
-        .iter()
+        .into_iter()
         .filter(|row| wanted.map_or(true, |part| row.name.contains(part.as_str())))
     {
         eprintln!("benchmark: {}", row.name);
-        println!("{}", room.measure(row));
+        let measured = room.measure(&row);
+        println!("{}", measured.line);
+        if measured.compiles > Some(MOST_COMPILES) {
+            too_long.push(row.name);
+        }
     }
-    ExitCode::SUCCESS
+    too_long
 }
 
 // What is timed.
@@ -80,6 +102,10 @@ fn rows() -> Vec<Row> {
     rows.extend(benchmark_texts::rows().into_iter().map(|(name, cases)| Row {
         name,
         jobs: cases.into_iter().map(Job::Text).collect(),
+    }));
+    rows.extend(benchmark_whys::rows().into_iter().map(|(name, cases)| Row {
+        name,
+        jobs: cases.into_iter().map(Job::Ask).collect(),
     }));
     rows
 }
@@ -336,26 +362,34 @@ struct Room {
 /// A row is timed for about this long, in an odd number of rounds.
 const ROW: Duration = Duration::from_millis(1500);
 const MOST_ROUNDS: u128 = 201;
+/// A question may take the time of so many compiles of what it is about, with 65,535 for steps and output.
+const MOST_COMPILES: f64 = 20.0;
 
 /// What a side compiles with: manifest, device, limit, output and memory.
 type Compile = fn(&[u8], &[u8], u16, &mut [u8], &mut [u8]) -> u64;
 /// What a side converts and prints with: text or manifest, output and memory.
 type Write = fn(&[u8], &mut [u8], &mut [u8]) -> u64;
+/// What a side answers with: a question and memory.
+type Ask = fn(&WhyCase, &mut [u8]) -> u64;
 
 #[derive(Clone, Copy)]
 struct Side {
     compile: Compile,
     /// Converting and printing, if the side can.
     texts: Option<(Write, Write)>,
+    /// Answering, if the side can.
+    ask: Option<Ask>,
 }
 
 const REFERENCE: Side = Side {
     compile: reference,
     texts: Some((reference_convert, reference_print)),
+    ask: Some(reference_ask),
 };
 const LIBRARY: Side = Side {
     compile: library,
     texts: Some((library_convert, library_print)),
+    ask: Some(ask::library),
 };
 /// The library that the one measured is compared with besides, if there is one.
 #[cfg(not(former))]
@@ -365,43 +399,59 @@ const FORMER: Option<Side> = Some(former::SIDE);
 
 impl Side {
     fn can(&self, row: &Row) -> bool {
-        self.texts.is_some() || row.jobs.iter().all(|job| matches!(job, Job::Compile(_)))
+        row.jobs.iter().all(|job| match job {
+            Job::Compile(_) => true,
+            Job::Text(_) => self.texts.is_some(),
+            Job::Ask(_) => self.ask.is_some(),
+        })
     }
 
     fn run(&self, job: &Job, out: &mut [u8], work: &mut [u8]) -> u64 {
-        match (job, self.texts) {
-            (Job::Compile(case), _) => (self.compile)(&case.manifest, &case.device, case.limit, out, work),
-            (Job::Text(case), Some((convert, print))) => match case.call {
+        match (job, self.texts, self.ask) {
+            (Job::Compile(case), ..) => (self.compile)(&case.manifest, &case.device, case.limit, out, work),
+            (Job::Text(case), Some((convert, print)), _) => match case.call {
                 Call::Convert => convert(&case.bytes, out, work),
                 Call::Print => print(&case.bytes, out, work),
             },
-            (Job::Text(_), None) => panic!("an earlier library without texts is asked for one"),
+            (Job::Ask(case), _, Some(ask)) => ask(case, work),
+            _ => panic!("an earlier library is asked for what it cannot do"),
         }
     }
 }
 
+/// A row measured.
+struct Measured {
+    line: String,
+    /// How many compiles of what it is about a question takes the time of.
+    compiles: Option<f64>,
+}
+
 impl Room {
-    fn measure(&mut self, row: &Row) -> String {
+    fn measure(&mut self, row: &Row) -> Measured {
         let former = FORMER.filter(|side| side.can(row));
-        let sides: Vec<Side> = [REFERENCE, LIBRARY].into_iter().chain(former).collect();
-        let mut times: Vec<Vec<Duration>> = sides.iter().map(|side| vec![self.time(row, side)]).collect();
+        let compiling = row.compiling();
+        let mut turns = vec![(row, REFERENCE), (row, LIBRARY)];
+        turns.extend(former.map(|side| (row, side)));
+        turns.extend(compiling.as_ref().map(|compiling| (compiling, LIBRARY)));
+        let mut times: Vec<Vec<Duration>> = turns.iter().map(|turn| vec![self.time(turn)]).collect();
         let round: Duration = times.iter().map(|first| first[0]).sum();
         let rounds = (ROW.as_nanos() / round.as_nanos().max(1)).clamp(1, MOST_ROUNDS) | 1;
         for _ in 1..rounds {
-            for (side, times) in sides.iter().zip(&mut times) {
-                times.push(self.time(row, side));
+            for (turn, times) in turns.iter().zip(&mut times) {
+                times.push(self.time(turn));
             }
         }
         let medians: Vec<Duration> = times.into_iter().map(median).collect();
         let count = row.jobs.len().max(1);
         let each = |time: Duration| time.as_nanos() as f64 / 1000.0 / count as f64;
-        let ratio = |side: usize| medians[1].as_secs_f64() / medians[side].as_secs_f64();
+        let ratio = |turn: usize| medians[1].as_secs_f64() / medians[turn].as_secs_f64();
         let bytes: usize = row.jobs.iter().map(Job::bytes).sum();
+        let compiles = compiling.map(|_| ratio(medians.len() - 1));
         let more = former.map_or(String::new(), |_| {
             format!(" {:>13.1} {:>9.2}", each(medians[2]), ratio(2))
         });
-        format!(
-            "{:<54} {:>6} {:>11} {:>13.1} {:>13.1} {:>7.2} {:>6}{more}",
+        let line = format!(
+            "{:<54} {:>6} {:>11} {:>13.1} {:>13.1} {:>7.2} {:>6} {:>8}{more}",
             row.name,
             bytes / count,
             answers(&row.jobs),
@@ -409,10 +459,15 @@ impl Room {
             each(medians[1]),
             ratio(0),
             rounds,
-        )
+            compiles.map_or(String::new(), |compiles| format!("{compiles:.2}")),
+        );
+        Measured {
+            line: line.trim_end().to_string(),
+            compiles,
+        }
     }
 
-    fn time(&mut self, row: &Row, side: &Side) -> Duration {
+    fn time(&mut self, (row, side): &(&Row, Side)) -> Duration {
         let started = processor_time();
         for job in &row.jobs {
             let out = &mut self.out[..job.output()];
@@ -457,6 +512,12 @@ fn library(manifest: &[u8], device: &[u8], limit: u16, out: &mut [u8], work: &mu
         rigbanut::Answer::Catalog { length, steps } => u64::from(steps) << 16 | u64::from(length),
         rigbanut::Answer::Refused(refusal) => u64::from(refusal.number) << 32 | u64::from(refusal.place),
     }
+}
+
+/// The memory is cleared, as the library does.
+fn reference_ask(case: &WhyCase, work: &mut [u8]) -> u64 {
+    work.fill(0);
+    ask::word(&case.answer())
 }
 
 /// Written where the library writes, and the rest cleared.
@@ -513,6 +574,7 @@ impl Job {
         match self {
             Job::Compile(case) => case.manifest.len(),
             Job::Text(case) => case.bytes.len(),
+            Job::Ask(case) => case.manifest.len(),
         }
     }
 
@@ -520,6 +582,18 @@ impl Job {
         match self {
             Job::Compile(case) => case.output,
             Job::Text(case) => case.output,
+            Job::Ask(_) => 0,
+        }
+    }
+
+    /// The compile of what a question is about, with 65,535 for steps and output.
+    fn compiling(&self) -> Option<Job> {
+        match self {
+            Job::Ask(case) => Some(Job::Compile(Case {
+                device: case.device.clone(),
+                ..Case::of(case.manifest.clone())
+            })),
+            _ => None,
         }
     }
 
@@ -531,7 +605,22 @@ impl Job {
                 Answer::Refused { number, .. } => Some(number),
             },
             Job::Text(case) => case.answer().err().map(|refused| refused.number),
+            Job::Ask(case) => match case.answer() {
+                Why::Refused(refusal) => Some(refusal.reason as u8),
+                _ => None,
+            },
         }
+    }
+}
+
+impl Row {
+    /// The compiles of what the row asks about, if it is one of questions.
+    fn compiling(&self) -> Option<Row> {
+        let jobs: Option<Vec<Job>> = self.jobs.iter().map(Job::compiling).collect();
+        jobs.map(|jobs| Row {
+            name: self.name.clone(),
+            jobs,
+        })
     }
 }
 

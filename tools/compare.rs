@@ -5,8 +5,11 @@
 #![allow(dead_code)] // The modules of the program made apart have more than is used here.
 
 include!("reference.rs");
+mod ask;
 mod compare_texts;
+mod compare_whys;
 mod hand_made;
+mod hand_made_questions;
 mod hand_made_texts;
 mod hand_made_trees;
 #[path = "../bindings/rigbanut.rs"]
@@ -27,6 +30,7 @@ struct Asked {
     count: u64,
     compiles: bool,
     texts: bool,
+    questions: bool,
 }
 
 impl Asked {
@@ -36,14 +40,16 @@ impl Asked {
             [seed, count, kind] => ([seed, count], Some(kind.as_str())),
             _ => return None,
         };
-        if !matches!(kind, None | Some("compile" | "texts")) {
+        if !matches!(kind, None | Some("compile" | "texts" | "why")) {
             return None;
         }
+        let wants = |word: &str| kind.map_or(true, |kind| kind == word);
         Some(Asked {
             seed: numbers[0].parse().ok()?,
             count: numbers[1].parse().ok()?,
-            compiles: kind != Some("texts"),
-            texts: kind != Some("compile"),
+            compiles: wants("compile"),
+            texts: wants("texts"),
+            questions: wants("why"),
         })
     }
 }
@@ -51,7 +57,7 @@ impl Asked {
 fn main() -> ExitCode {
     let words: Vec<String> = std::env::args().skip(1).collect();
     let Some(asked) = Asked::of(&words) else {
-        eprintln!("use: tools/compare SEED COUNT [compile|texts]");
+        eprintln!("use: tools/compare SEED COUNT [compile|texts|why]");
         return ExitCode::from(2);
     };
     match compare_all(&asked) {
@@ -75,6 +81,12 @@ fn compare_all(asked: &Asked) -> Result<(), String> {
         for tally in compare_texts::compare_all(asked.seed, asked.count, &mut rooms)? {
             println!("{}", tally.summary());
         }
+    }
+    if asked.questions {
+        println!(
+            "{}",
+            compare_whys::compare_all(asked.seed, asked.count, &mut rooms)?
+        );
     }
     Ok(())
 }

@@ -55,3 +55,21 @@ mod text_trips;
 mod tree;
 #[path = "../reference/src/walk.rs"]
 mod walk;
+#[path = "../reference/src/watch.rs"]
+mod watch;
+#[path = "../reference/src/why.rs"]
+mod why;
+#[path = "../reference/src/why_case.rs"]
+mod why_case;
+#[path = "../reference/src/why_generate.rs"]
+mod why_generate;
+#[path = "../reference/src/why_large.rs"]
+mod why_large;
+#[path = "../reference/src/why_named.rs"]
+mod why_named;
+#[path = "../reference/src/why_places.rs"]
+mod why_places;
+#[path = "../reference/src/why_shapes.rs"]
+mod why_shapes;
+#[path = "../reference/src/why_tally.rs"]
+mod why_tally;

@@ -30,7 +30,7 @@ impl Tally {
         tally
     }
 
-    fn add(&mut self, case: &WhyCase) {
+    pub fn add(&mut self, case: &WhyCase) {
         let answer = match case.answer() {
             Why::Among { part, place } => {
                 self.among += 1;

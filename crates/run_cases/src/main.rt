@@ -1,15 +1,17 @@
-// Compiles, converts or prints the cases on standard input, a case to a line, and writes an answer line for each. The formats are those of `reference batch` and
-// `reference text-batch` (docs/CASES.md).
+// Compiles, converts, prints or asks about the cases on standard input, a case to a line, and writes an answer line for each. The formats are those of
+// `reference batch`, `reference text-batch` and `reference why-batch` (docs/CASES.md).
 ghost use Prim.Native.Nat.{_≤_};
 ghost use lib.ListN.{length};
 
 // Places in a text, and numbers and bytes as text.
 mod text;
 
-// The first word of a text case with the space behind it, as a number: the eight bytes "convert ", the six bytes "print ".
+// The first word of a text case or a why case with the space behind it, as a number: the eight bytes "convert ", the six bytes "print ", the four bytes "why ".
 const CONVERT: u64 = 0x636f6e7665727420;
 
 const PRINT: u64 = 0x7072696e7420;
+
+const WHY: u64 = 0x77687920;
 
 fn main() {
     let mut input = [0u8; 300000];
@@ -68,7 +70,7 @@ fn answer_lines(lines: &[u8]) -> usize
     at
 }
 
-// The first word tells the sort of a case; a device in hexadecimal digits is none of the two words.
+// The first word tells the sort of a case; a device in hexadecimal digits is none of the three words.
 fn answer_line(line: &[u8]) {
     let start = wire::number_at(line, 0);
     if start == CONVERT {
@@ -77,6 +79,10 @@ fn answer_line(line: &[u8]) {
     }
     if start / 65536 == PRINT {
         answer_text(line, false);
+        return;
+    }
+    if start / 4294967296 == WHY {
+        answer_why(line);
         return;
     }
     answer_compile(line);
@@ -157,6 +163,105 @@ fn convert_or_print(given: &[u8], converts: bool, out: &mut [u8], work: &mut [u8
     }
 }
 
+// The word, device, type, title, attribute, label, memory length, manifest. What does not fit the room here is cut.
+fn answer_why(line: &[u8]) {
+    let device = text::next_part(line, 0);
+    let kind = text::next_part(line, device);
+    let title = text::next_part(line, kind);
+    let attribute = text::next_part(line, title);
+    let label = text::next_part(line, attribute);
+    let memory = text::next_part(line, label);
+    let manifest = text::next_part(line, memory);
+    read_question(
+        &line[manifest..],
+        &line[device..],
+        &line[kind..],
+        &line[title..],
+        &line[attribute..],
+        &line[label..],
+    );
+}
+
+// Manifest, device and what is asked about from their digits. No string of a manifest is longer than 255 bytes.
+fn read_question(
+    manifest_text: &[u8],
+    device_text: &[u8],
+    kind_text: &[u8],
+    title_text: &[u8],
+    attribute_text: &[u8],
+    numbers: &[u8],
+) {
+    let mut manifest = [0u8; 70000];
+    let mut device = [0u8; 300];
+    let mut kind = [0u8; 300];
+    let mut title = [0u8; 300];
+    let mut attribute = [0u8; 300];
+    let size = text::read_hex(manifest_text, &mut manifest);
+    let named = text::read_hex(device_text, &mut device);
+    let kinds = text::read_hex(kind_text, &mut kind);
+    let titles = text::read_hex(title_text, &mut title);
+    let attributes = text::read_hex(attribute_text, &mut attribute);
+    lend_to_question(
+        &manifest[..size],
+        &device[..named],
+        &kind[..kinds],
+        &title[..titles],
+        &attribute[..attributes],
+        numbers,
+    );
+}
+
+// The label, and memory of the length behind it, at the start of `numbers`.
+fn lend_to_question(
+    manifest: &[u8],
+    device: &[u8],
+    kind: &[u8],
+    title: &[u8],
+    attribute: &[u8],
+    numbers: &[u8],
+) {
+    let mut work = [0u8; 70000];
+    let second = text::next_part(numbers, 0);
+    let label = text::read_number(numbers, 255) as u8;
+    let memory = text::read_length(&numbers[second..], &work);
+    ask(
+        manifest,
+        device,
+        kind,
+        title,
+        attribute,
+        label,
+        &mut work[..memory],
+    );
+}
+
+fn ask(
+    manifest: &[u8],
+    device: &[u8],
+    kind: &[u8],
+    title: &[u8],
+    attribute: &[u8],
+    label: u8,
+    work: &mut [u8],
+) {
+    let answer = library::rigbanut_why(manifest, device, kind, title, attribute, label, work);
+    write_explanation(answer);
+}
+
+// Among them: part * 65536 + place. Not among them: 0. Refused: number * 2^32 + place.
+fn write_explanation(answer: u64) {
+    if answer == 0 {
+        io::write_all(1, b"not among\n");
+        return;
+    }
+    if answer < 4294967296 {
+        io::write_all(1, b"among ");
+        write_numbers(answer / 65536, answer % 65536);
+    } else {
+        write_refusal(answer / 4294967296, answer % 4294967296);
+    }
+}
+
 // Accepted: the length. Refused: number * 2^32 + place.
 fn write_text_answer(answer: u64, out: &[u8]) {
     if answer < 4294967296 {
@@ -197,6 +302,11 @@ fn write_bytes(length: usize, out: &[u8]) {
 
 fn write_refusal(number: u64, place: u64) {
     io::write_all(1, b"refused ");
+    write_numbers(number, place);
+}
+
+// A number of a reason or a part, and a place: the end of an answer.
+fn write_numbers(number: u64, place: u64) {
     io::print_decimal(1, number);
     io::write_all(1, b" ");
     io::print_decimal(1, place);
