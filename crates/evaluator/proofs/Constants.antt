@@ -1,9 +1,10 @@
 -- A constant, read in place. Assumes nothing.
 use Prim.Native.Nat.{ℕ, _+_}
 use mathlib.Core.Path.{_≡_, refl, sym, ap, _∙_}
-use mathlib.Core.Bool.{Bool, true, false}
+use mathlib.Core.Bool.{Bool, true, false, _&&_}
 use mathlib.Core.List.{List}
-use borrow.Author.Tests.{ne-eqb}
+use native.Mathlib.Omega.{arith}
+use borrow.Author.Tests.{ne-eqb, eqb-true, le-ltb}
 use lib.Dec.{eqb}
 use lib.IntN.{ℤ}
 use Rattle.labels.specs.declared.Labels.{Labels}
@@ -18,7 +19,7 @@ use Rattle.rules.specs.Evaluate.{ofConstant}
 use Rattle.places.specs.At.{valueAt, constantAt}
 use Rattle.rules.specs.Outcome.{Outcome, refused, done, _>>=_, refuseIf}
 use Rattle.values.specs.declared.Reason.the-variants.{Malformed}
-use Rattle.memory.specs.Words.{struckAt, struckIn}
+use Rattle.memory.specs.Words.{wordOf, strikeLabel, strikeEnd, struckAt, struckIn}
 use Rattle.evaluator.specs.Known.{constantIn}
 
 module _ (m : List ℕ) (p : ℕ) where
@@ -38,17 +39,26 @@ module _ (m : List ℕ) (p : ℕ) where
   unfolding ofConstant constantAt
   constant-read a b c = rw (c, b, a)
 
--- ---- The ways of `constant`
+-- ---- The ways of `is_struck`, and what it means for the constant at p
 
-module _ (m w : List ℕ) (p : ℕ) {label : ℕ} {b : Bool} (labelled : label ≡ byte m (p + 3)) (struck : b ≡ struckAt w label p) where
-  its-strike : struckIn w (constantAt m p) ≡ b
+module _ (m w : List ℕ) (p : ℕ) where
+  pub nothing-struck : eqb (wordOf w strikeEnd) 0 ≡ true → false ≡ struckIn w (constantAt m p)
+  unfolding struckIn struckAt constantAt
+  nothing-struck none = rw (le-ltb p (wordOf w strikeEnd) (omega (arith, eqb-true (wordOf w strikeEnd) 0 none))) (never (eqb (byte m (p + 3)) (wordOf w strikeLabel)))
+    where
+      never : (b : Bool) → false ≡ (b && false)
+      never true = refl
+      never false = refl
+
+  pub struck-told : {label : ℕ} {b : Bool} → label ≡ byte m (p + 3) → b ≡ struckAt w label p → b ≡ struckIn w (constantAt m p)
   unfolding struckIn constantAt
-  its-strike = ap (λ (n : ℕ). struckAt w n p) (sym labelled) ∙ sym struck
+  struck-told labelled struck = struck ∙ ap (λ (n : ℕ). struckAt w n p) labelled
 
-  pub constant-struck : {o : Outcome Labelled} → b ≡ true → o ≡ refused Malformed p → o ≡ constantIn w (constantAt m p)
-  unfolding constantIn constantAt refuseIf _>>=_
-  constant-struck is e = rw (its-strike ∙ is) e
+  module _ {b : Bool} (struck : b ≡ struckIn w (constantAt m p)) where
+    pub constant-struck : {o : Outcome Labelled} → b ≡ true → o ≡ refused Malformed p → o ≡ constantIn w (constantAt m p)
+    unfolding constantIn constantAt refuseIf _>>=_
+    constant-struck is e = rw (sym struck ∙ is) e
 
-  pub constant-kept : {x : Labelled} → b ≡ false → x ≡ ofConstant (constantAt m p) → done x ≡ constantIn w (constantAt m p)
-  unfolding constantIn refuseIf _>>=_
-  constant-kept is e = rw (its-strike ∙ is) (ap done e)
+    pub constant-kept : {x : Labelled} → b ≡ false → x ≡ ofConstant (constantAt m p) → done x ≡ constantIn w (constantAt m p)
+    unfolding constantIn refuseIf _>>=_
+    constant-kept is e = rw (sym struck ∙ is) (ap done e)

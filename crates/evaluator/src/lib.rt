@@ -15,10 +15,11 @@ ghost use Rattle.places.specs.At.{valueAt, constantAt, expressionAt, armsAt, St
 ghost use Rattle.places.specs.Parts.{OperationAt, NegationAt, AttributeReadAt, SelectorAt};
 ghost use Rattle.cells.specs.Scopes.{scopeOf};
 ghost use Rattle.cells.specs.Memory.{cellsOf, classesOf, baseFor};
+ghost use Rattle.memory.specs.Words.{struckIn};
 ghost use Rattle.evaluator.specs.Answers.{evaluated};
 ghost use Rattle.evaluator.specs.Operators.{beginInteger, beginBoolean, arithmetic, bothIntegers, rightBoolean, resultOf, computedAt};
 ghost use Rattle.evaluator.specs.Operators as operators;
-ghost use Rattle.evaluator.specs.Known.{KnownIn, Ready, Tells, Sized, definedTag, constantIn, classRead, attributeOf};
+ghost use Rattle.evaluator.specs.Known.{KnownIn, Ready, Tells, Sized, definedTag, classRead, attributeOf};
 use labels::Labels;
 use memory::Scope;
 use patterns::Choice;
@@ -84,15 +85,15 @@ pub fn constant_at(m: &[u8], p: usize) -> Labelled
     Labelled { value, labels }
 }
 
-// The constant at p, unless it is struck out.
-fn constant(m: &[u8], p: usize, work: &[u8]) -> Evaluated
+// Whether the constant at p is struck out. In a compile none is.
+fn is_struck(m: &[u8], p: usize, work: &[u8]) -> bool
     requires { ⌜ (65536 ≤ length (now work)) × (p ≤ 65535) ⌝ }
-    ensures { λ r. ⌜ evaluated r ≡ constantIn (now (work .entry)) (constantAt (now (m .entry)) p) ⌝ }
+    ensures { λ r. ⌜ r ≡ struckIn (now (work .entry)) (constantAt (now (m .entry)) p) ⌝ }
 {
-    if memory::is_struck_out(work, wire::byte_at(m, p + 3), p) {
-        return Evaluated::Refused(Refusal::at(Reason::Malformed, p));
+    if memory::none_struck_out(work) {
+        return false;
     }
-    Evaluated::Value(constant_at(m, p))
+    memory::is_struck_out(work, wire::byte_at(m, p + 3), p)
 }
 
 // ---- Operators
@@ -521,7 +522,10 @@ pub fn evaluate(
     let below = depth - 1;
     let tag = wire::byte_at(m, p);
     if tag < 0x13 {
-        return constant(m, p, work);
+        if is_struck(m, p, work) {
+            return Evaluated::Refused(Refusal::at(Reason::Malformed, p));
+        }
+        return Evaluated::Value(constant_at(m, p));
     }
     if tag < 0x16 {
         return variable_read(m, p, work, scope);

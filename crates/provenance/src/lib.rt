@@ -385,6 +385,9 @@ pub fn note_resource(
     ensures { λ _. ⌜ NotesResource (now (m .entry)) (now (work .entry)) (now (work .exit)) (now (out .entry)) fill here depth p ⌝ }
 {
     let asked = memory::word(work, memory::ASKED_TYPE) as usize;
+    if asked == 0 {
+        return;
+    }
     let kind = wire::two_at(m, p + 3) as usize;
     if asked != kind + 1 {
         return;

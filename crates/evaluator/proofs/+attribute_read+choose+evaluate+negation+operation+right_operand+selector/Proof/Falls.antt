@@ -27,7 +27,8 @@ use Rattle.evaluator.proofs.+attribute_read+choose+evaluate+negation+op
 use Rattle.evaluator.proofs.attribute_of.Reads as attribute-of-reads
 use Rattle.evaluator.proofs.begin.Reads as begin-reads
 use Rattle.evaluator.proofs.combine.Reads as combine-reads
-use Rattle.evaluator.proofs.constant.Reads as constant-reads
+use Rattle.evaluator.proofs.constant_at.Reads as constant-at-reads
+use Rattle.evaluator.proofs.is_struck.Reads as is-struck-reads
 use Rattle.evaluator.proofs.joined.Reads as joined-reads
 use Rattle.evaluator.proofs.negated.Reads as negated-reads
 use Rattle.values.proofs.place.Reads as place-reads
@@ -112,7 +113,7 @@ choose-calls t = (struck-pattern-reads.Asked, struck-pattern-reads.Learnt, at-re
 
 -- what evaluate knows of its callees
 abbrev pub evaluate-calls : ℕ → evaluate-lts.Claims
-evaluate-calls t = (at-reads.Asked, at-reads.Learnt, byte-at-reads.Asked, byte-at-reads.Learnt, constant-reads.Asked, constant-reads.Learnt, variable-read-reads.Asked, variable-read-reads.Learnt, operation-below t, operation.Post, negation-below t, negation.Post, attribute-read-below t, attribute-read.Post, selector-below t, selector.Post)
+evaluate-calls t = (at-reads.Asked, at-reads.Learnt, byte-at-reads.Asked, byte-at-reads.Learnt, is-struck-reads.Asked, is-struck-reads.Learnt, constant-at-reads.Asked, constant-at-reads.Learnt, variable-read-reads.Asked, variable-read-reads.Learnt, operation-below t, operation.Post, negation-below t, negation.Post, attribute-read-below t, attribute-read.Post, selector-below t, selector.Post)
 
 -- what negation knows of its callees
 abbrev pub negation-calls : ℕ → negation-lts.Claims
