@@ -292,6 +292,10 @@ module _ {m w₀ w out₀ out : List ℕ} {l₀ l f : ℕ} {c : Option ℕ} {p :
   pub items-done : length m ≤ p → RunsTo m w₀ w out₀ out 0 l₀ l c (itemPlaces m) [] (Done f)
   items-done h = rw (no-fields m p (length m) h) at (so .runs)
 
+-- a refusal handed on
+pub items-refused : {m w w′ out out′ : List ℕ} {fill left left′ : ℕ} {c : Option ℕ} {from to : List ℕ} {a : Filled} {why : Refusal} → RunsTo m w w′ out out′ fill left left′ c from to a → a ≡ Refused why → RunsTo m w w′ out out′ fill left left′ c from to (Refused why)
+items-refused runs is = rw is at runs
+
 -- ---- run_manifest
 
 items-read : (m : List ℕ) (qs : List ℕ) → itemsFrom (readEach (readField m 32) qs) ≡ itemsAt m qs

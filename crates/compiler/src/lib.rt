@@ -98,10 +98,10 @@ fn run_items(m: &[u8], node: Found, work: &mut [u8], out: &mut [u8], left: &mut 
     let mut p = wire::end_of(m, 0);
     while p < m.len() {
         let r = run_item(m, node, p, work, out, filled, left);
-        let Filled::Done(more) = r else {
-            return r;
-        };
-        filled = more;
+        match r {
+            Filled::Refused(refusal) => return Filled::Refused(refusal),
+            Filled::Done(more) => filled = more,
+        }
         p = wire::end_of(m, p);
     }
     Filled::Done(filled)

@@ -1,5 +1,5 @@
 -- `run_items`: at the loop's head the items left make the whole run of what the bytes stand for.
-use Rattle.compiler.proofs.Items.{Along, items-begin, item-stands, still-able, items-go-on, items-refuse, items-done}
+use Rattle.compiler.proofs.Items.{Along, items-begin, item-stands, still-able, items-go-on, items-refuse, items-refused, items-done}
 use Rattle.compiler.specs.Running.{chosenOf}
 use lib.ListN.{length}
 use borrow.Author.Needs.{needs}
@@ -27,17 +27,17 @@ run-item-requires c κs = (still-able (c .before .before .before .before .loop .
 enum-known-r : tie.Need-enum-known-r Inv-loop μ-loop
 enum-known-r c = search needs
 
-enum-told : tie.Need-enum-told Inv-loop μ-loop
-enum-told c = search needs
-
 same-length : tie.Need-same-length Inv-loop μ-loop
-same-length c = c .before .before .before .before .before .before .run-item .kept .1 .1 .1 .0 ∙ c .before .before .before .before .before .before .before .before .before .before .before .loop .inv .memory
+same-length c = c .before .before .before .before .before .before .before .run-item .kept .1 .1 .1 .0 ∙ c .before .before .before .before .before .before .before .before .before .before .before .before .loop .inv .memory
 
 same-length-2 : tie.Need-same-length-2 Inv-loop μ-loop
-same-length-2 c = c .before .before .before .before .before .before .run-item .kept .1 .1 .1 .1 .0 ∙ c .before .before .before .before .before .before .before .before .before .before .before .loop .inv .output
+same-length-2 c = c .before .before .before .before .before .before .before .run-item .kept .1 .1 .1 .1 .0 ∙ c .before .before .before .before .before .before .before .before .before .before .before .before .loop .inv .output
 
 returns : tie.Need-returns Inv-loop μ-loop
-returns c = items-refuse (c .before .before .before .before .before .before .before .before .before .before .before .loop .inv) _ _ (c .before .before .before .before .before .before .before .before .before .before .loop-test .taken) (c .before .before .before .before .before .before .run-item .ensures) (c .enum-told .given .1)
+returns c = items-refused (items-refuse (c .before .before .before .before .before .before .before .before .before .before .before .before .loop .inv) _ _ (c .before .before .before .before .before .before .before .before .before .before .before .loop-test .taken) (c .before .before .before .before .before .before .before .run-item .ensures) (c .before .r .given .1)) (c .before .r .given .1)
+
+enum-known-r-2 : tie.Need-enum-known-r-2 Inv-loop μ-loop
+enum-known-r-2 c = search needs
 
 end-of-requires-2 : tie.Need-end-of-requires-2 Inv-loop μ-loop
 end-of-requires-2 c κs = omega (arith, c .before .before .before .before .before .before .before .before .before .before .before .loop-test .taken, c .before .before .before .before .before .before .before .before .before .before .before .before .before .before .before .before .before .pre .0 .set .manifest)
@@ -46,7 +46,7 @@ loop-less : tie.Need-loop-less Inv-loop μ-loop
 loop-less c = omega (arith, c .before .before .before .before .before .before .before .before .before .before .before .before .loop-test .taken, c .end-of2 .ensures)
 
 loop-again : tie.Need-loop-again Inv-loop μ-loop
-loop-again c = items-go-on (c .before .before .before .before .before .before .before .before .before .before .before .before .before .loop .inv) _ _ (c .before .before .before .before .before .before .before .before .before .before .before .before .loop-test .taken) (c .before .before .before .before .before .before .before .before .run-item .ensures) (c .before .before .before .before .before .before .before .before .run-item .kept .1 .1 .1 .0) (c .before .before .before .before .before .before .before .before .run-item .kept .1 .1 .1 .1 .0) (c .before .before .r .given .1) (c .end-of2 .ensures)
+loop-again c = items-go-on (c .before .before .before .before .before .before .before .before .before .before .before .before .before .loop .inv) _ _ (c .before .before .before .before .before .before .before .before .before .before .before .before .loop-test .taken) (c .before .before .before .before .before .before .before .before .run-item .ensures) (c .before .before .before .before .before .before .before .before .run-item .kept .1 .1 .1 .0) (c .before .before .before .before .before .before .before .before .run-item .kept .1 .1 .1 .1 .0) (c .before .before .r2 .given .1) (c .end-of2 .ensures)
 
 same-length-3 : tie.Need-same-length-3 Inv-loop μ-loop
 same-length-3 c = c .before .loop .inv .memory
@@ -67,10 +67,10 @@ run-items-spec =
     loop-holds
     run-item-requires
     enum-known-r
-    enum-told
     same-length
     same-length-2
     returns
+    enum-known-r-2
     end-of-requires-2
     loop-less
     loop-again
