@@ -188,6 +188,10 @@ fn worst() -> Vec<Row> {
             "time-refused-late-5",
         ),
         named(
+            "65,535 bytes, refused at the end by a definition",
+            "time-refused-late-8",
+        ),
+        named(
             "65,535 bytes, refused at the end by a read",
             "time-refused-late-13",
         ),
@@ -200,6 +204,7 @@ fn worst() -> Vec<Row> {
             ordinary(attribute_twice()),
         ),
         one("1,000 definitions and as many includes", ordinary(many_classes())),
+        named("1,024 definitions behind the use of the last", "time-definitions"),
     ]
 }
 

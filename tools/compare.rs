@@ -103,7 +103,7 @@ fn compare_compiles(seed: u64, count: u64, rooms: &mut Rooms) -> Result<Tally, S
         Answer::Catalog { .. } => tally.accept(),
         Answer::Refused { number, .. } => tally.refuse(number),
     };
-    for (name, make) in special::NAMED.into_iter().chain(hand_made::HAND_MADE) {
+    for (name, make) in special::all_named().chain(hand_made::HAND_MADE) {
         eprintln!("compare: named input {name}");
         add(compare(&make(), rooms).map_err(|told| format!("named input {name}: {told}"))?);
     }

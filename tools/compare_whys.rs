@@ -47,7 +47,7 @@ pub fn compare_all(seed: u64, count: u64, rooms: &mut Rooms) -> Result<String, S
         let told = |told: String| format!("hand-made question {name}: {told}");
         questions.with_each_memory(&make()).map_err(told)?;
     }
-    let compiled = special::NAMED.into_iter().chain(HAND_MADE);
+    let compiled = special::all_named().chain(HAND_MADE);
     for (name, make) in compiled.filter(|(name, _)| *name != SLOWEST) {
         eprintln!("compare: a question about {name}");
         let told = |told: String| format!("a question about {name}: {told}");

@@ -3,6 +3,8 @@
 
 #[path = "../reference/src/answer.rs"]
 mod answer;
+#[path = "../reference/src/arrange.rs"]
+mod arrange;
 #[path = "../reference/src/assemble.rs"]
 mod assemble;
 #[path = "../reference/src/case.rs"]
@@ -13,6 +15,8 @@ mod catalog;
 mod compile;
 #[path = "../reference/src/converter.rs"]
 mod converter;
+#[path = "../reference/src/definitions.rs"]
+mod definitions;
 #[path = "../reference/src/generate.rs"]
 mod generate;
 #[path = "../reference/src/labels.rs"]
@@ -21,6 +25,8 @@ mod labels;
 mod lexer;
 #[path = "../reference/src/machine.rs"]
 mod machine;
+#[path = "../reference/src/named_definitions.rs"]
+mod named_definitions;
 #[path = "../reference/src/printer.rs"]
 mod printer;
 #[path = "../reference/src/program.rs"]
@@ -61,6 +67,8 @@ mod watch;
 mod why;
 #[path = "../reference/src/why_case.rs"]
 mod why_case;
+#[path = "../reference/src/why_definitions.rs"]
+mod why_definitions;
 #[path = "../reference/src/why_generate.rs"]
 mod why_generate;
 #[path = "../reference/src/why_large.rs"]

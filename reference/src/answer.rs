@@ -13,7 +13,8 @@ pub enum Answer {
     Refused { number: u8, place: Place },
 }
 
-/// "Reasons for refusing, in checking order", under their numbers.
+/// "Reasons for refusing, in checking order", under their numbers; 8 "is given
+/// after 5 and before any step" (document 02).
 #[derive(Clone, Copy, Debug, PartialEq, Eq)]
 #[repr(u8)]
 pub enum Reason {

@@ -1,7 +1,10 @@
 //! A case for a compile, its line in batch format, and its answer's line.
 
-use crate::answer::Answer;
+use crate::answer::{Answer, Refusal};
 use crate::compile::compile;
+use crate::machine::{self, Finished};
+use crate::tree::Tree;
+use crate::watch::Nobody;
 
 /// What one compile is given.
 #[derive(Clone, Debug, PartialEq, Eq)]
@@ -12,6 +15,9 @@ pub struct Case {
     pub memory: usize,
     pub manifest: Vec<u8>,
 }
+
+/// The steps and the catalog of a run, or its refusal.
+pub type Outcome = Result<(u16, Vec<u8>), Refusal>;
 
 /// Lengths above this in a line are taken for a mistake.
 const LONGEST_LENT: usize = 1 << 26;
@@ -63,6 +69,19 @@ impl Case {
             out.truncate(usize::from(length));
         }
         Ok((answer, out))
+    }
+
+    /// Runs a tree with what this case lends.
+    pub fn run(&self, tree: &Tree) -> Outcome {
+        self.outcome(|out| machine::run(tree, &self.device, self.limit, out, &Nobody))
+    }
+
+    /// What running gives with the output of this case.
+    pub fn outcome(&self, run: impl FnOnce(&mut [u8]) -> Result<Finished, Refusal>) -> Outcome {
+        let mut out = vec![0; self.output];
+        let Finished { length, steps } = run(&mut out)?;
+        out.truncate(usize::from(length));
+        Ok((steps, out))
     }
 }
 

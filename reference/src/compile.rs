@@ -40,7 +40,8 @@ fn attempt(
     machine::run(&tree, device, limit, out, &Nobody)
 }
 
-/// All that comes before running: refusals 1 to 5.
+/// What every call that is given a manifest checks first: refusals 1 to 5. 8 is
+/// given next, where a manifest is to run.
 pub fn read(manifest: &[u8], memory: usize) -> Result<Tree<'_>, Refusal> {
     if memory < LEAST_MEMORY {
         return Err(Reason::Memory.at(0));

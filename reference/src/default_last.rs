@@ -1,11 +1,8 @@
 //! Which cases tell that a default is tried last.
 
-use crate::answer::Refusal;
 use crate::case::Case;
 use crate::compile;
-use crate::machine;
 use crate::tree::*;
-use crate::watch::Nobody;
 
 /// Whether the answer would be another if a default matched where it is
 /// reached, so that the patterns behind it were never tried.
@@ -13,17 +10,9 @@ pub fn tells(case: &Case) -> bool {
     let Ok(mut tree) = compile::read(&case.manifest, case.memory) else {
         return false;
     };
-    let answer = run(&tree, case);
+    let answer = case.run(&tree);
     tree.items.iter_mut().for_each(cut_item);
-    run(&tree, case) != answer
-}
-
-/// The steps and the catalog, or the refusal.
-fn run(tree: &Tree, case: &Case) -> Result<(u16, Vec<u8>), Refusal> {
-    let mut out = vec![0; case.output];
-    let finished = machine::run(tree, &case.device, case.limit, &mut out, &Nobody)?;
-    out.truncate(usize::from(finished.length));
-    Ok((finished.steps, out))
+    case.run(&tree) != answer
 }
 
 /// Cuts off what stands behind a default. A condition keeps its effect, which

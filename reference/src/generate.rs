@@ -1,6 +1,7 @@
 //! Random cases: programs, particular shapes, and damaged ones of both.
 
 use crate::answer::Answer;
+use crate::arrange::define_again;
 use crate::assemble::{table, Built, Field, Manifest, Part};
 use crate::case::Case;
 use crate::program::{program, DEVICES};
@@ -13,13 +14,21 @@ pub fn cases(seed: u64, count: u64) -> impl Iterator<Item = Case> {
 }
 
 fn case(random: &mut Random) -> Case {
-    let manifest = match random.weighted(&[60, 40]) {
+    let mut manifest = match random.weighted(&[60, 40]) {
         0 => whole_program(random),
         _ => shape(random),
     };
+    let again = random.chance(25);
+    if again {
+        define_again(random, &mut manifest);
+    }
     let way = random.weighted(&[840, 80, 60, 15, 5]);
     let bytes = damage(random, manifest, way);
-    lend(random, bytes)
+    let mut case = lend(random, bytes);
+    if again && random.chance(300) {
+        case.limit = random.pick(&[0, 0, 1, 2]);
+    }
+    case
 }
 
 /// The bytes of a manifest, damaged in one of the ways.

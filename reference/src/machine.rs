@@ -2,15 +2,11 @@
 
 use crate::answer::{Place, Reason, Refusal};
 use crate::catalog::{Catalog, Entry};
+use crate::definitions::Definitions;
 use crate::labels::Labels;
 use crate::scopes::{ScopeId, Scopes, NODE, TOP};
 use crate::tree::*;
 use crate::watch::{Origin, Watch};
-
-/// "Built-in types".
-pub const BUILT_IN: [&[u8]; 8] = [
-    b"kiosk", b"tablet", b"printer", b"scanner", b"gate", b"screen", b"plan", b"wall",
-];
 
 /// "the deepest allowed for a declaration ... is 16".
 const DEEPEST_LEVEL: u32 = 16;
@@ -59,12 +55,13 @@ impl Context {
     }
 }
 
-/// Everything a compile carries along once the manifest is read. Tables by
-/// name have one place for each string, and every name is below their length.
-struct Machine<'t, 'o, W> {
-    built_in: Vec<bool>,
+/// Everything a compile carries along once the manifest is read.
+pub struct Machine<'t, 'o, W> {
+    pub definitions: Definitions<'t>,
+    /// The position of the node item that runs.
+    chosen: Option<usize>,
     title: Option<Name>,
-    defined: Vec<Option<&'t Definition>>,
+    /// One place for each string; every name is below its length.
     declared: Vec<Option<ScopeId>>,
     scopes: Scopes,
     /// "one set for the whole compile, never shrinking".
@@ -81,7 +78,8 @@ pub struct Finished {
     pub steps: u16,
 }
 
-/// Runs a manifest's items in order.
+/// Gathers the definitions of a manifest, which refuses 8 "before any step",
+/// then runs its items in order.
 pub fn run<W: Watch>(
     tree: &Tree,
     device: &[u8],
@@ -89,37 +87,55 @@ pub fn run<W: Watch>(
     output: &mut [u8],
     watch: &W,
 ) -> Result<Finished, Refusal> {
-    let mut machine = Machine {
-        built_in: tree
-            .strings
-            .iter()
-            .map(|string| BUILT_IN.contains(string))
-            .collect(),
-        title: tree.number_of(b"title"),
-        defined: vec![None; tree.strings.len()],
-        declared: vec![None; tree.strings.len()],
-        scopes: Scopes::new(),
-        trail: Labels::EMPTY,
-        limit,
-        steps: 0,
-        catalog: Catalog::new(output),
-        watch,
-    };
-    let chosen = chosen_node(tree, device);
+    let definitions = Definitions::gather(tree)?;
+    let mut machine = Machine::new(tree, definitions, device, limit, output, watch);
     for (at, item) in tree.items.iter().enumerate() {
-        match item {
-            Item::Statement(statement) => machine.statement(statement, &Context::outermost(TOP))?,
-            Item::Node(node) if chosen == Some(at) => {
-                machine.block(&node.block, &Context::outermost(NODE))?;
-            }
-            Item::Node(_) => {}
-            Item::Definition(definition) => machine.define(definition)?,
+        machine.item(at, item)?;
+    }
+    Ok(machine.finished())
+}
+
+/// Items.
+impl<'t, 'o, W: Watch> Machine<'t, 'o, W> {
+    /// A machine that finds these definitions and has run no item yet.
+    pub fn new(
+        tree: &Tree,
+        definitions: Definitions<'t>,
+        device: &[u8],
+        limit: u16,
+        output: &'o mut [u8],
+        watch: &'o W,
+    ) -> Machine<'t, 'o, W> {
+        Machine {
+            definitions,
+            chosen: chosen_node(tree, device),
+            title: tree.number_of(b"title"),
+            declared: vec![None; tree.strings.len()],
+            scopes: Scopes::new(),
+            trail: Labels::EMPTY,
+            limit,
+            steps: 0,
+            catalog: Catalog::new(output),
+            watch,
         }
     }
-    Ok(Finished {
-        length: machine.catalog.length(),
-        steps: machine.steps,
-    })
+
+    /// Runs the item at that position. Running a definition does nothing: it was
+    /// gathered before.
+    pub fn item(&mut self, at: usize, item: &'t Item) -> Result<(), Refusal> {
+        match item {
+            Item::Statement(statement) => self.statement(statement, &Context::outermost(TOP)),
+            Item::Node(node) if self.chosen == Some(at) => self.block(&node.block, &Context::outermost(NODE)),
+            Item::Node(_) | Item::Definition(_) => Ok(()),
+        }
+    }
+
+    pub fn finished(&self) -> Finished {
+        Finished {
+            length: self.catalog.length(),
+            steps: self.steps,
+        }
+    }
 }
 
 /// "The first node item naming the device, or else the first default one",
@@ -147,25 +163,12 @@ fn chosen_node(tree: &Tree, device: &[u8]) -> Option<usize> {
     naming.or_else(default)
 }
 
-/// Definitions and small parts.
+/// Small parts.
 impl<'t, W: Watch> Machine<'t, '_, W> {
-    /// Refusal 8, met when the item runs; "classes and types share one set of
-    /// names".
-    fn define(&mut self, definition: &'t Definition) -> Result<(), Refusal> {
-        let name = usize::from(definition.name);
-        if self.built_in[name] || self.defined[name].is_some() {
-            return Err(Reason::DefinedAgain.at(definition.place));
-        }
-        self.defined[name] = Some(definition);
-        Ok(())
-    }
-
-    /// The class or type of that name defined so far; 9 also for "a name of
-    /// the other sort".
+    /// The class or type of that name, wherever it stands; 9 if the whole
+    /// manifest defines none, also for "a name of the other sort".
     fn find(&self, name: Name, sort: Sort, place: Place) -> Result<&'t Definition, Refusal> {
-        self.defined[usize::from(name)]
-            .filter(|definition| definition.sort == sort)
-            .ok_or(Reason::Unknown.at(place))
+        self.definitions.find(name, sort).ok_or(Reason::Unknown.at(place))
     }
 
     fn declared(&self, class: Name) -> Option<ScopeId> {
@@ -282,7 +285,7 @@ impl<'t, W: Watch> Machine<'t, '_, W> {
     ) -> Result<(), Refusal> {
         let (title, labels) = self.text(&resource.title, context.scope)?;
         let values = self.values(&resource.attributes, context.scope)?;
-        if !self.built_in[usize::from(resource.kind)] {
+        if !self.definitions.is_built_in(resource.kind) {
             return Err(Reason::Unknown.at(place));
         }
         if self.catalog.contains(resource.kind, title) {
@@ -562,8 +565,8 @@ impl<W: Watch> Machine<'_, '_, W> {
         }
     }
 
-    /// Reading 17: 9 for a class not defined so far or a type; 13 for one not
-    /// declared.
+    /// Reading 17: 9 for a class not defined in the whole manifest or a type; 13
+    /// for one not declared, also if it is defined later.
     fn class_variable(&self, class: Name, name: Name, place: Place) -> Result<Labelled, Refusal> {
         self.find(class, Sort::Class, place)?;
         self.declared(class)
@@ -571,8 +574,8 @@ impl<W: Watch> Machine<'_, '_, W> {
             .ok_or(Reason::NoValue.at(place))
     }
 
-    /// Reading 18: the title and its kind, then 9, then 19. "an attribute
-    /// read's is title expression and attribute".
+    /// Reading 18: the title and its kind, then 9, then 19, also for a type
+    /// defined later. "an attribute read's is title expression and attribute".
     fn attribute_read(
         &self,
         kind: Name,
@@ -582,7 +585,7 @@ impl<W: Watch> Machine<'_, '_, W> {
         place: Place,
     ) -> Result<Labelled, Refusal> {
         let (title, labels) = self.text(title, scope)?;
-        if !self.built_in[usize::from(kind)] {
+        if !self.definitions.is_built_in(kind) {
             self.find(kind, Sort::Type, place)?;
         }
         self.catalog

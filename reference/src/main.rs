@@ -1,9 +1,10 @@
 //! The program made apart: device catalogs from a manifest, with label sets.
 //!
 //! It implements the scope paper (document 01), what is asked first in document
-//! 02 (default goes last, manifests as people write them, why a line counts) and
-//! our readings of both, and shares nothing with the compiler it is compared
-//! with. Plain Rust, edition 2021, the standard library only.
+//! 02 (default goes last, manifests as people write them, why a line counts,
+//! definitions anywhere) and our readings of both, and shares nothing with the
+//! compiler it is compared with. Plain Rust, edition 2021, the standard library
+//! only.
 //!
 //! Building, either way:
 //!
@@ -25,6 +26,7 @@
 //! reference schedule < input        device, line feed, manifest in; the schedule out
 //! reference batch < cases           a case to a line in; an answer to a line out
 //! reference default-last < cases    those whose answer rests on a default being tried last
+//! reference used-early < cases      those whose answer rests on definitions counting anywhere
 //! reference generate SEED COUNT     random cases in batch format
 //! reference histogram SEED COUNT    how often each outcome occurs among them
 //! reference time SEED COUNT         nanoseconds per compile of them
@@ -67,12 +69,14 @@
 //!
 //! The modules, from the bottom: `answer` (answers, the 23 reasons and 27),
 //! `labels`, `tree` (the fields once read), `reader` (refusals 3, 4 and 5),
-//! `catalog`, `watch` (who looks on), `scopes`, `machine` (how a manifest runs),
-//! `compile` (the call), `schedule` (the printer). For tests and random cases:
-//! `assemble` (manifests from nested fields), `random`, `program`, `shapes`,
-//! `generate`, `special` (named inputs), `case` (batch lines), `default_last`
-//! (which cases tell that a default is tried last), `modes` (what the arguments
-//! ask for).
+//! `definitions` (those of the whole manifest, refusal 8), `catalog`, `watch`
+//! (who looks on), `scopes`, `machine` (how a manifest runs), `compile` (the
+//! call), `schedule` (the printer). For tests and random cases: `assemble`
+//! (manifests from nested fields), `random`, `program`, `shapes`, `arrange`
+//! (where definitions stand), `generate`, `special` and `named_definitions`
+//! (named inputs), `case` (batch lines), `default_last` (which cases tell that a
+//! default is tried last), `used_early` (which tell that definitions may stand
+//! anywhere), `modes` (what the arguments ask for).
 //!
 //! The text notation: `text_answer` (answers, refusals 24 to 26), `lexer`
 //! (tokens), `converter`, `walk` (a manifest's fields by offset), `printer`. For
@@ -83,21 +87,25 @@
 //!
 //! Questions: `why` (the call). For tests and random cases: `why_shapes`
 //! (manifests to ask about), `why_generate`, `why_tally` (what the answers
-//! show), `why_named`, `why_places`, `why_large` (named questions: parts and
-//! refusals, places, large ones), `why_case` (lines), `why_modes`.
+//! show), `why_named`, `why_places`, `why_definitions`, `why_large` (named
+//! questions: parts and refusals, places, definitions, large ones), `why_case`
+//! (lines), `why_modes`.
 
 mod answer;
+mod arrange;
 mod assemble;
 mod case;
 mod catalog;
 mod compile;
 mod converter;
 mod default_last;
+mod definitions;
 mod generate;
 mod labels;
 mod lexer;
 mod machine;
 mod modes;
+mod named_definitions;
 mod printer;
 mod program;
 mod random;
@@ -116,10 +124,12 @@ mod text_random;
 mod text_trees;
 mod text_trips;
 mod tree;
+mod used_early;
 mod walk;
 mod watch;
 mod why;
 mod why_case;
+mod why_definitions;
 mod why_generate;
 mod why_large;
 mod why_modes;

@@ -8,16 +8,19 @@ use crate::default_last;
 use crate::generate::cases;
 use crate::labels::Labels;
 use crate::schedule::schedule;
-use crate::special::{named, NAMED};
+use crate::special::{all_named, named};
 use crate::text_case::Call;
 use crate::text_modes;
+use crate::used_early;
+use crate::walk;
 use crate::why_modes;
+use std::collections::BTreeMap;
 use std::io::{self, BufRead, BufWriter, Read, Write};
 use std::time::{Duration, Instant};
 
-const USAGE: &str = "use: reference schedule | batch | default-last | generate SEED COUNT | \
-                     histogram SEED COUNT | time SEED COUNT | named NAME | named --list | \
-                     time-named [NAME] | convert | print | text-batch | \
+const USAGE: &str = "use: reference schedule | batch | default-last | used-early | \
+                     generate SEED COUNT | histogram SEED COUNT | time SEED COUNT | \
+                     named NAME | named --list | time-named [NAME] | convert | print | text-batch | \
                      text-generate SEED COUNT | text-histogram SEED COUNT | \
                      round-trip SEED COUNT | text-named NAME | text-named --list | \
                      time-text [NAME] | why-batch | why-generate SEED COUNT | \
@@ -29,13 +32,14 @@ pub fn run(arguments: &[String]) -> Result<(), String> {
     let done = match words[..] {
         ["schedule"] => print_schedule(),
         ["batch"] => return batch(),
-        ["default-last"] => return print_telling(),
+        ["default-last"] => return print_telling(default_last::tells),
+        ["used-early"] => return print_telling(used_early::tells),
         ["generate", seed, count] => generate(number(seed)?, number(count)?),
         ["histogram", seed, count] => return histogram(number(seed)?, number(count)?),
         ["time", seed, count] => return time(number(seed)?, number(count)?),
         ["named", "--list"] => list_names(),
         ["named", name] => print_named(&find(name)?),
-        ["time-named"] => return NAMED.iter().try_for_each(|(name, _)| time_named(name)),
+        ["time-named"] => return all_named().try_for_each(|(name, _)| time_named(name)),
         ["time-named", name] => return time_named(name),
         ["convert"] => return text_modes::one(Call::Convert),
         ["print"] => return text_modes::one(Call::Print),
@@ -106,9 +110,9 @@ fn batch() -> Result<(), String> {
     })
 }
 
-/// Writes again the lines of those cases that tell that a default is tried last.
-fn print_telling() -> Result<(), String> {
-    each_case(|case| Ok(default_last::tells(case).then(|| case.line())))
+/// Writes again the lines of those cases that tell that a rule is kept.
+fn print_telling(tells: fn(&Case) -> bool) -> Result<(), String> {
+    each_case(|case| Ok(tells(case).then(|| case.line())))
 }
 
 fn generate(seed: u64, count: u64) -> io::Result<()> {
@@ -121,7 +125,7 @@ fn generate(seed: u64, count: u64) -> io::Result<()> {
 
 fn list_names() -> io::Result<()> {
     let mut out = io::stdout().lock();
-    for (name, _) in NAMED {
+    for (name, _) in all_named() {
         writeln!(out, "{name}")?;
     }
     Ok(())
@@ -139,6 +143,12 @@ pub struct Tally {
     pub refused: [u64; 24],
     pub with_entries: u64,
     pub with_several_labels: u64,
+    /// Those accepted that hold a 27, 28 or 29, and of these the ones that use a
+    /// definition before it stands.
+    pub declaring: u64,
+    pub declaring_early: u64,
+    /// By the tag of the first such use, accepted or not.
+    pub early: BTreeMap<u8, u64>,
     entries: u64,
     attributes: u64,
     labels: u64,
@@ -151,6 +161,7 @@ impl Tally {
         for case in cases(seed, count) {
             let (answer, bytes) = case.compile()?;
             tally.add(&answer, &bytes)?;
+            tally.add_early(&case, &answer);
         }
         Ok(tally)
     }
@@ -177,6 +188,21 @@ impl Tally {
             }
         }
         Ok(())
+    }
+
+    fn add_early(&mut self, case: &Case, answer: &Answer) {
+        let first = used_early::first_use(case);
+        if let Some(tag) = first {
+            *self.early.entry(tag).or_insert(0) += 1;
+        }
+        let declares = || {
+            let fields = walk::fields(&case.manifest);
+            fields.iter().any(|field| matches!(field.tag, 0x27..=0x29))
+        };
+        if matches!(answer, Answer::Catalog { .. }) && declares() {
+            self.declaring += 1;
+            self.declaring_early += u64::from(first.is_some());
+        }
     }
 }
 
@@ -205,6 +231,15 @@ fn histogram(seed: u64, count: u64) -> Result<(), String> {
     say(format!("  mean attributes {:.2}", mean(tally.attributes)))?;
     say(format!("  mean different labels {:.2}", mean(tally.labels)))?;
     say(format!("  mean steps {:.2}", mean(tally.steps)))?;
+    say(format!(
+        "  with a 27, 28 or 29 {}, of them using a definition before it stands {:.1}%",
+        tally.declaring,
+        share(tally.declaring_early, tally.declaring)
+    ))?;
+    say("first uses of a definition before it stands:".to_string())?;
+    for (tag, times) in &tally.early {
+        say(format!("  by {tag:02X} {times} ({:.2}%)", share(*times, count)))?;
+    }
     Ok(())
 }
 

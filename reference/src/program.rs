@@ -1,7 +1,8 @@
 //! Random manifests that mean something: what they read was mostly assigned,
-//! what they declare was mostly defined. A sloppiness says how often a choice
-//! is made without regard to that.
+//! what they declare is mostly defined somewhere. A sloppiness says how often a
+//! choice is made without regard to that.
 
+use crate::arrange::arrange;
 use crate::assemble::*;
 use crate::random::Random;
 use std::collections::BTreeSet;
@@ -23,7 +24,7 @@ const BOOLEANS: [Word; 4] = ["late", "member", "open", "peak"];
 const ATTRIBUTES: [Word; 8] = [
     "fee", "from", "open", "price", "screens", "sign", "title", "until",
 ];
-const KINDS: [Word; 8] = [
+pub const KINDS: [Word; 8] = [
     "kiosk", "tablet", "printer", "scanner", "gate", "screen", "plan", "wall",
 ];
 const CLASSES: [Word; 6] = ["billing", "climbing", "desk", "extras", "gates", "walls"];
@@ -148,7 +149,8 @@ pub fn program(random: &mut Random, sloppiness: usize) -> Manifest {
     }
     items.extend((0..devices).map(|_| program.node_item(&env)));
     program.disorder(&mut items);
-    let manifest = Manifest::new(items);
+    let mut manifest = Manifest::new(items);
+    arrange(program.random, &mut manifest);
     match program.random.chance(800) {
         true => manifest.with("title").with("desk"),
         false => manifest,
@@ -216,7 +218,7 @@ impl<'r> Program<'r> {
         let classes = self.random.below(CLASSES.len());
         let types = self.random.below(TYPES.len());
         let mut sorts: Vec<bool> = (0..classes + types).map(|at| at < classes).collect();
-        self.shuffle(&mut sorts);
+        self.random.shuffle(&mut sorts);
         sorts
             .into_iter()
             .map(|class| {
@@ -229,7 +231,8 @@ impl<'r> Program<'r> {
             .collect()
     }
 
-    /// Sometimes moves an item, so that a use may come before its definition.
+    /// Sometimes moves an item, so that a read may come before its assignment,
+    /// or has one twice.
     fn disorder(&mut self, items: &mut Vec<Field>) {
         if self.random.chance(50) || self.sloppy() {
             let item = items.remove(self.random.below(items.len()));
@@ -239,12 +242,6 @@ impl<'r> Program<'r> {
         if self.sloppy() {
             let item = items[self.random.below(items.len())].clone();
             items.push(item);
-        }
-    }
-
-    fn shuffle<T>(&mut self, list: &mut [T]) {
-        for at in (1..list.len()).rev() {
-            list.swap(at, self.random.below(at + 1));
         }
     }
 
@@ -559,7 +556,7 @@ impl Program<'_> {
                 values.push(given(name, self.expression(kind_of(name), env, 2)));
             }
         }
-        self.shuffle(&mut values);
+        self.random.shuffle(&mut values);
         if self.sloppy() {
             let name = self.any_variable();
             values.push(given(name, self.expression(kind_of(name), env, 2)));

@@ -1,14 +1,17 @@
 //! Random manifests of particular shapes, each aimed at rules that a random
 //! program seldom comes near.
 
+use crate::arrange::{arrange, scatter};
 use crate::assemble::*;
 use crate::program::{any_constant, place_defaults, stray_statement};
 use crate::random::Random;
 
-/// One of the shapes.
+/// One of the shapes, its definitions anywhere.
 pub fn shape(random: &mut Random) -> Manifest {
-    let number = random.weighted(&[5, 5, 6, 4, 4, 10, 1, 1, 16, 9, 7, 8]);
-    numbered(number, random)
+    let number = random.weighted(&[5, 5, 6, 4, 4, 10, 1, 1, 16, 9, 7, 8, 12]);
+    let mut manifest = numbered(number, random);
+    arrange(random, &mut manifest);
+    manifest
 }
 
 /// The shape of that number.
@@ -25,7 +28,8 @@ fn numbered(number: usize, random: &mut Random) -> Manifest {
         8 => crowded(random),
         9 => marked_reads(random),
         10 => bases(random),
-        _ => choices(random),
+        11 => choices(random),
+        _ => joined(random),
     }
 }
 
@@ -153,14 +157,7 @@ fn counting(random: &mut Random) -> Manifest {
 fn links(random: &mut Random) -> Manifest {
     let length = random.between(8, 18);
     let mut items = Vec::new();
-    let mut statement = match random.chance(300) {
-        true => stray_statement(random),
-        false => built_in(
-            "wall",
-            text(random.label(), "end"),
-            vec![given("price", any_constant(random))],
-        ),
-    };
+    let mut statement = end_of_links(random);
     let mut above: Option<String> = None;
     for at in 0..length {
         let name = format!("c{at:02}");
@@ -189,10 +186,15 @@ fn links(random: &mut Random) -> Manifest {
     }
     items.push(statement);
     items.push(built_in("kiosk", text(random.label(), "last"), vec![]));
-    if random.chance(100) {
-        items.swap(0, length / 2);
-    }
     Manifest::new(items)
+}
+
+fn end_of_links(random: &mut Random) -> Field {
+    if random.chance(300) {
+        return stray_statement(random);
+    }
+    let price = given("price", any_constant(random));
+    built_in("wall", text(random.label(), "end"), vec![price])
 }
 
 /// About 512 cells, of values, of marks, in classes and in type bodies.
@@ -763,5 +765,107 @@ fn choice(random: &mut Random, title: &str) -> Vec<Field> {
         1 => vec![include("quiet")],
         2 => vec![assign(title, any_constant(random))],
         _ => vec![built_in("wall", text(random.label(), title), vec![])],
+    }
+}
+
+const OFFICES: [&str; 4] = ["office", "north", "east", "south"];
+
+/// Desk files joined in any order: what one defines others use, by every form
+/// that names a class or a type.
+fn joined(random: &mut Random) -> Manifest {
+    let mut definitions = office_classes(random);
+    definitions.extend(desk_types(random));
+    let mut items = vec![
+        assign("on", boolean(random.label(), random.chance(500))),
+        assign("rate", int(random.label(), 1)),
+    ];
+    let mut declared = Vec::new();
+    let mut uses: Vec<Field> = (0..random.between(2, 6))
+        .map(|at| desk_use(random, at, &mut declared))
+        .collect();
+    if random.chance(300) {
+        uses = vec![node_default(uses)];
+    }
+    items.extend(uses);
+    items.extend(definitions);
+    let mut manifest = Manifest::new(items);
+    scatter(random, &mut manifest);
+    manifest
+}
+
+/// Each class may inherit one before it; its body shows what it reads.
+fn office_classes(random: &mut Random) -> Vec<Field> {
+    let mut classes = Vec::new();
+    for (at, name) in OFFICES.into_iter().enumerate() {
+        let inherits = at > 0 && random.chance(600);
+        let above = inherits.then(|| parent(OFFICES[random.below(at)]));
+        let mut body = vec![
+            assign("rate", binary(ADD, var("fee"), int(random.label(), 1))),
+            built_in(
+                "wall",
+                text(random.label(), name),
+                vec![given("rate", var("rate"))],
+            ),
+        ];
+        if random.chance(400) {
+            let booth = defined("booth", text(random.label(), format!("of {name}")), vec![]);
+            body.push(maybe_on(random, booth));
+        }
+        let fee = parameter("fee", Some(int(random.label(), at as i64)));
+        classes.push(class_definition(name, above, vec![fee], body));
+    }
+    classes
+}
+
+/// A type that shows its fee, and one that declares it.
+fn desk_types(random: &mut Random) -> [Field; 2] {
+    let plan = built_in("plan", var("title"), vec![given("fee", var("fee"))]);
+    let booth = defined("booth", var("title"), vec![given("fee", var("rate"))]);
+    let fee = |random: &mut Random| vec![parameter("fee", Some(int(random.label(), 9)))];
+    let (of_booth, of_corner) = (fee(random), fee(random));
+    [
+        type_definition("booth", of_booth, vec![maybe_on(random, plan)]),
+        type_definition("corner", of_corner, vec![maybe_on(random, booth)]),
+    ]
+}
+
+fn maybe_on(random: &mut Random, statement: Field) -> Field {
+    match random.below(4) {
+        0 => if_else(var("on"), vec![statement], vec![]),
+        1 => if_else(boolean(random.label(), true), vec![statement], vec![]),
+        _ => statement,
+    }
+}
+
+/// A declaration, or a read of a class that is mostly declared already; now and
+/// then an 18 of a type, which is always refused.
+fn desk_use(random: &mut Random, at: usize, declared: &mut Vec<&'static str>) -> Field {
+    let title = text(random.label(), format!("use {at}"));
+    let class = random.pick(&OFFICES);
+    match random.below(12) {
+        0..=3 => {
+            declared.push(class);
+            let used = include(class);
+            maybe_on(random, used)
+        }
+        4 | 5 if !declared.contains(&class) => {
+            declared.push(class);
+            class_with(class, vec![given("fee", int(random.label(), 30))])
+        }
+        6 | 7 => {
+            let used = defined(random.pick(&["booth", "corner"]), title, vec![]);
+            maybe_on(random, used)
+        }
+        8 if random.chance(700) => {
+            let read = attribute_of(random.pick(&["booth", "corner"]), "fee", title.clone());
+            built_in("gate", title, vec![given("fee", read)])
+        }
+        _ => {
+            let class = match declared.is_empty() || random.chance(60) {
+                true => class,
+                false => random.pick(declared),
+            };
+            built_in("gate", title, vec![given("rate", class_var(class, "rate"))])
+        }
     }
 }

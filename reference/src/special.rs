@@ -3,12 +3,13 @@
 
 use crate::assemble::*;
 use crate::case::Case;
+use crate::named_definitions::ON_DEFINITIONS;
 
 /// A name and how its input is made.
-type Named = (&'static str, fn() -> Case);
+pub type Named = (&'static str, fn() -> Case);
 
-/// Every named input, in order.
-pub const NAMED: [Named; 62] = [
+/// Every named input but those on definitions, in order.
+const NAMED: [Named; 63] = [
     ("schedule", || ordinary(whole_schedule(false))),
     ("schedule-peak-true", || ordinary(whole_schedule(true))),
     ("schedule-limit-4", || limited(whole_schedule(false), 4)),
@@ -105,21 +106,27 @@ pub const NAMED: [Named; 62] = [
     ("time-steps-refused", || limited(many_steps(), 65_534)),
     ("time-refused-late-3", || refused_late(Late::Field)),
     ("time-refused-late-5", || refused_late(Late::Name)),
+    ("time-refused-late-8", || refused_late(Late::Again)),
     ("time-refused-late-13", || refused_late(Late::Read)),
     ("time-largest-accepted", || refused_late(Late::Never)),
 ];
 
+/// Every named input, in order.
+pub fn all_named() -> impl Iterator<Item = Named> {
+    NAMED.into_iter().chain(ON_DEFINITIONS)
+}
+
 /// The named input, if there is one.
 pub fn named(name: &str) -> Option<Case> {
-    let (_, make) = NAMED.iter().find(|(known, _)| *known == name)?;
+    let (_, make) = all_named().find(|(known, _)| *known == name)?;
     Some(make())
 }
 
-fn ordinary(manifest: Manifest) -> Case {
+pub fn ordinary(manifest: Manifest) -> Case {
     Case::of(manifest.build().bytes)
 }
 
-fn limited(manifest: Manifest, limit: u16) -> Case {
+pub fn limited(manifest: Manifest, limit: u16) -> Case {
     Case {
         limit,
         ..ordinary(manifest)
@@ -253,7 +260,7 @@ pub fn by_case(choices: Choices) -> Manifest {
     Manifest::new(vec![case(int(2, 7), arms), front(var("x"))])
 }
 
-fn front(value: Field) -> Field {
+pub fn front(value: Field) -> Field {
     built_in("kiosk", text(1, "front"), vec![given("x", value)])
 }
 
@@ -364,7 +371,7 @@ pub fn second_default_cells(count: usize) -> Manifest {
 
 /// Runs a type body 2^levels times: each type declares the next twice, and the
 /// last one has the body.
-fn repeated(levels: usize, mut definitions: Vec<Field>, body: Vec<Field>) -> Manifest {
+pub fn repeated(levels: usize, mut definitions: Vec<Field>, body: Vec<Field>) -> Manifest {
     let kind = |at: usize| format!("t{at:02}");
     let declare = |at: usize| defined(kind(at), text(1, "x"), vec![]);
     definitions.extend((0..levels).map(|at| {
@@ -378,7 +385,7 @@ fn repeated(levels: usize, mut definitions: Vec<Field>, body: Vec<Field>) -> Man
 }
 
 /// A balanced tree of "=" over the given leaves.
-fn balanced(mut leaves: Vec<Field>) -> Field {
+pub fn balanced(mut leaves: Vec<Field>) -> Field {
     while leaves.len() > 1 {
         let mut above = Vec::with_capacity(leaves.len() / 2 + 1);
         let mut rest = leaves.into_iter();
@@ -468,7 +475,7 @@ fn attribute_reads() -> Manifest {
 
 /// Exactly 65,535 steps: 32,767 declarations of types, and an assignment and an
 /// if in each of the 16,384 last bodies.
-fn many_steps() -> Manifest {
+pub fn many_steps() -> Manifest {
     let body = vec![
         assign("y", var("title")),
         if_else(boolean(3, true), vec![], vec![]),
@@ -484,6 +491,7 @@ fn many_steps() -> Manifest {
 enum Late {
     Field,
     Name,
+    Again,
     Read,
     Never,
 }
@@ -498,6 +506,7 @@ fn refused_late(fault: Late) -> Case {
             Late::Never => include("c"),
             Late::Field => include("c").length(3),
             Late::Name => Field::new(0x29).bytes(&[0xFF, 0xFF]),
+            Late::Again => class_definition("c", None, vec![], vec![]),
             Late::Read => assign("y", var("none")),
         });
         Manifest::new(items).with("z".repeat(padding)).build().bytes

@@ -1,5 +1,6 @@
 //! Random questions.
 
+use crate::arrange::define_again;
 use crate::assemble::Manifest;
 use crate::compile;
 use crate::generate::{damaged, whole_program};
@@ -78,10 +79,13 @@ fn relabelled(random: &mut Random, make: fn(&mut Random) -> Manifest) -> Manifes
 
 /// A manifest that is often refused, and strings of its table.
 fn careless(random: &mut Random) -> WhyCase {
-    let manifest = match random.chance(500) {
+    let mut manifest = match random.chance(500) {
         true => whole_program(random),
         false => shape(random),
     };
+    if random.chance(120) {
+        define_again(random, &mut manifest);
+    }
     let bytes = match random.chance(400) {
         true => damaged(random, manifest),
         false => manifest.build().bytes,

@@ -5,6 +5,7 @@
 use crate::assemble::*;
 use crate::compile::LEAST_MEMORY;
 use crate::why_case::WhyCase;
+use crate::why_definitions::*;
 use crate::why_large::*;
 use crate::why_places::*;
 
@@ -38,7 +39,7 @@ impl Asking {
 type WhyNamed = (&'static str, fn() -> Asking);
 
 /// Every named question, in order.
-pub const WHY_NAMED: [WhyNamed; 104] = [
+pub const WHY_NAMED: [WhyNamed; 112] = [
     ("part-title", part_title),
     ("part-title-mark", part_title_mark),
     ("part-path", part_path),
@@ -150,6 +151,14 @@ pub const WHY_NAMED: [WhyNamed; 104] = [
     ("refused-field", refused_field),
     ("refused-after-resource", refused_after_resource),
     ("refused-before-27", refused_before_27),
+    ("part-value-class-later", part_value_class_later),
+    ("part-value-default-later", part_value_default_later),
+    ("part-path-class-later", part_path_class_later),
+    ("met-class-later", met_class_later),
+    ("unmet-class-later", unmet_class_later),
+    ("no-resource-of-later-type", no_resource_of_later_type),
+    ("refused-twice", refused_twice),
+    ("refused-twice-before-run", refused_twice_before_run),
     ("large-one-label", large_one_label),
     ("large-steps", large_steps),
 ];

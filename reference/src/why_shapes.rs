@@ -1,6 +1,7 @@
 //! Random manifests to ask about: few statements with constants that are met
 //! and constants that are not, around resources whose sets have every part.
 
+use crate::arrange::arrange;
 use crate::assemble::*;
 use crate::random::Random;
 
@@ -11,8 +12,7 @@ pub fn counted(random: &mut Random) -> Manifest {
     let mut items = maker.variables();
     let definitions = maker.definitions();
     // In front their constants have the lowest places, met or not.
-    let at = if maker.random.chance(600) { 0 } else { items.len() };
-    items.splice(at..at, definitions);
+    items.splice(0..0, definitions);
     let mut uses = maker.uses();
     for _ in 0..maker.random.between(1, 3) {
         let at = maker.random.below(uses.len() + 1);
@@ -33,6 +33,7 @@ pub fn counted(random: &mut Random) -> Manifest {
         _ => items.extend(uses),
     }
     let mut manifest = Manifest::new(items);
+    arrange(random, &mut manifest);
     relabel(random, &mut manifest);
     manifest
 }

@@ -1,4 +1,4 @@
--- One law for each way through `define`, `is_chosen`, `run_item`, `run_items` and `run_manifest`. Assumes nothing.
+-- One law for each way through `is_chosen`, `run_item`, `run_items` and `run_prepared`. Assumes nothing.
 use Prim.Native.Nat.{ℕ, _+_, _-_, _%_, _<_, _≤_}
 use mathlib.Core.Path.{_≡_, refl, sym, ap, _∙_}
 use mathlib.Core.Logic.{_⊎_, inl, inr}
@@ -10,23 +10,21 @@ use lib.Dec.{eqb}
 use lib.ListN.{length}
 use borrow.Author.Tests.{ne-eqb, eq-eqb}
 use Rattle.values.specs.declared.Refusal.{Refusal}
-use Rattle.values.specs.Refusals.{refusalAt}
-use Rattle.values.specs.declared.Reason.the-variants.{DefinedAgain}
-use Rattle.wire.specs.Bytes.{byte, two, endOf, fieldsIn}
+use Rattle.wire.specs.Bytes.{byte, endOf, fieldsIn}
 use Rattle.rules.specs.Format.{allowed}
-use Rattle.rules.specs.Check.{stringPlaces, check}
-use Rattle.rules.specs.Outcome.{Outcome, refused, done, _>>=_, refuseIf}
+use Rattle.rules.specs.Check.{check}
+use Rattle.rules.specs.Outcome.{Outcome, refused, done, _>>=_}
 use Rattle.rules.specs.Tree.{Definition, end, next, Item, node, definition, Statement, Constant}
 use Rattle.rules.specs.State.{Entry, State, Context, Known, takeStep}
-use Rattle.rules.specs.Run.{statementPlace, run, runBlock, declaration, runAtTop, topContext, nodeContext, definedName, definedPlace, isTaken, withDefinition, runItems}
+use Rattle.rules.specs.Run.{statementPlace, run, runBlock, declaration, runAtTop, topContext, nodeContext, gatherDefinitions, runItems}
 use Rattle.rules.specs.Fields.{readEach, readField}
 use Rattle.rules.specs.Read.{itemsFrom, manifestOf}
-use Rattle.rules.specs.Compile.{knownFirst, roomIn, start, runManifest, onto, entriesInOrder}
+use Rattle.rules.specs.Compile.{isBuiltIn, knownWith, itemsFor, roomIn, start, runManifest, onto, entriesInOrder}
 use Rattle.rules.specs.declared.Kind.the-variants.{Statement as StatementKind, Item as ItemKind}
 use Rattle.rules.specs.declared.Verdict.the-variants.{Sound}
 use Rattle.rules.proofs.Within.{false-not-true}
-use Rattle.places.specs.At.{statementAt, blockAt, itemAt, itemsAt, StandsAs, Siblings}
-use Rattle.places.proofs.Parts.{first-sibling}
+use Rattle.rules.proofs.Outcome.{bind-done}
+use Rattle.places.specs.At.{statementAt, blockAt, itemAt, itemsAt, StandsAs}
 use Rattle.places.proofs.Statements.{statement-place}
 use Rattle.places.proofs.Items.{statement-item, manifest-opens}
 use Rattle.syntax.specs.declared.Found.{Found}
@@ -34,7 +32,6 @@ use Rattle.syntax.specs.declared.Found.the-variants.{At, Nothing}
 use Rattle.syntax.specs.Strings.{foundOf}
 use Rattle.syntax.specs.Nodes.{itemPlaces, nodeFor, runsAt, running}
 use Rattle.syntax.proofs.NodesRead.{items-for}
-use Rattle.syntax.proofs.NamesKnown.{known-after, items-known}
 use Rattle.wire.proofs.Fields.{no-fields, field-first}
 use Rattle.cells.specs.Memory.{stateOf}
 use Rattle.memory.specs.Words.{askedType, askedTitle, askedName, askedLabel, noteWord}
@@ -45,15 +42,18 @@ use Rattle.provenance.proofs.Notes.{noted-same}
 use Rattle.catalog.specs.Finding.{Written}
 use Rattle.catalog_index.proofs.Keeping.{index-kept, index-none}
 use Rattle.evaluator.specs.Known.{KnownIn}
+use Rattle.evaluator.specs.Answers.{refusedBy}
 use Rattle.evaluator.proofs.Names.{ready-first}
 use Rattle.resources.specs.declared.Filled.{Filled}
 use Rattle.resources.specs.declared.Filled.the-variants.{Done, Refused}
-use Rattle.declarations.specs.Standing.{NamesKnown}
 use Rattle.execution.specs.Executed.{Able, Stage, stateWith, Ends, refusedSo as endsRefused, doneSo as endsDone, AbleAfter, Executes, begun}
 use Rattle.definitions.specs.Prepared.{Prepares, Blank, NodeBlock}
-use Rattle.definitions.specs.Defined.{ItemStands, IsDefinition, Defines}
+use Rattle.definitions.specs.declared.Gathered.{Gathered}
+use Rattle.definitions.specs.declared.Gathered.the-variants as Gathers
+use Rattle.definitions.specs.Defined.{ItemStands, IsDefinition, withDefinitions, OnlyNames, GathersTo, takenSo, knownSo}
 use Rattle.definitions.proofs.Definitions.{definition-there}
-use Rattle.compiler.specs.Running.{chosenOf, isChosen, DefinedSo, takenSo, knownSo, runPlaces, ItemsEnd, refusedSo, goesOn, RunsTo, RunEnds, RunsManifest}
+use Rattle.definitions.proofs.Gathering.{is-definition, ItemsFrom, items-first, items-after}
+use Rattle.compiler.specs.Running.{chosenOf, isChosen, runPlaces, ItemsEnd, refusedSo, goesOn, RunsTo, RunEnds, RunsManifest}
 use Rattle.compiler.specs.Running as specs
 
 -- ---- is_chosen
@@ -65,15 +65,6 @@ chosen-at p e = rw e refl
 pub chosen-none : (p : ℕ) {node : Found} → node ≡ Nothing → false ≡ isChosen (chosenOf node) p
 unfolding chosenOf isChosen
 chosen-none p e = rw e refl
-
--- ---- define
-
-module _ (m : List ℕ) (p : ℕ) (w : List ℕ) (fill : ℕ) {t : Bool} (told : (k : Known) → KnownIn m w k → t ≡ isTaken k (two m (p + 3))) where
-  pub defines-again : (w′ : List ℕ) {why : Refusal} → why ≡ refusalAt DefinedAgain p → t ≡ true → DefinedSo m p w w′ fill (Refused why)
-  defines-again w′ e h = rw e (takenSo (λ k i. sym (told k i) ∙ h))
-
-  pub defines : (w′ : List ℕ) → t ≡ false → Defines m p w w′ → DefinedSo m p w w′ fill (Done fill)
-  defines w′ h d = knownSo (λ k i. sym (told k i) ∙ h) d
 
 -- ---- Which items run
 
@@ -105,20 +96,20 @@ statement-kind t e a b c = rw (ne-eqb t 0x30 a, ne-eqb t 0x32 b, ne-eqb t 0x34 c
 -- ---- What comes after an item
 
 module _ {m w out : List ℕ} {left : ℕ} {c : Option ℕ} {ps : List ℕ} {k : Known} {ask : Question} {o : Outcome State} where
-  then-items : {a : Filled} → Ends m w out left k ask o a → ItemsEnd m w out left c ps ask (o >>= λ st. runPlaces m c ps k st) a
+  then-items : {a : Filled} → Ends m w out left k ask o a → ItemsEnd m w out left c ps k ask (o >>= λ st. runPlaces m c ps k st) a
   unfolding _>>=_
   then-items (endsRefused e) = refusedSo (ap (λ (x : Outcome State). x >>= λ st. runPlaces m c ps k st) e)
-  then-items (endsDone es e s) = goesOn k es (ap (λ (x : Outcome State). x >>= λ st. runPlaces m c ps k st) e) s
+  then-items (endsDone es e s) = goesOn es (ap (λ (x : Outcome State). x >>= λ st. runPlaces m c ps k st) e) s
 
-items-same : {m w out : List ℕ} {left : ℕ} {c : Option ℕ} {ps : List ℕ} {ask : Question} {o o′ : Outcome State} {a : Filled} → o ≡ o′ → ItemsEnd m w out left c ps ask o′ a → ItemsEnd m w out left c ps ask o a
+items-same : {m w out : List ℕ} {left : ℕ} {c : Option ℕ} {ps : List ℕ} {k : Known} {ask : Question} {o o′ : Outcome State} {a : Filled} → o ≡ o′ → ItemsEnd m w out left c ps k ask o′ a → ItemsEnd m w out left c ps k ask o a
 items-same e i = rw e i
 
 -- ---- run_item
 
-bind-done : (o : Outcome State) → (o >>= λ st. done st) ≡ o
+bind-nothing : (o : Outcome State) → (o >>= λ st. done st) ≡ o
 unfolding _>>=_
-bind-done (refused r p) = refl
-bind-done (done st) = refl
+bind-nothing (refused r p) = refl
+bind-nothing (done st) = refl
 
 -- a statement outside others is a block of its own
 alone : (k : Known) (s : Statement) (p : ℕ) (c : Context) (st : State) → statementPlace s ≡ p → runAtTop k (next s end) c st ≡ begun 17 p s k c st
@@ -127,7 +118,7 @@ alone k s p c st e = ap (λ (q : ℕ). takeStep q st >>= λ st₁. run k (declar
   where
     go : (o : Outcome State) → (o >>= λ st₁. run k (declaration k 17) s c st₁ >>= λ st₂. done st₂) ≡ (o >>= λ st₁. run k (declaration k 17) s c st₁)
     go (refused r q) = unfold _>>=_ in refl
-    go (done st₁) = unfold _>>=_ in bind-done (run k (declaration k 17) s c st₁)
+    go (done st₁) = unfold _>>=_ in bind-nothing (run k (declaration k 17) s c st₁)
 
 not-true : (b : Bool) → not b ≡ true → b ≡ false
 not-true false e = refl
@@ -142,17 +133,13 @@ module _ (m : List ℕ) (p : ℕ) (s : ItemStands m p) {t : ℕ} (read : t ≡ b
   pub stands-statement : (t ≡ 0x30 → ⊥) → ((t ≡ 0x32) ⊎ (t ≡ 0x34) → ⊥) → StandsAs m 32 StatementKind p
   stands-statement x y = record { stands = s .stands .stands; kind = statement-kind (byte m p) (s .stands .kind) (λ e. x (read ∙ e)) (λ e. y (inl (read ∙ e))) (λ e. y (inr (read ∙ e))) }
 
-  pub is-definition : (t ≡ 0x32) ⊎ (t ≡ 0x34) → IsDefinition m p
-  is-definition (inl e) = inl (sym read ∙ e)
-  is-definition (inr e) = inr (sym read ∙ e)
-
 module _ (m : List ℕ) (p : ℕ) (c : Option ℕ) (w out : List ℕ) (fill left : ℕ) (able : Able m w out fill) (s : ItemStands m p) {t : ℕ} (read : t ≡ byte m p) where
   pub passes-over : {b : Bool} → t ≡ 0x30 → b ≡ isChosen c p → not b ≡ true → (ps : List ℕ) → RunsTo m w w out out fill left left c (p ∷ ps) ps (Done fill)
   unfolding AbleAfter
   passes-over e told h ps = record {
     able = able;
     steps = omega arith;
-    says = λ k ask es i. goesOn k es (passed-over m p c ps k (stateWith w out fill left es) (node-runs m p c (sym read ∙ e) ∙ sym told ∙ not-true _ h)) i;
+    says = λ k ask es i. goesOn es (passed-over m p c ps k (stateWith w out fill left es) (node-runs m p c (sym read ∙ e) ∙ sym told ∙ not-true _ h)) i;
   }
 
   pub runs-node : (w′ out′ : List ℕ) {left′ block : ℕ} {b : Bool} {a : Filled} → t ≡ 0x30 → b ≡ isChosen c p → not b ≡ false → NodeBlock m p block → Executes m w w′ out out′ fill left left′ nodeContext a (λ k. runBlock k (declaration k 17) (blockAt m 31 block)) → (ps : List ℕ) → RunsTo m w w′ out out′ fill left left′ c (p ∷ ps) ps a
@@ -175,58 +162,16 @@ module _ (m : List ℕ) (p : ℕ) (c : Option ℕ) (w out : List ℕ) (fill left
         items-same (here ∙ ap (λ (o : Outcome State). o >>= λ st′. runPlaces m c ps k st′) itself) (then-items (e .says k ask es i));
   }
 
--- a definition
-module _ (k : Known) (d : Definition) (is : List Item) (st : State) where
-  name-taken : isTaken k (definedName d) ≡ true → runItems k (definition d ∷ is) st ≡ refused DefinedAgain (definedPlace d)
-  unfolding runItems _>>=_ refuseIf
-  name-taken h = rw h refl
-
-  name-free : isTaken k (definedName d) ≡ false → runItems k (definition d ∷ is) st ≡ runItems (withDefinition d k) is st
-  unfolding runItems _>>=_ refuseIf
-  name-free h = rw h refl
-
-module _ (m : List ℕ) (p : ℕ) (c : Option ℕ) (w out : List ℕ) (fill left : ℕ) (able : Able m w out fill) (s : ItemStands m p) {t : ℕ} (read : t ≡ byte m p) where
-  not-node : IsDefinition m p → byte m p ≡ 0x30 → ⊥
-  not-node (inl e) h = let z : _≡_ {A = ℕ} 0x32 0x30 = sym e ∙ h in omega arith
-  not-node (inr e) h = let z : _≡_ {A = ℕ} 0x34 0x30 = sym e ∙ h in omega arith
-
-  -- the stage after a definition
-  stage-after : (w′ : List ℕ) (k : Known) (ask : Question) (es : List Entry) (d : Definition) → Defines m p w w′ → itemAt m p ≡ definition d → isTaken k (definedName d) ≡ false → Stage m w out fill k ask es → Stage m w′ out fill (withDefinition d k) ask es
-  stage-after w′ k ask es d x tree free i = record {
-    ready = record { catalog = i .ready .catalog; index = index-kept w w′ (onto es []) (x .rest) (i .ready .index); unique = i .ready .unique; known = x .known k d tree free (i .ready .known) };
-    title = unfold withDefinition in title-kept w w′ (x .rest) ∙ i .title;
-    noted = noted-same (λ j l. words-kept w w′ (x .rest) j) (i .noted);
-  }
-
-  pub runs-definition : (w′ : List ℕ) {a : Filled} → (t ≡ 0x32) ⊎ (t ≡ 0x34) → DefinedSo m p w w′ fill a → (ps : List ℕ) → RunsTo m w w′ out out fill left left c (p ∷ ps) ps a
-  unfolding AbleAfter runPlaces
-  runs-definition w′ tag (takenSo taken) ps =
-      let i = is-definition m p s read tag in
-      let d = definition-there m p s i in
-      let runs = other-runs m p c (not-node i) in
-      record {
-        able = tt;
-        steps = omega arith;
-        says = λ k ask es stage.
-            let st : State = stateWith w out fill left es in
-            let name = ap (isTaken k) (d .name) ∙ taken k (stage .ready .known) in
-            refusedSo (runs-here m p c ps k st runs (d .tree) ∙ name-taken k (d .read) (itemsAt m (running m c ps)) st name ∙ ap (λ (q : ℕ). refused DefinedAgain q) (d .place));
-      }
-  runs-definition w′ tag (knownSo free x) ps =
-      let i = is-definition m p s read tag in
-      let d = definition-there m p s i in
-      let runs = other-runs m p c (not-node i) in
-      record {
-        able = record { set = x .set; fine = x .fine (able .fine); filled = able .filled };
-        steps = omega arith;
-        says = λ k ask es stage.
-            let st : State = stateWith w out fill left es in
-            let name = ap (isTaken k) (d .name) ∙ free k (stage .ready .known) in
-            let same : stateWith w′ out fill left es ≡ st = x .state es left (roomIn (length out) - fill) in
-            goesOn (withDefinition (d .read) k) es
-            (runs-here m p c ps k st runs (d .tree) ∙ name-free k (d .read) (itemsAt m (running m c ps)) st name ∙ ap (runItems (withDefinition (d .read) k) (itemsAt m (running m c ps))) (sym same))
-            (stage-after w′ k ask es (d .read) x (d .tree) name stage);
-      }
+  -- a definition does nothing
+  pub passes-definition : (t ≡ 0x32) ⊎ (t ≡ 0x34) → (ps : List ℕ) → RunsTo m w w out out fill left left c (p ∷ ps) ps (Done fill)
+  unfolding AbleAfter runPlaces runItems
+  passes-definition tag ps =
+      let i = is-definition s read tag in
+      record { able = able; steps = omega arith; says = λ k ask es stage. goesOn es (runs-here m p c ps k (stateWith w out fill left es) (other-runs m p c (not-node i)) (definition-there m p s i .tree)) stage }
+    where
+      not-node : IsDefinition m p → byte m p ≡ 0x30 → ⊥
+      not-node (inl e) h = let z : _≡_ {A = ℕ} 0x32 0x30 = sym e ∙ h in omega arith
+      not-node (inr e) h = let z : _≡_ {A = ℕ} 0x34 0x30 = sym e ∙ h in omega arith
 
 -- ---- run_items
 
@@ -235,33 +180,26 @@ module _ {m w₀ w w′ out₀ out out′ : List ℕ} {f₀ l₀ f l l′ : ℕ}
   and-then : {a : Filled} → RunsTo m w₀ w out₀ out f₀ l₀ l c before between (Done f) → RunsTo m w w′ out out′ f l l′ c between after a → RunsTo m w₀ w′ out₀ out′ f₀ l₀ l′ c before after a
   and-then {a} x y = record { able = y .able; steps = let i = x .steps in let j = y .steps in omega arith; says = λ k ask es i. go (x .says k ask es i) }
     where
-      go : {ask : Question} {o : Outcome State} → ItemsEnd m w out l c between ask o (Done f) → ItemsEnd m w′ out′ l′ c after ask o a
-      go (goesOn k es e i) = items-same e (y .says k _ es i)
+      go : {k : Known} {ask : Question} {o : Outcome State} → ItemsEnd m w out l c between k ask o (Done f) → ItemsEnd m w′ out′ l′ c after k ask o a
+      go (goesOn es e i) = items-same e (y .says _ _ es i)
 
 -- up to the item at p all have run
 pub record Along (m w₀ w out₀ out : List ℕ) (l₀ l f : ℕ) (c : Option ℕ) (p : ℕ) : Type 0 where
   pub memory : length w ≡ length w₀
   pub output : length out ≡ length out₀
-  pub items : Siblings m 32 ItemKind p (length m)
-  pub names : NamesKnown m p
-  pub after : 0 < p
+  pub items : ItemsFrom m p
   pub runs : RunsTo m w₀ w out₀ out 0 l₀ l c (itemPlaces m) (fieldsIn m p (length m)) (Done f)
 
 pub items-begin : (m w out : List ℕ) (left : ℕ) (c : Option ℕ) {p : ℕ} → Able m w out 0 → check m ≡ Sound → p ≡ endOf m 0 → Along m w w out out left left 0 c p
 unfolding itemPlaces AbleAfter
-items-begin m w out left c able sound e = rw e (record {
+items-begin m w out left c able sound e = record {
   memory = refl;
   output = refl;
-  items = manifest-opens m sound .each;
-  names = items-known m sound;
-  after = omega arith;
-  runs = record { able = able; steps = omega arith; says = λ k ask es i. goesOn k es refl i };
-})
+  items = items-first m sound e;
+  runs = rw e (record { able = able; steps = omega arith; says = λ k ask es i. goesOn es refl i });
+}
 
 module _ {m w₀ w out₀ out : List ℕ} {l₀ l f : ℕ} {c : Option ℕ} {p : ℕ} (so : Along m w₀ w out₀ out l₀ l f c p) where
-  pub item-stands : p < length m → ItemStands m p
-  item-stands h = record { after = so .after; stands = first-sibling (so .items) h .here; names = so .names }
-
   pub still-able : Able m w out f
   still-able = unfold AbleAfter in so .runs .able
 
@@ -270,23 +208,13 @@ module _ {m w₀ w out₀ out : List ℕ} {l₀ l f : ℕ} {c : Option ℕ} {p :
     this-one = and-then (so .runs) (rw (field-first m p (length m) here) (x (fieldsIn m (endOf m p) (length m))))
 
     pub items-go-on : {g q : ℕ} → length w′ ≡ length w → length out′ ≡ length out → a ≡ Done g → q ≡ endOf m p → Along m w₀ w′ out₀ out′ l₀ l′ g c q
-    items-go-on mem o told ahead =
-        let i = first-sibling (so .items) here in
-        let st = i .here .stands in
-        rw ahead (record {
-          memory = mem ∙ so .memory;
-          output = o ∙ so .output;
-          items = i .after;
-          names = known-after m (length (stringPlaces m)) (length m) 32 p (st .sound) (st .ends) (so .names);
-          after = omega arith;
-          runs = rw told at this-one;
-        })
+    items-go-on mem o told ahead = record { memory = mem ∙ so .memory; output = o ∙ so .output; items = items-after (so .items) here ahead; runs = rw ahead (rw told at this-one) }
 
     pub items-refuse : {why : Refusal} → a ≡ Refused why → RunsTo m w₀ w′ out₀ out′ 0 l₀ l′ c (itemPlaces m) [] a
     unfolding AbleAfter
     items-refuse {why} told = rw told (record { able = tt; steps = this-one .steps; says = λ k ask es i. go (rw told at (this-one .says k ask es i)) })
       where
-        go : {ask : Question} {o : Outcome State} → ItemsEnd m w′ out′ l′ c (fieldsIn m (endOf m p) (length m)) ask o (Refused why) → ItemsEnd m w′ out′ l′ c [] ask o (Refused why)
+        go : {k : Known} {ask : Question} {o : Outcome State} → ItemsEnd m w′ out′ l′ c (fieldsIn m (endOf m p) (length m)) k ask o (Refused why) → ItemsEnd m w′ out′ l′ c [] k ask o (Refused why)
         go (refusedSo e) = refusedSo e
 
   pub items-done : length m ≤ p → RunsTo m w₀ w out₀ out 0 l₀ l c (itemPlaces m) [] (Done f)
@@ -296,7 +224,7 @@ module _ {m w₀ w out₀ out : List ℕ} {l₀ l f : ℕ} {c : Option ℕ} {p :
 pub items-refused : {m w w′ out out′ : List ℕ} {fill left left′ : ℕ} {c : Option ℕ} {from to : List ℕ} {a : Filled} {why : Refusal} → RunsTo m w w′ out out′ fill left left′ c from to a → a ≡ Refused why → RunsTo m w w′ out out′ fill left left′ c from to (Refused why)
 items-refused runs is = rw is at runs
 
--- ---- run_manifest
+-- ---- The first item, and none left
 
 items-read : (m : List ℕ) (qs : List ℕ) → itemsFrom (readEach (readField m 32) qs) ≡ itemsAt m qs
 unfolding itemsFrom itemsAt itemAt readEach
@@ -341,22 +269,72 @@ blank-noted b = record {
 pub prepared-able : {m w out : List ℕ} (s : Constant → Bool) → Prepares m w s → Able m w out 0
 prepared-able s p = record { set = p .set; fine = p .fine; filled = omega arith }
 
+-- ---- run_prepared
+
+pub gathered-able : {m w w₁ out : List ℕ} {g : Gathered} → Able m w out 0 → GathersTo m w w₁ (itemPlaces m) [] g → g ≡ Gathers.Done → Able m w₁ out 0
+gathered-able {m} {w} {w₁} {out} able x told = go (rw told at x)
+  where
+    go : GathersTo m w w₁ (itemPlaces m) [] Gathers.Done → Able m w₁ out 0
+    go (knownSo only says) = record { set = only .set; fine = only .fine (able .fine); filled = able .filled }
+
 module _ (m device w out : List ℕ) (left : ℕ) (sound : check m ≡ Sound) (s : Constant → Bool) (ask : Question) (ready : Prepares m w s) (noted : Noted w ask []) where
-  first-stage : Stage m w out 0 (knownFirst s (manifestOf m .strings)) ask []
-  first-stage = record { ready = ready-first m w out (ready .known) (index-none w (ready .index)); title = ready .title; noted = noted }
+  abbrev knowing : List Definition → Known
+  knowing ds = knownWith s (manifestOf m .strings) ds
 
-  first-state : stateWith w out 0 left [] ≡ start left (length out)
-  first-state = let all : roomIn (length out) - 0 ≡ roomIn (length out) = omega arith in ap (stateOf w [] left) all ∙ ready .state left (length out)
+  -- what the definition gathers
+  abbrev gathering : Outcome (List Definition)
+  gathering = gatherDefinitions (isBuiltIn (manifestOf m .strings)) [] (itemsAt m (itemPlaces m))
 
-  whole-run : {n : Found} → n ≡ foundOf (nodeFor m device) → runManifest s (manifestOf m) device left (length out) ≡ runPlaces m (chosenOf n) (itemPlaces m) (knownFirst s (manifestOf m .strings)) (stateWith w out 0 left [])
-  unfolding runManifest runPlaces
-  whole-run e = rw (items-for m device sound, items-read m (running m (nodeFor m device) (itemPlaces m)), e, chosen-found (nodeFor m device), first-state) refl
+  -- and what it does then
+  abbrev running-with : List Definition → Outcome State
+  running-with ds = runItems (knowing ds) (itemsFor (manifestOf m .strings) device (manifestOf m .items)) (start left (length out))
 
-  pub manifest-runs : (w′ out′ : List ℕ) {left′ : ℕ} {n : Found} {a : Filled} → n ≡ foundOf (nodeFor m device) → RunsTo m w w′ out out′ 0 left left′ (chosenOf n) (itemPlaces m) [] a → RunsManifest s ask m device w′ out out′ left left′ a
-  manifest-runs w′ out′ {left′} {n} e x = record { steps = x .steps; ends = go (x .able) (whole-run e) (x .says (knownFirst s (manifestOf m .strings)) ask [] first-stage) }
+  run-follows : runManifest s (manifestOf m) device left (length out) ≡ (gathering >>= running-with)
+  unfolding runManifest itemPlaces
+  run-follows = ap (λ (is : List Item). gatherDefinitions (isBuiltIn (manifestOf m .strings)) [] is >>= running-with) (manifest-opens m sound .items)
+
+  -- a name is taken
+  pub gathering-refused : (w′ : List ℕ) {g : Gathered} {why : Refusal} → GathersTo m w w′ (itemPlaces m) [] g → g ≡ Gathers.Refused why → RunsManifest s ask m device w′ out out left left (Refused why)
+  unfolding knownWith _>>=_
+  gathering-refused w′ {why = why} x told = record { steps = omega arith; ends = specs.refusedSo (run-follows ∙ go (rw told at x)) }
     where
-      go : {a : Filled} {o o′ : Outcome State} → AbleAfter m w′ out′ a → o′ ≡ o → ItemsEnd m w′ out′ left′ (chosenOf n) [] ask o a → RunEnds w′ out′ left′ ask o′ a
-      go able same (refusedSo h) = specs.refusedSo (same ∙ h)
-      go able same (goesOn {f = f} k es h i) =
-          let st : State = stateWith w′ out′ f left′ es in
-          specs.doneSo st (same ∙ h ∙ none-left m (chosenOf n) k st) (state-steps w′ out′ f left′ es) (state-written w′ out′ f left′ es (i .ready .catalog)) (unfold AbleAfter in able .filled) (note-left w′ out′ f left′ es ask (i .noted .note))
+      go : GathersTo m w w′ (itemPlaces m) [] (Gathers.Refused why) → (gathering >>= running-with) ≡ refusedBy why
+      go (takenSo refuses) = ap (λ (o : Outcome (List Definition)). o >>= running-with) (refuses (knowing []) (ready .known))
+
+  -- the definitions are known in w₁
+  module _ (w₁ : List ℕ) {g : Gathered} (x : GathersTo m w w₁ (itemPlaces m) [] g) (told : g ≡ Gathers.Done) where
+    record KnownThen : Type 0 where
+      only : OnlyNames m w w₁
+      definitions : List Definition
+      gathered : gathering ≡ done definitions
+      known : KnownIn m w₁ (knowing definitions)
+
+    known-then : KnownThen
+    unfolding knownWith withDefinitions gatherDefinitions itemsAt
+    known-then = go (rw told at x)
+      where
+        go : GathersTo m w w₁ (itemPlaces m) [] Gathers.Done → KnownThen
+        go (knownSo only says) = let y = says (knowing []) (ready .known) in record { only = only; definitions = y .definitions; gathered = y .left; known = y .known }
+
+    first-stage : Stage m w₁ out 0 (knowing (known-then .definitions)) ask []
+    first-stage = record {
+      ready = ready-first m w₁ out (known-then .known) (index-kept w w₁ [] (known-then .only .rest) (index-none w (ready .index)));
+      title = unfold knownWith in title-kept w w₁ (known-then .only .rest) ∙ ready .title;
+      noted = noted-same (λ j l. words-kept w w₁ (known-then .only .rest) j) noted;
+    }
+
+    first-state : stateWith w₁ out 0 left [] ≡ start left (length out)
+    first-state = let all : roomIn (length out) - 0 ≡ roomIn (length out) = omega arith in ap (stateOf w₁ [] left) all ∙ known-then .only .state [] left (roomIn (length out)) ∙ ready .state left (length out)
+
+    whole-run : {n : Found} → n ≡ foundOf (nodeFor m device) → runManifest s (manifestOf m) device left (length out) ≡ runPlaces m (chosenOf n) (itemPlaces m) (knowing (known-then .definitions)) (stateWith w₁ out 0 left [])
+    unfolding runPlaces
+    whole-run e = run-follows ∙ bind-done running-with (known-then .gathered) ∙ rw (items-for m device sound, items-read m (running m (nodeFor m device) (itemPlaces m)), e, chosen-found (nodeFor m device), first-state) refl
+
+    pub manifest-runs : (w′ out′ : List ℕ) {left′ : ℕ} {n : Found} {a : Filled} → n ≡ foundOf (nodeFor m device) → RunsTo m w₁ w′ out out′ 0 left left′ (chosenOf n) (itemPlaces m) [] a → RunsManifest s ask m device w′ out out′ left left′ a
+    manifest-runs w′ out′ {left′} {n} e y = record { steps = y .steps; ends = go (y .able) (whole-run e) (y .says (knowing (known-then .definitions)) ask [] first-stage) }
+      where
+        go : {k : Known} {a : Filled} {o o′ : Outcome State} → AbleAfter m w′ out′ a → o′ ≡ o → ItemsEnd m w′ out′ left′ (chosenOf n) [] k ask o a → RunEnds w′ out′ left′ ask o′ a
+        go able same (refusedSo h) = specs.refusedSo (same ∙ h)
+        go {k} able same (goesOn {f = f} es h i) =
+            let st : State = stateWith w′ out′ f left′ es in
+            specs.doneSo st (same ∙ h ∙ none-left m (chosenOf n) k st) (state-steps w′ out′ f left′ es) (state-written w′ out′ f left′ es (i .ready .catalog)) (unfold AbleAfter in able .filled) (note-left w′ out′ f left′ es ask (i .noted .note))

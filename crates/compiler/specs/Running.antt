@@ -1,18 +1,15 @@
 -- What running the items of a manifest means, one after the other.
-use Prim.Native.Nat.{ℕ, _+_, _≤_}
+use Prim.Native.Nat.{ℕ, _≤_}
 use mathlib.Core.Path.{_≡_}
 use mathlib.Core.Bool.{Bool, true, false}
 use mathlib.Core.List.{List}
 use mathlib.Core.Option.{Option, none, some}
 use lib.Dec.{eqb}
 use lib.ListN.{length}
-use Rattle.wire.specs.Bytes.{two}
 use Rattle.values.specs.declared.Refusal.{Refusal}
-use Rattle.values.specs.Refusals.{refusalAt}
-use Rattle.values.specs.declared.Reason.the-variants.{DefinedAgain}
 use Rattle.rules.specs.Outcome.{Outcome, done}
 use Rattle.rules.specs.State.{Entry, State, Known}
-use Rattle.rules.specs.Run.{isTaken, runItems}
+use Rattle.rules.specs.Run.{runItems}
 use Rattle.rules.specs.Read.{manifestOf}
 use Rattle.rules.specs.Compile.{roomIn, runManifest, entriesInOrder}
 use Rattle.places.specs.At.{itemsAt}
@@ -21,11 +18,9 @@ use Rattle.syntax.specs.declared.Found.the-variants.{At, Nothing}
 use Rattle.syntax.specs.Nodes.{running}
 use Rattle.catalog.specs.Finding.{Written}
 use Rattle.evaluator.specs.Answers.{refusedBy}
-use Rattle.evaluator.specs.Known.{KnownIn}
 use Rattle.resources.specs.declared.Filled.{Filled}
 use Rattle.resources.specs.declared.Filled.the-variants.{Done, Refused}
 use Rattle.execution.specs.Executed.{Stage, stateWith, AbleAfter}
-use Rattle.definitions.specs.Defined.{Defines}
 use Rattle.rules.specs.Tree.{Constant}
 use Rattle.memory.specs.Words.{wordOf, noteWord}
 use Rattle.provenance.specs.Notes.{Question, noteFor}
@@ -41,11 +36,6 @@ unfoldable pub isChosen : Option ℕ → (p : ℕ) → Bool
 isChosen none p = false
 isChosen (some q) p = eqb p q
 
--- the definition at p: its name is taken, or from w to w′ it becomes known
-pub data DefinedSo (m : List ℕ) (p : ℕ) (w w′ : List ℕ) (fill : ℕ) : Filled → Type 0 where
-  takenSo : ((k : Known) → KnownIn m w k → isTaken k (two m (p + 3)) ≡ true) → DefinedSo m p w w′ fill (Refused (refusalAt DefinedAgain p))
-  knownSo : ((k : Known) → KnownIn m w k → isTaken k (two m (p + 3)) ≡ false) → Defines m p w w′ → DefinedSo m p w w′ fill (Done fill)
-
 -- ---- Items in order
 
 -- of the items at the places given, those that run, where the node c is chosen
@@ -53,15 +43,15 @@ unfoldable pub runPlaces : List ℕ → (c : Option ℕ) → (places : List ℕ)
 runPlaces m c ps k st = runItems k (itemsAt m (running m c ps)) st
 
 -- the answer means the outcome o: its refusal; or it is what the items at the places given, which are left, make of what the bytes stand for
-pub data ItemsEnd (m w out : List ℕ) (left : ℕ) (c : Option ℕ) (ps : List ℕ) (ask : Question) (o : Outcome State) : Filled → Type 0 where
-  refusedSo : {why : Refusal} → o ≡ refusedBy why → ItemsEnd m w out left c ps ask o (Refused why)
-  goesOn : {f : ℕ} (k : Known) (es : List Entry) → o ≡ runPlaces m c ps k (stateWith w out f left es) → Stage m w out f k ask es → ItemsEnd m w out left c ps ask o (Done f)
+pub data ItemsEnd (m w out : List ℕ) (left : ℕ) (c : Option ℕ) (ps : List ℕ) (k : Known) (ask : Question) (o : Outcome State) : Filled → Type 0 where
+  refusedSo : {why : Refusal} → o ≡ refusedBy why → ItemsEnd m w out left c ps k ask o (Refused why)
+  goesOn : {f : ℕ} (es : List Entry) → o ≡ runPlaces m c ps k (stateWith w out f left es) → Stage m w out f k ask es → ItemsEnd m w out left c ps k ask o (Done f)
 
 -- of the items at `from` those at `to` are left
 pub record RunsTo (m w w′ out out′ : List ℕ) (fill left left′ : ℕ) (c : Option ℕ) (from to : List ℕ) (answer : Filled) : Type 0 where
   pub able : AbleAfter m w′ out′ answer
   pub steps : left′ ≤ left
-  pub says : (k : Known) (ask : Question) (es : List Entry) → Stage m w out fill k ask es → ItemsEnd m w′ out′ left′ c to ask (runPlaces m c from k (stateWith w out fill left es)) answer
+  pub says : (k : Known) (ask : Question) (es : List Entry) → Stage m w out fill k ask es → ItemsEnd m w′ out′ left′ c to k ask (runPlaces m c from k (stateWith w out fill left es)) answer
 
 -- ---- The whole run
 

@@ -10,16 +10,16 @@ ghost use Rattle.rules.specs.declared.Verdict.the-variants.{Sound};
 ghost use Rattle.syntax.specs.Before.{before};
 ghost use Rattle.syntax.specs.Nodes.{itemPlaces};
 ghost use Rattle.catalog.specs.Making.{clearedFrom};
-ghost use Rattle.declarations.specs.Standing.{Set};
 ghost use Rattle.execution.specs.Executed.{Able};
-ghost use Rattle.definitions.specs.Defined.{ItemStands, IsDefinition};
+ghost use Rattle.definitions.specs.Defined.{ItemStands};
 ghost use Rattle.compiler.specs.Compiled.{Leaves, Compiles};
-ghost use Rattle.compiler.specs.Running.{chosenOf, isChosen, DefinedSo, RunsTo, RunsManifest};
+ghost use Rattle.compiler.specs.Running.{chosenOf, isChosen, RunsTo, RunsManifest};
 ghost use mathlib.Core.Bool.{Bool};
 ghost use Rattle.rules.specs.Tree.{Constant};
 ghost use Rattle.rules.specs.Compile.{noneStruckOut};
 ghost use Rattle.definitions.specs.Prepared.{Prepares};
 ghost use Rattle.provenance.specs.Notes.{Question, nothingAsked, Noted};
+use definitions::Gathered;
 use labels::Labels;
 use memory::Context;
 use resources::Filled;
@@ -31,18 +31,6 @@ use values::Refusal;
 
 // ---- Items
 
-// The definition at p becomes known, unless its name is taken (8).
-fn define(m: &[u8], p: usize, work: &mut [u8], fill: usize) -> Filled
-    requires { ⌜ Set (now m) (now work) × (ItemStands (now m) p × IsDefinition (now m) p) ⌝ }
-    ensures { λ r. ⌜ DefinedSo (now (m .entry)) p (now (work .entry)) (now (work .exit)) fill r ⌝ }
-{
-    if definitions::is_taken(m, p, work) {
-        return Filled::Refused(Refusal::at(Reason::DefinedAgain, p));
-    }
-    definitions::define(m, p, work);
-    Filled::Done(fill)
-}
-
 // Whether the node at p is the one that runs.
 fn is_chosen(node: Found, p: usize) -> bool
     ensures { λ r. ⌜ r ≡ isChosen (chosenOf node) p ⌝ }
@@ -53,7 +41,7 @@ fn is_chosen(node: Found, p: usize) -> bool
     }
 }
 
-// The item at p, if it runs.
+// The item at p, if it runs. A definition does nothing where it stands.
 fn run_item(
     m: &[u8],
     node: Found,
@@ -78,7 +66,7 @@ fn run_item(
             };
             execution::run_block(m, 31, block, work, out, fill, left, 17, here)
         }
-        0x32 | 0x34 => define(m, p, work, fill),
+        0x32 | 0x34 => Filled::Done(fill),
         _ => {
             let here = Context {
                 scope: memory::TOP,
@@ -107,7 +95,7 @@ fn run_items(m: &[u8], node: Found, work: &mut [u8], out: &mut [u8], left: &mut 
     Filled::Done(filled)
 }
 
-// A sound manifest, the memory prepared for it.
+// A sound manifest, the memory prepared for it: its definitions, then its items.
 pub fn run_prepared(
     m: &[u8],
     device: &[u8],
@@ -118,6 +106,11 @@ pub fn run_prepared(
     requires { ⌜ ((check (now m) ≡ Sound) × (length (now m) ≤ 65535)) × Able (now m) (now work) (now out) 0 ⌝ }
     ensures { λ r. ⌜ ((s : Constant → Bool) (ask : Question) → Prepares (now (m .entry)) (now (work .entry)) s → Noted (now (work .entry)) ask [] → RunsManifest s ask (now (m .entry)) (now (device .entry)) (now (work .exit)) (now (out .entry)) (now (out .exit)) (now (left .entry)) (now (left .exit)) r) ⌝ }
 {
+    let gathered = definitions::gather(m, work);
+    match gathered {
+        Gathered::Refused(refusal) => return Filled::Refused(refusal),
+        Gathered::Done => {}
+    }
     let node = definitions::choose_node(m, device);
     run_items(m, node, work, out, left)
 }

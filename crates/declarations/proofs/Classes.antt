@@ -39,7 +39,7 @@ use Rattle.declarations.specs.Classes.{checkClass, FoundStands, refusedS
 use Rattle.declarations.proofs.Standing.{FoundAt, class-stands, classFrom, PartsAt}
 use Rattle.declarations.proofs.Checks.{class-missing, class-there, ChecksGiven, Values, checked-done, checked-refused}
 use Rattle.memory.specs.Words.{StrikesAs}
-use Rattle.declarations.proofs.Outcomes.{bind-bind}
+use Rattle.rules.proofs.Outcome.{bind-bind}
 use Rattle.declarations.proofs.Types.{strikes-kept}
 
 -- ---- The parent and the base

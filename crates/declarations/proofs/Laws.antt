@@ -22,7 +22,7 @@ use Rattle.declarations.specs.Standing.{Defined, Set}
 use Rattle.declarations.specs.Types.{startType}
 use Rattle.declarations.specs.Types as types
 use Rattle.declarations.specs.Classes.{Checked, checkClass, Entered, startClass}
-use Rattle.declarations.proofs.Outcomes.{bind-bind, bind-same}
+use Rattle.rules.proofs.Outcome.{bind-bind, bind-same}
 use Rattle.memory.specs.Words.{wordOf}
 use Rattle.memory.proofs.Words.{struck-same}
 

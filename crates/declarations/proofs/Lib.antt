@@ -1,4 +1,3 @@
-pub mod Outcomes
 pub mod Laws
 pub mod Standing
 pub mod Checks

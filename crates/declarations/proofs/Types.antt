@@ -36,7 +36,7 @@ use Rattle.declarations.specs.declared.Found.the-variants.{Nothing}
 use Rattle.declarations.specs.declared.Started.the-variants.{Body, Refused as NotStarted}
 use Rattle.declarations.specs.Standing.{definitionWith}
 use Rattle.declarations.specs.Types.{Entered, startType, Fills, startedAs, BodyStands, StartsType}
-use Rattle.declarations.proofs.Outcomes.{bind-bind, bind-same}
+use Rattle.rules.proofs.Outcome.{bind-bind, bind-same}
 use Rattle.declarations.proofs.Standing.{FoundAt, typeFrom, PartsAt}
 use Rattle.declarations.proofs.Checks.{type-missing, type-there, ChecksGiven, Values, checked-done, checked-refused}
 use Rattle.memory.specs.Words.{StrikesAs}

@@ -14,10 +14,11 @@ use Rattle.rules.specs.Format.{forms, formIn, formOf}
 use Rattle.rules.specs.Tree.{Definition, TypeDefinition, ClassDefinition, typeDefinition, classDefinition, Item, definition}
 use Rattle.rules.specs.State.{Known, isSome}
 use Rattle.rules.specs.Evaluate.{any, findType, findClass}
-use Rattle.rules.specs.Run.{definedName, definedPlace, isDefinition, isTaken, withDefinition}
+use Rattle.rules.specs.Run.{definedName, definedPlace, isDefinition, isTaken}
 use Rattle.rules.specs.declared.Piece.the-variants.{Name}
 use Rattle.rules.proofs.Within.{false-not-true}
-use Rattle.rules.proofs.Lists.{when-true, when-false}
+use Rattle.rules.proofs.Lists.{either-right, when-true}
+use Rattle.rules.proofs.Gathering.{any-found, type-other, class-other}
 use Rattle.places.specs.At.{itemAt}
 use Rattle.places.proofs.Items.{type-definition-opens, class-definition-opens}
 use Rattle.cells.specs.Layout.{putAt}
@@ -27,7 +28,7 @@ use Rattle.summaries.proofs.Summaries.{summarized-still}
 use Rattle.evaluator.specs.Known.{DefinedAt, undefined, typeAt, classAt, KnownIn}
 use Rattle.declarations.specs.Standing.{Set, Defined, defined}
 use Rattle.declarations.proofs.Standing.{name-small as begins-small}
-use Rattle.definitions.specs.Defined.{ItemStands, IsDefinition, Defines}
+use Rattle.definitions.specs.Defined.{ItemStands, IsDefinition, withDefinitions, OnlyNames, Defines}
 use Rattle.memory.proofs.Words.{words-kept, struck-same}
 
 -- ---- A definition at its place
@@ -61,21 +62,6 @@ definition-there m p s (inr e) = let o = class-definition-opens (s .stands .stan
 
 -- ---- is_taken
 
-any-found : (n : ℕ) (ds : List Definition) → any (isDefinition n) ds ≡ (isSome {A = TypeDefinition} (findType n ds) || isSome {A = ClassDefinition} (findClass n ds))
-unfolding any isDefinition definedName findType findClass isSome
-any-found n [] = refl
-any-found n (typeDefinition d ∷ ds) = go (any-found n ds) (eqb (d .name) n)
-  where
-    go : any (isDefinition n) ds ≡ (isSome {A = TypeDefinition} (findType n ds) || isSome {A = ClassDefinition} (findClass n ds)) → (b : Bool) → (b || any (isDefinition n) ds) ≡ (isSome {A = TypeDefinition} (elim b [ true ↦ some d | false ↦ findType n ds ]) || isSome {A = ClassDefinition} (findClass n ds))
-    go later true = refl
-    go later false = later
-any-found n (classDefinition d ∷ ds) = go (any-found n ds) (eqb (d .name) n) (findType n ds) refl
-  where
-    go : any (isDefinition n) ds ≡ (isSome {A = TypeDefinition} (findType n ds) || isSome {A = ClassDefinition} (findClass n ds)) → (b : Bool) (o : Option TypeDefinition) → findType n ds ≡ o → (b || any (isDefinition n) ds) ≡ (isSome {A = TypeDefinition} (findType n ds) || isSome {A = ClassDefinition} (elim b [ true ↦ some d | false ↦ findClass n ds ]))
-    go later true none h = rw h refl
-    go later true (some x) h = rw h refl
-    go later false o h = later
-
 defined-some : {m : List ℕ} {p : ℕ} {o : Option TypeDefinition} {q : Option ClassDefinition} → DefinedAt m p o q → not (eqb p 0) ≡ (isSome o || isSome q)
 unfolding isSome
 defined-some {p = p} (undefined z) = rw z refl
@@ -83,11 +69,11 @@ defined-some {p = p} (typeAt l s t i) = rw (ne-eqb p 0 (λ e. omega arith)) refl
 defined-some {p = p} (classAt l s t i) = rw (ne-eqb p 0 (λ e. omega arith)) refl
 
 module _ (m w : List ℕ) (n : ℕ) where
-  pub taken-built-in : {x : ℕ} {b : Bool} → x ≡ n → b ≡ builtInOf w x → b ≡ true → (k : Known) → KnownIn m w k → b ≡ isTaken k n
+  pub taken-built-in : {x : ℕ} {b : Bool} → x ≡ n → b ≡ builtInOf w x → b ≡ true → (k : Known) → KnownIn m w k → b ≡ isTaken (k .builtIn) (k .definitions) n
   unfolding isTaken
   taken-built-in named told h k known = h ∙ rw (known .builtIns n, sym (told ∙ ap (builtInOf w) named), h) refl
 
-  pub taken-defined : {x : ℕ} {b : Bool} {p : ℕ} → x ≡ n → b ≡ builtInOf w x → b ≡ false → p ≡ definitionOf w x → (k : Known) → KnownIn m w k → not (eqb p 0) ≡ isTaken k n
+  pub taken-defined : {x : ℕ} {b : Bool} {p : ℕ} → x ≡ n → b ≡ builtInOf w x → b ≡ false → p ≡ definitionOf w x → (k : Known) → KnownIn m w k → not (eqb p 0) ≡ isTaken (k .builtIn) (k .definitions) n
   unfolding isTaken
   taken-defined {x} {b} {p} named told h there k known =
       let here : p ≡ definitionOf w n = there ∙ ap (definitionOf w) named in
@@ -101,14 +87,10 @@ none-of none none e = (refl, refl)
 none-of none (some y) e = false-not-true (sym e)
 none-of (some x) q e = false-not-true (sym e)
 
-or-right : (a b : Bool) → (a || b) ≡ false → b ≡ false
-or-right true b e = false-not-true (sym e)
-or-right false b e = e
-
 -- a name that is not taken has no definition yet
-not-taken : (k : Known) (n : ℕ) → isTaken k n ≡ false → (findType n (k .definitions) ≡ none) × (findClass n (k .definitions) ≡ none)
+not-taken : (builtIn : ℕ → Bool) (ds : List Definition) (n : ℕ) → isTaken builtIn ds n ≡ false → (findType n ds ≡ none) × (findClass n ds ≡ none)
 unfolding isTaken
-not-taken k n e = none-of (findType n (k .definitions)) (findClass n (k .definitions)) (sym (any-found n (k .definitions)) ∙ or-right (k .builtIn n) (any (isDefinition n) (k .definitions)) e)
+not-taken builtIn ds n e = none-of (findType n ds) (findClass n ds) (sym (any-found n ds) ∙ either-right (builtIn n) (any (isDefinition n) ds) e)
 
 same-definition : {i : Item} {d e : Definition} → i ≡ definition d → i ≡ definition e → d ≡ e
 same-definition a b = cc
@@ -123,16 +105,6 @@ unfolding findClass
 class-here n d ds e = when-true (eqb (d .name) n) (some d) (findClass n ds) (eq-eqb (d .name) n e)
 
 module _ (n : ℕ) (ds : List Definition) where
-  type-other : (d : Definition) → (definedName d ≡ n → ⊥) → findType n (d ∷ ds) ≡ findType n ds
-  unfolding findType definedName
-  type-other (typeDefinition d) ne = when-false (eqb (d .name) n) (some d) (findType n ds) (ne-eqb (d .name) n ne)
-  type-other (classDefinition d) ne = refl
-
-  class-other : (d : Definition) → (definedName d ≡ n → ⊥) → findClass n (d ∷ ds) ≡ findClass n ds
-  unfolding findClass definedName
-  class-other (typeDefinition d) ne = refl
-  class-other (classDefinition d) ne = when-false (eqb (d .name) n) (some d) (findClass n ds) (ne-eqb (d .name) n ne)
-
   class-past-type : (d : TypeDefinition) → findClass n (typeDefinition d ∷ ds) ≡ findClass n ds
   unfolding findClass
   class-past-type d = refl
@@ -172,8 +144,8 @@ module _ (m w w′ : List ℕ) (p : ℕ) (set : Set m w) (s : ItemStands m p) (i
       go n true h = rw (definition-here n h) (defined (s .after) (s .stands) (s .names))
       go n false h = rw (definition-kept n h) (set .definitions n)
 
-  now-known : (k : Known) (d : Definition) → itemAt m p ≡ definition d → isTaken k (definedName d) ≡ false → KnownIn m w k → KnownIn m w′ (withDefinition d k)
-  unfolding withDefinition
+  now-known : (k : Known) (d : Definition) → itemAt m p ≡ definition d → isTaken (k .builtIn) (k .definitions) (definedName d) ≡ false → KnownIn m w k → KnownIn m w′ (withDefinitions (d ∷ k .definitions) k)
+  unfolding withDefinitions
   now-known k d tree free known = record { builtIns = λ n. known .builtIns n ∙ sym (built-ins-kept n); definitions = λ n. go n (eqb n x) refl; struck = λ v. known .struck v ∙ sym (struck-same w w′ (λ j l. words-kept w w′ (become .rest) j) v) }
     where
       its-name : definedName d ≡ x
@@ -182,11 +154,11 @@ module _ (m w w′ : List ℕ) (p : ℕ) (set : Set m w) (s : ItemStands m p) (i
       go : (n : ℕ) (b : Bool) → eqb n x ≡ b → DefinedAt m (definitionOf w′ n) (findType n (d ∷ k .definitions)) (findClass n (d ∷ k .definitions))
       go n true h =
           let same : definedName d ≡ n = its-name ∙ sym (eqb-true n x h) in
-          let none-yet = not-taken k n (ap (isTaken k) (sym same) ∙ free) in
+          let none-yet = not-taken (k .builtIn) (k .definitions) n (ap (isTaken (k .builtIn) (k .definitions)) (sym same) ∙ free) in
           rw (definition-here n h) (found-here m p s n (k .definitions) (none-yet .0) (none-yet .1) d i tree same)
       go n false h =
           let other : definedName d ≡ n → ⊥ = λ e. eqb-false n x h (sym e ∙ its-name) in
           rw (definition-kept n h, type-other n (k .definitions) d other, class-other n (k .definitions) d other) (known .definitions n)
 
   pub now-defined : Defines m p w w′
-  now-defined = record { set = still-set; fine = become .fine; rest = become .rest; state = become .state; known = now-known }
+  now-defined = record { only = record { set = still-set; fine = become .fine; rest = become .rest; state = become .state }; known = now-known }

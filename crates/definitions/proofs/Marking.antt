@@ -15,7 +15,7 @@ use Rattle.rules.specs.Check.{text, stringPlaces, check}
 use Rattle.rules.specs.State.{Entry}
 use Rattle.rules.specs.Read.{manifestOf}
 use Rattle.rules.specs.Evaluate.{any}
-use Rattle.rules.specs.Compile.{sameBytes, stringAt, stringNumber, builtInTypes, titleText, isBuiltIn, knownFirst, roomIn, noneStruckOut}
+use Rattle.rules.specs.Compile.{sameBytes, stringAt, stringNumber, builtInTypes, titleText, isBuiltIn, knownWith, roomIn, noneStruckOut}
 use Rattle.rules.specs.declared.Verdict.the-variants.{Sound}
 use Rattle.syntax.specs.declared.Found.{Found}
 use Rattle.syntax.specs.declared.Found.the-variants.{At, Nothing}
@@ -221,12 +221,12 @@ module _ (m w₀ w : List ℕ) (sound : check m ≡ Sound) (first : Begun w₀) 
 
     -- THE LAWS: what is known before the first item runs, where the memory became w′ by its title alone
     ready : (w′ : List ℕ) → length w′ ≡ length w → namesOf w′ ≡ namesOf w → ((es : List Entry) (n r : ℕ) → stateOf w′ es n r ≡ stateOf w es n r) → (Fine w → Fine w′) → titleOf w′ ≡ stringNumber titleText (stringTexts m) 0 → ((p : ℕ) → wordsAt + 2 ≤ p → two w′ p ≡ two w p) → Prepares m w′ noneStruckOut × Blank w′
-    unfolding namesOf knownFirst
+    unfolding namesOf knownWith
     ready w′ same names state fine title after = (
       record {
         set = record { memory = omega arith; manifest = short; strings = few-strings m sound; definitions = λ n. undefined (ap (λ (ns : Names). ns .definitions n) names ∙ no-definition n); summaries = none-summarized w′ (λ i l. after (summaryAt i) (omega arith) ∙ others-read w₀ w (marked .rest) (summaryAt i) (omega arith) ∙ first .summaries i l) };
         fine = fine (marked .fine (first .fine));
-        known = known-first m w′ (knownFirst noneStruckOut (manifestOf m .strings)) refl (λ n. built-ins n ∙ sym (ap (λ (ns : Names). ns .builtIns n) names)) (λ n. ap (λ (ns : Names). ns .definitions n) names ∙ no-definition n) (λ v. sym (nothing-struck w′ (words strikeEnd (omega arith) (omega arith)) v));
+        known = known-first m w′ (knownWith noneStruckOut (manifestOf m .strings) []) refl (λ n. built-ins n ∙ sym (ap (λ (ns : Names). ns .builtIns n) names)) (λ n. ap (λ (ns : Names). ns .definitions n) names ∙ no-definition n) (λ v. sym (nothing-struck w′ (words strikeEnd (omega arith) (omega arith)) v));
         title = title ∙ sym (title-read m sound);
         state = λ limit output. state [] limit (roomIn output) ∙ marked .state [] limit (roomIn output) ∙ first .state limit output;
         index = λ p l u. after p (omega arith) ∙ others-read w₀ w (marked .rest) p (omega arith) ∙ first .index p l u;

@@ -10,13 +10,14 @@ use Rattle.rules.specs.Format.{forms, formIn, formOf}
 use Rattle.rules.specs.Check.{stringPlaces, check}
 use Rattle.rules.specs.Read.{manifestOf}
 use Rattle.rules.specs.Run.{definedName}
-use Rattle.rules.specs.Compile.{knownFirst, start, runManifest}
+use Rattle.rules.specs.Compile.{isBuiltIn, knownWith, start, runManifest}
 use Rattle.rules.specs.Ranges.{Each, noneLeft, also}
 use Rattle.rules.specs.declared.Kind.the-variants.{Item as ItemKind}
 use Rattle.rules.specs.declared.Verdict.the-variants.{Sound}
-use Rattle.rules.proofs.Outcome.{All}
+use Rattle.rules.proofs.Outcome.{All, allBind}
+use Rattle.rules.proofs.Gathering.{gathered-each}
 use Rattle.rules.proofs.Laws.{items-for-each}
-use Rattle.rules.proofs.Scopes.{SmallItem, smallStatement, smallNode, smallDefinition, Tidy, everywhere, items-tidy, start-tidy}
+use Rattle.rules.proofs.Scopes.{SmallItem, smallStatement, smallNode, smallDefinition, small-definition, Tidy, everywhere, items-tidy, start-tidy}
 use Rattle.places.specs.At.{itemAt, itemsAt, StandsAs, Siblings, ended, sibling}
 use Rattle.places.proofs.Tags.{IsItemTag, nodeTag, typeDefinitionTag, classDefinitionTag, statementTag, item-tag}
 use Rattle.places.proofs.Items.{statement-item, node-opens, type-definition-opens, class-definition-opens, manifest-opens}
@@ -54,6 +55,7 @@ manifest-small m c =
 -- every state that the run of a sound manifest passes is tidy (rules/proofs/Scopes.antt), so in it more than 1,026 scopes change no read and a body's
 -- scope is empty when it is entered; here for the state at its end
 pub manifest-tidy : (struckOut : Constant → Bool) (m device : List ℕ) (limit outputLength : ℕ) → check m ≡ Sound → All (Tidy everywhere) (runManifest struckOut (manifestOf m) device limit outputLength)
-unfolding runManifest knownFirst
+unfolding runManifest knownWith
 manifest-tidy struckOut m device limit outputLength c =
-    items-tidy (knownFirst struckOut (manifestOf m .strings)) noneLeft (items-for-each (manifestOf m .strings) device (manifest-small m c)) (start limit outputLength) (start-tidy limit outputLength)
+    allBind (gathered-each (λ d. small-definition) (isBuiltIn (manifestOf m .strings)) (manifest-small m c) noneLeft) λ ds small.
+    items-tidy (knownWith struckOut (manifestOf m .strings) ds) small (items-for-each (manifestOf m .strings) device (manifest-small m c)) (start limit outputLength) (start-tidy limit outputLength)

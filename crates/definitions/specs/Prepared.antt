@@ -8,7 +8,7 @@ use Rattle.wire.specs.Bytes.{pick, byte}
 use Rattle.rules.specs.Check.{text}
 use Rattle.rules.specs.Tree.{node, Constant}
 use Rattle.rules.specs.Read.{manifestOf}
-use Rattle.rules.specs.Compile.{knownFirst, roomIn, start}
+use Rattle.rules.specs.Compile.{knownWith, roomIn, start}
 use Rattle.rules.specs.declared.Kind.the-variants.{Block}
 use Rattle.places.specs.At.{blockAt, itemAt, devicesAt, StandsAs}
 use Rattle.syntax.specs.Strings.{isBuiltInText}
@@ -27,12 +27,12 @@ unfoldable pub markStrings : List ℕ → (n : ℕ) → (places : List ℕ) → 
 markStrings m n [] ns = ns
 markStrings m n (q ∷ qs) ns = markStrings m (suc n) qs (markString m n q ns)
 
--- the memory w is as before the first item runs, and knows what is known then, with so many constants struck out
+-- the memory w is as before the first item runs, and knows what is known but for definitions, with so many constants struck out
 pub record Prepares (m w : List ℕ) (struckOut : Constant → Bool) : Type 0 where
   pub set : Set m w
   pub fine : Fine w
-  pub known : KnownIn m w (knownFirst struckOut (manifestOf m .strings))
-  pub title : titleOf w ≡ knownFirst struckOut (manifestOf m .strings) .title
+  pub known : KnownIn m w (knownWith struckOut (manifestOf m .strings) [])
+  pub title : titleOf w ≡ knownWith struckOut (manifestOf m .strings) [] .title
   pub state : (limit output : ℕ) → stateOf w [] limit (roomIn output) ≡ start limit output
   pub index : NoIndex w
 

@@ -1,21 +1,31 @@
-// What the names of a manifest mean: built-in types and the title before anything runs, definitions as they run; and the node that runs for a device.
+// What the names of a manifest mean before anything runs: built-in types, the title, and all definitions; and the node that runs for a device.
 ghost use mathlib.Core.Path.{_≡_};
 ghost use Prim.Native.Nat.{_+_, _≤_, _<_};
 ghost use lib.ListN.{length};
 ghost use Rattle.wire.specs.Bytes.{byte, two};
+ghost use mathlib.Core.List.{List, [], _∷_};
+ghost use Prim.Native.Nat.{ℕ};
 ghost use Rattle.rules.specs.Check.{stringPlaces, check};
 ghost use Rattle.rules.specs.State.{Known};
 ghost use Rattle.rules.specs.Run.{isTaken};
 ghost use Rattle.rules.specs.declared.Verdict.the-variants.{Sound};
 ghost use Rattle.syntax.specs.Strings.{foundOf};
-ghost use Rattle.syntax.specs.Nodes.{nodeFor};
+ghost use Rattle.syntax.specs.Nodes.{nodeFor, itemPlaces};
 ghost use Rattle.cells.specs.Memory.{Becomes};
 ghost use Rattle.evaluator.specs.Known.{KnownIn};
 ghost use Rattle.declarations.specs.Standing.{Set};
 ghost use Rattle.definitions.specs.Prepared.{markString, markStrings, Prepares, Blank, isDeviceAt, NodeBlock};
-ghost use Rattle.definitions.specs.Defined.{ItemStands, IsDefinition, Defines};
+ghost use Rattle.definitions.specs.Defined.{ItemStands, IsDefinition, Defines, GathersTo};
 ghost use Rattle.rules.specs.Compile.{noneStruckOut};
 use syntax::Found;
+use values::Reason;
+use values::Refusal;
+
+// Whether the definitions are gathered, or why not.
+pub enum Gathered {
+    Done,
+    Refused(Refusal),
+}
 
 // ---- Before the first item
 
@@ -93,18 +103,58 @@ pub fn node_block(m: &[u8], p: usize) -> usize
 // ---- Definitions
 
 // Whether the name of the definition at p is taken (8).
-pub fn is_taken(m: &[u8], p: usize, work: &[u8]) -> bool
+fn is_taken(m: &[u8], p: usize, work: &[u8]) -> bool
     requires { ⌜ Set (now m) (now work) × (ItemStands (now m) p × IsDefinition (now m) p) ⌝ }
-    ensures { λ r. ⌜ ((k : Known) → KnownIn (now (m .entry)) (now (work .entry)) k → r ≡ isTaken k (two (now (m .entry)) (p + 3))) ⌝ }
+    ensures { λ r. ⌜ ((k : Known) → KnownIn (now (m .entry)) (now (work .entry)) k → r ≡ isTaken (k .builtIn) (k .definitions) (two (now (m .entry)) (p + 3))) ⌝ }
 {
     let name = wire::two_at(m, p + 3);
     memory::built_in(work, name) || memory::definition_at(work, name) != 0
 }
 
 // The definition at p becomes known.
-pub fn define(m: &[u8], p: usize, work: &mut [u8])
+fn define(m: &[u8], p: usize, work: &mut [u8])
     requires { ⌜ Set (now m) (now work) × (ItemStands (now m) p × IsDefinition (now m) p) ⌝ }
     ensures { λ _. ⌜ Defines (now (m .entry)) p (now (work .entry)) (now (work .exit)) ⌝ }
 {
     memory::set_definition(work, wire::two_at(m, p + 3), p as u16);
+}
+
+// The definition at p becomes known, unless its name is taken.
+fn gather_definition(m: &[u8], p: usize, work: &mut [u8]) -> Gathered
+    requires { ⌜ Set (now m) (now work) × (ItemStands (now m) p × IsDefinition (now m) p) ⌝ }
+    ensures { λ r. ⌜ ((ps : List ℕ) → GathersTo (now (m .entry)) (now (work .entry)) (now (work .exit)) (p ∷ ps) ps r) ⌝ }
+{
+    if is_taken(m, p, work) {
+        return Gathered::Refused(Refusal::at(Reason::DefinedAgain, p));
+    }
+    define(m, p, work);
+    Gathered::Done
+}
+
+// The item at p, if it is a definition.
+fn gather_item(m: &[u8], p: usize, work: &mut [u8]) -> Gathered
+    requires { ⌜ Set (now m) (now work) × ItemStands (now m) p ⌝ }
+    ensures { λ r. ⌜ ((ps : List ℕ) → GathersTo (now (m .entry)) (now (work .entry)) (now (work .exit)) (p ∷ ps) ps r) ⌝ }
+{
+    match wire::byte_at(m, p) {
+        0x32 | 0x34 => gather_definition(m, p, work),
+        _ => Gathered::Done,
+    }
+}
+
+// "All definitions are gathered first": those of all items become known, up to the first whose name is taken.
+pub fn gather(m: &[u8], work: &mut [u8]) -> Gathered
+    requires { ⌜ Set (now m) (now work) × (check (now m) ≡ Sound) ⌝ }
+    ensures { λ r. ⌜ GathersTo (now (m .entry)) (now (work .entry)) (now (work .exit)) (itemPlaces (now (m .entry))) [] r ⌝ }
+{
+    let mut p = wire::end_of(m, 0);
+    while p < m.len() {
+        let r = gather_item(m, p, work);
+        match r {
+            Gathered::Refused(refusal) => return Gathered::Refused(refusal),
+            Gathered::Done => {}
+        }
+        p = wire::end_of(m, p);
+    }
+    Gathered::Done
 }

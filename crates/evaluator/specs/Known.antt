@@ -33,7 +33,7 @@ pub data DefinedAt (m : List ℕ) (p : ℕ) : Option TypeDefinition → Option C
   typeAt : {d : TypeDefinition} → 0 < p → StandsAs m 32 Item p → byte m p ≡ 0x32 → itemAt m p ≡ definition (typeDefinition d) → DefinedAt m p (some d) none
   classAt : {d : ClassDefinition} → 0 < p → StandsAs m 32 Item p → byte m p ≡ 0x34 → itemAt m p ≡ definition (classDefinition d) → DefinedAt m p none (some d)
 
--- the names in the working memory w are what is known so far, and its words say what is struck out
+-- the names in the working memory w are what is known, and its words say what is struck out
 pub record KnownIn (m w : List ℕ) (k : Known) : Type 0 where
   pub builtIns : (n : ℕ) → k .builtIn n ≡ builtInOf w n
   pub definitions : (n : ℕ) → DefinedAt m (definitionOf w n) (findType n (k .definitions)) (findClass n (k .definitions))

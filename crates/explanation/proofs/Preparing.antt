@@ -10,7 +10,7 @@ use Rattle.rules.specs.Tree.{Constant}
 use Rattle.rules.specs.State.{Entry}
 use Rattle.rules.specs.Read.{manifestOf}
 use Rattle.rules.specs.Evaluate.{findType, findClass}
-use Rattle.rules.specs.Compile.{noneStruckOut, knownFirst}
+use Rattle.rules.specs.Compile.{noneStruckOut, knownWith}
 use Rattle.rules.proofs.Strikes.{labelledBelow}
 use Rattle.cells.specs.Layout.{wordsAt}
 use Rattle.cells.specs.Memory.{Names, namesOf, stateOf, Fine}
@@ -54,7 +54,7 @@ then-stored a b = record {
 
 -- all that is prepared stays, but for the constants that the words strike out
 pub prepared-stored : {m w w′ : List ℕ} {s : Constant → Bool} (s′ : Constant → Bool) → WordsStored w w′ → ((v : Constant) → s′ v ≡ struckIn w′ v) → Prepares m w s → Prepares m w′ s′
-unfolding knownFirst namesOf
+unfolding knownWith namesOf
 prepared-stored {m} {w} {w′} {s} s′ stored strikes p = record {
   set = set-kept (stored .names) (stored .size) (summarized-same (λ k from to. stored .after k (omega arith))) (p .set);
   fine = stored .fine (p .fine);
@@ -113,7 +113,7 @@ module _ {m w : List ℕ} (ready : Prepares m w noneStruckOut × Blank w) where
     others-stay i l a b c d = four .others i l d ∙ three .others i l c ∙ two .others i l b ∙ one .others i l a
 
     pub question-asked : {numbers : Numbers} {kind : ℕ} → numbers ≡ Known kind title name → next ≡ kind + 1 → label < 256 → Prepares m w₄ noneStruckOut × Noted w₄ (questionFor numbers label) []
-    unfolding questionFor askedOf noteFor noneStruckOut knownFirst
+    unfolding questionFor askedOf noteFor noneStruckOut knownWith
     question-asked {kind = kind} is follows small =
         let number : next ≡ suc kind = omega arith in
         let byte : label % 256 ≡ label = omega arith in

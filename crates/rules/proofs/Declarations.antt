@@ -12,7 +12,7 @@ use Rattle.rules.specs.Outcome.{done, _>>=_, refuseIf}
 use Rattle.rules.specs.Tree.{Constant, Block, Parameter, Parent, TypeDefinition, ClassDefinition, Definition, Devices, Item}
 use Rattle.rules.specs.State.{Scope, bodyScope, Cell, State, Context, Known, isDeclared, freed, noCell, markDeclared, free}
 use Rattle.rules.specs.Evaluate.{any, firstWith, findType, findClass, comeToAll}
-use Rattle.rules.specs.Run.{Given, isGiven, namedOnce, parametersKnown, defaultOf, givenOr, parameterValues, takenDefaults, store, storeAll, storeTitle, placedUnder, inBody, parentFirst, enterClass, Declaration, Declare, runBlock, declaration, runAtTop, topContext, nodeContext, withDefinition, runItems}
+use Rattle.rules.specs.Run.{Given, isGiven, namedOnce, parametersKnown, defaultOf, givenOr, parameterValues, takenDefaults, store, storeAll, storeTitle, placedUnder, inBody, parentFirst, enterClass, Declaration, Declare, runBlock, declaration, runAtTop, topContext, nodeContext, runItems}
 use Rattle.rules.specs.Compile.{withoutNodes, withNode, isNode, names, isDefaultNode, itemsFor, start}
 use Rattle.rules.proofs.Same.{Edit, Pairwise, nonePaired, paired, Optional, bothNone, bothSome, SameConstant, SameBlock, sameEnd, sameNext, SameParameter, sameParameter, SameParent, sameParent, SameType, sameType, SameClassDefinition, sameClassDefinition, SameDefinition, sameTypeDefinition, sameClassDefinitions, SameItem, sameStatementItem, sameNode, sameDefinitionItem}
 use Rattle.rules.proofs.Outcome.{allDone, allAny, allIf, Two, leftRefused, bothDone, twoBind, twoAny, twoIf, twoOr, twoStep}
@@ -22,7 +22,7 @@ use Rattle.rules.proofs.Quiet.{QuietDeclare, quiet, noGrowth, store-qui
 use Rattle.rules.proofs.Lockstep.{Low, low, Related, relatedLow, relatedHigh, QuietRun, go-on, SameGiven, sameGiven, SameGivens, store-low, declaredIn, SameDeclaration, sameOfType, sameOfClass, sameIncluded, SameDeclare, block-related}
 
 module _ (D : Edit) where
-  -- ---- Definitions that have run
+  -- ---- Definitions
 
   optional-if : {A : Type 0} {R : A → A → Type 0} (b : Bool) (x y : A) {o o′ : Option A} → R x y → Optional R o o′ → Optional R (elim b [ true ↦ some x | false ↦ o ]) (elim b [ true ↦ some y | false ↦ o′ ])
   optional-if true x y h g = bothSome h
@@ -157,16 +157,12 @@ module _ (D : Edit) where
   unfolding runAtTop
   top-related {k} {k′} s r c h = block-related D k k′ _ _ (declaration-quiet D k 17) (declaration-quiet D k′ 17) (declaration-related s 17) r c h
 
-  with-definition-same : {k k′ : Known} → SameKnown k k′ → {d d′ : Definition} → SameDefinition D d d′ → SameKnown (withDefinition d k) (withDefinition d′ k′)
-  unfolding withDefinition
-  with-definition-same (sameKnown ds) d = sameKnown (paired d ds)
-
   pub items-related : {k k′ : Known} → SameKnown k k′ → {is is′ : List Item} → Pairwise (SameItem D) is is′ → {st st′ : State} → Related D st st′ → Two (Related D) (runItems k is st) (runItems k′ is′ st′)
   unfolding runItems
   items-related s nonePaired h = bothDone h
   items-related s (paired (sameStatementItem x) r) h = twoBind (top-related s (sameNext x sameEnd) topContext h) λ st st′ g. items-related s r g
   items-related s (paired (sameNode b) r) h = twoBind (top-related s b nodeContext h) λ st st′ g. items-related s r g
-  items-related s (paired (sameDefinitionItem d) r) h = twoAny _ _ λ _ _. items-related (with-definition-same s d) r h
+  items-related s (paired (sameDefinitionItem d) r) h = items-related s r h
 
   -- ---- The node that runs
 

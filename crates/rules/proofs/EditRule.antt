@@ -11,16 +11,17 @@ use Rattle.values.specs.declared.Reason.{Reason}
 use Rattle.values.specs.declared.Answer.{Answer}
 use Rattle.values.specs.declared.Answer.the-variants.{Catalog, Refused}
 use Rattle.rules.specs.Outcome.{Outcome, refused, done, _>>=_}
-use Rattle.rules.specs.Tree.{Constant, Item}
+use Rattle.rules.specs.Tree.{Constant, Definition, Item}
 use Rattle.rules.specs.Read.{manifestOf}
 use Rattle.rules.specs.State.{Attribute, Entry, State}
 use Rattle.rules.specs.Evaluate.{isEntry, isAttribute}
 use Rattle.rules.specs.Run.{runItems}
 use Rattle.rules.specs.Catalog.{shown, shownAll, readCatalog}
-use Rattle.rules.specs.Compile.{knownFirst, noneStruckOut, itemsFor, start, runManifest, finalState, onto, entriesInOrder, Compiled, compiledFrom, compiled, answerOf, outputOf, Effect, compile}
+use Rattle.rules.specs.Compile.{knownWith, noneStruckOut, itemsFor, start, runManifest, finalState, onto, entriesInOrder, Compiled, compiledFrom, compiled, answerOf, outputOf, Effect, compile}
 use Rattle.rules.specs.EditRule.{oneTree, differing, Untouched, oneMore, howMany, KeptResource, KeptAttribute, Claim, IsBytes}
-use Rattle.rules.proofs.Same.{Edit, anywhere, High, Pairwise, nonePaired, paired, SameItem}
-use Rattle.rules.proofs.Outcome.{allRefused, allGet, Two, twoAny, results}
+use Rattle.rules.proofs.Same.{Edit, anywhere, High, Pairwise, nonePaired, paired, SameDefinition, SameItem}
+use Rattle.rules.proofs.Outcome.{allRefused, allGet, Two, twoAny, twoBind, results}
+use Rattle.rules.proofs.Gathering.{gathered-same}
 use Rattle.rules.proofs.Lists.{each-member}
 use Rattle.rules.proofs.Evaluation.{bothHigh, equals, SameAttribute, sameAttribute, SameEntry, sameEntry, HighEntry, SameCatalog, emptyBoth, entryBoth, entryLeft, entryRight}
 use Rattle.rules.proofs.Lockstep.{low, Related, relatedLow, relatedHigh}
@@ -31,10 +32,10 @@ use Rattle.rules.proofs.Laws.{catalog-reads-back, type-and-title-once, 
 module _ (D : Edit) where
   -- ---- Two whole runs end in related states
 
-  run-related : (s s′ : Constant → Bool) (ss ss′ : List (List ℕ)) (device : List ℕ) {is is′ : List Item} → ss ≡ ss′ → Pairwise (SameItem D) is is′ → (limit output limit′ output′ : ℕ)
-      → Two (Related D) (runItems (knownFirst s ss) (itemsFor ss device is) (start limit output)) (runItems (knownFirst s′ ss′) (itemsFor ss′ device is′) (start limit′ output′))
-  unfolding knownFirst
-  run-related s s′ ss ss′ device e r limit output limit′ output′ = rw e (items-related D (sameKnown nonePaired) (items-for-same D ss′ device r) (start-related D limit output limit′ output′))
+  run-related : (s s′ : Constant → Bool) (ss ss′ : List (List ℕ)) (device : List ℕ) {is is′ : List Item} {ds ds′ : List Definition} → ss ≡ ss′ → Pairwise (SameItem D) is is′ → Pairwise (SameDefinition D) ds ds′ → (limit output limit′ output′ : ℕ)
+      → Two (Related D) (runItems (knownWith s ss ds) (itemsFor ss device is) (start limit output)) (runItems (knownWith s′ ss′ ds′) (itemsFor ss′ device is′) (start limit′ output′))
+  unfolding knownWith
+  run-related s s′ ss ss′ device e r d limit output limit′ output′ = rw e (items-related D (sameKnown d) (items-for-same D ss′ device r) (start-related D limit output limit′ output′))
 
   catalogs : {st st′ : State} → Related D st st′ → SameCatalog D (st .entries) (st′ .entries)
   catalogs (relatedLow (low hc hk u u′)) = hk
@@ -155,7 +156,8 @@ module _ {m m′ : List ℕ} {c d : List Entry} (x : Claim m m′ c d) where
 final-related : (m m′ device : List ℕ) → oneTree m m′ ≡ true → (limit limit′ output output′ memory memory′ : ℕ) → Two (Related (between m m′)) (finalState m device limit output memory) (finalState m′ device limit′ output′ memory′)
 unfolding finalState runManifest
 final-related m m′ device t limit limit′ output output′ memory memory′ = twoAny _ _ λ _ _. twoAny _ _ λ _ _. twoAny _ _ λ _ _.
-    run-related (between m m′) noneStruckOut noneStruckOut (manifestOf m .strings) (manifestOf m′ .strings) device (one-table m m′ t) (one-tree m m′ t) limit output limit′ output′
+    twoBind (gathered-same (between m m′) _ _ (one-tree m m′ t) nonePaired) λ ds ds′ same.
+    run-related (between m m′) noneStruckOut noneStruckOut (manifestOf m .strings) (manifestOf m′ .strings) device (one-table m m′ t) (one-tree m m′ t) same limit output limit′ output′
 
 states : (m m′ device : List ℕ) → oneTree m m′ ≡ true → (limit limit′ output output′ memory memory′ : ℕ) {st st′ : State} → finalState m device limit output memory ≡ done st → finalState m′ device limit′ output′ memory′ ≡ done st′ → Claim m m′ (shownAll (entriesInOrder st)) (shownAll (entriesInOrder st′))
 unfolding entriesInOrder

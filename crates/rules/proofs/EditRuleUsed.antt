@@ -1,5 +1,5 @@
 -- The edit rule applied to document 01's schedule with peak false and with peak true: `screens` is 2 with labels 4 and 5 in both, by the rule;
--- and `price`, whose labels hold the differing constant's, does move.
+-- and `price`, whose labels hold the differing constant's, does move. Then it is applied to a class that is defined behind its use.
 use Prim.Native.Nat.{ℕ, zero, suc, _<_}
 use mathlib.Core.Path.{_≡_, refl}
 use mathlib.Core.Bool.{Bool, true, false, _&&_, _||_}
@@ -21,7 +21,7 @@ use Rattle.rules.specs.EditRule.{oneTree, differing, KeptAttribute, IsBy
 use Rattle.rules.proofs.Lists.{both-left, both-right, eqb-true}
 use Rattle.rules.proofs.Computing.{openCompiled, openCatalog, openOneTree, openDiffering, openHas}
 use Rattle.rules.proofs.EditRule.{edit-rule}
-use Rattle.rules.proofs.Rows.{Row, Expected, accepted, refused, row1, row2}
+use Rattle.rules.proofs.Rows.{Row, Expected, accepted, refused, row1, row2, row37, row38}
 
 -- a list whose numbers pass the test is a byte string
 below256 : List ℕ → Bool
@@ -107,3 +107,51 @@ price-first = refl
 price-second : priceIn (readCatalog (result row2 .catalog)) ≡ some (record { value = Integer (pos 55); labels = record { w0 = 28; w1 = 0; w2 = 0; w3 = 0 } })
 unfolding priceIn result catalogOf openCatalog row2
 price-second = refl
+
+-- ---- A class defined behind its use, with price 40 and with price 55: rows 37 and 38
+
+early-accepted : compiled (row37 .manifest) (row37 .device) (row37 .limit) (row37 .output) (row37 .memory) ≡ done (result row37)
+unfolding openCompiled result catalogOf stepsOf row37
+early-accepted = refl
+
+early-edited : compiled (row38 .manifest) (row37 .device) (row38 .limit) (row38 .output) (row38 .memory) ≡ done (result row38)
+unfolding openCompiled result catalogOf stepsOf row37 row38
+early-edited = refl
+
+early-tree : oneTree (row37 .manifest) (row38 .manifest) ≡ true
+unfolding openOneTree row37 row38
+early-tree = refl
+
+early-bytes : IsBytes (row37 .manifest)
+unfolding below256 row37
+early-bytes = byte-string (row37 .manifest) refl
+
+edited-bytes : IsBytes (row38 .manifest)
+unfolding below256 row38
+edited-bytes = byte-string (row38 .manifest) refl
+
+-- the attributes `price` (name 3), 40 with labels 1 and 2, and `screens` (name 4), 2 with labels 1 and 3
+early-price : Attribute
+early-price = record { name = 3; content = record { value = Integer (pos 40); labels = record { w0 = 6; w1 = 0; w2 = 0; w3 = 0 } } }
+
+early-screens : Attribute
+early-screens = record { name = 4; content = record { value = Integer (pos 2); labels = record { w0 = 10; w1 = 0; w2 = 0; w3 = 0 } } }
+
+early-front : Entry
+early-front = record { type = 2; title = 1; labels = record { w0 = 2; w1 = 0; w2 = 0; w3 = 0 }; attributes = early-price ∷ early-screens ∷ []; parts = λ n. noParts }
+
+-- only the constant with label 2 differs
+only-price : (l : ℕ) → differing (row37 .manifest) (row38 .manifest) l ≡ true → has (early-screens .content .labels) l ≡ false
+unfolding openDiffering openHas row37 row38 early-screens
+only-price l h = rw (eqb-true l 2 (alone (eqb l 2) h)) refl
+  where
+    alone : (b : Bool) → ((((((b || false) || false) || false) || false) || false) || false) ≡ true → b ≡ true
+    alone true e = refl
+    alone false e = e
+
+-- by the rule alone
+early-screens-kept : KeptAttribute early-front early-screens (readCatalog (result row38 .catalog))
+unfolding result catalogOf openCatalog row37 early-front early-price early-screens
+early-screens-kept =
+    edit-rule (row37 .manifest) (row38 .manifest) (row37 .device) early-bytes edited-bytes early-tree (row37 .limit) (row38 .limit) (row37 .output) (row38 .output) (row37 .memory) (row38 .memory) (result row37) (result row38) early-accepted early-edited
+    .attributes early-front early-screens (List·Memᴰ·head refl) (List·Memᴰ·tail (List·Memᴰ·head refl)) (record { lacks = only-price })

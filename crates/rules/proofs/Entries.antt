@@ -9,7 +9,7 @@ use Rattle.values.specs.declared.Labelled.{Labelled}
 use Rattle.rules.specs.Tree.{Constant, Expression, AttributeField, Statement, assignment, conditional, choice, builtInResource, definedResource, classWithAttributes, include, Block, end, next, Branches, noBranch, branch, defaultBranch, Parent, ClassDefinition, Item, statement, node, definition}
 use Rattle.rules.specs.Tree
 use Rattle.rules.specs.State.{Entry, State, Context, Known, isDeclared, assign, tested, markDeclared, free}
-use Rattle.rules.specs.Run.{store, Given, storeAll, storeTitle, afterTest, Declaration, ofType, ofClass, included, Declare, run, runBlock, branchPatterns, placedUnder, inClass, inBody, parentFirst, enterClass, declaration, runAtTop, topContext, nodeContext, withDefinition, runItems}
+use Rattle.rules.specs.Run.{store, Given, storeAll, storeTitle, afterTest, Declaration, ofType, ofClass, included, Declare, run, runBlock, branchPatterns, placedUnder, inClass, inBody, parentFirst, enterClass, declaration, runAtTop, topContext, nodeContext, runItems}
 use Rattle.rules.specs.Compile.{start, runManifest, finalState}
 use Rattle.rules.proofs.Lists.{Each, noneLeft}
 use Rattle.rules.proofs.Patterns.{everyNone, everyConstant, everyDefault, EveryBranch, branch-holds}
@@ -119,9 +119,9 @@ module _ (P : Entry → Type 0) where
     items-entries known [] st h = allDone h
     items-entries known (statement s ∷ items) st h = allBind (top-entries known (next s end) topContext st h) λ st′ h′. items-entries known items st′ h′
     items-entries known (node devices block ∷ items) st h = allBind (top-entries known block nodeContext st h) λ st′ h′. items-entries known items st′ h′
-    items-entries known (definition d ∷ items) st h = allAny _ λ _. items-entries (withDefinition d known) items st h
+    items-entries known (definition d ∷ items) st h = items-entries known items st h
 
     -- THE LAW: what each resource adds holds of all entries at the end of every accepted run
     pub final-entries : (m device : List ℕ) (limit output memory : ℕ) → All Entries (finalState m device limit output memory)
     unfolding finalState runManifest start
-    final-entries m device limit output memory = allAny _ λ _. allAny _ λ _. allAny _ λ _. items-entries _ _ (start limit output) noneLeft
+    final-entries m device limit output memory = allAny _ λ _. allAny _ λ _. allAny _ λ _. allAny _ λ _. items-entries _ _ (start limit output) noneLeft

@@ -117,6 +117,9 @@ module _ (Given : Type 0) (Of : Constant → Type 0) where
     fitsNode : {ds : Devices} {b : Block} → FitsDevices Given ds → InBlock b → InItem (node ds b)
     fitsDefinitionItem : {d : Definition} → InDefinition d → InItem (definition d)
 
+  pub in-definition : {d : Definition} → InItem (definition d) → InDefinition d
+  in-definition (fitsDefinitionItem f) = f
+
 -- the definition that a name finds is one of them
 module _ {Given : Type 0} {Of : Constant → Type 0} where
   pub type-found : (n : ℕ) {ds : List Definition} → Each (InDefinition Given Of) ds → Perhaps (InType Given Of) (findType n ds)

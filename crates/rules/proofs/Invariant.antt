@@ -20,7 +20,7 @@ use Rattle.rules.specs.Tree.{Constant, Expression, AttributeField, State
 use Rattle.rules.specs.State.{Scope, sameScope, bodyScope, DeclaredClass, Cell, noCell, valueInto, markInto, freed, Entry, State, Context, Known, isDeclared, takeStep, assign, trailWith, tested, markDeclared, free, withEntry}
 use Rattle.rules.specs.Evaluate.{any, isEntry, evaluate}
 use Rattle.rules.specs.Catalog.{entryBytes, catalogBytes}
-use Rattle.rules.specs.Run.{assignsIn, assignsAny, declaresIn, declaresAny, pathAndTrail, withPathAndTrail, inBranch, stored, store, Given as GivenValue, isGiven, evaluateAll, defaultOf, givenOr, parameterValues, storeAll, storeTitle, attributesUnder, entryFrom, addEntry, addResource, afterTest, Declaration, ofType, ofClass, included, Declare, statementPlace, run, runBlock, branchPatterns, placedUnder, inClass, inBody, parentFirst, enterClass, declaration, runAtTop, topContext, nodeContext, withDefinition, runItems}
+use Rattle.rules.specs.Run.{assignsIn, assignsAny, declaresIn, declaresAny, pathAndTrail, withPathAndTrail, inBranch, stored, store, Given as GivenValue, isGiven, evaluateAll, defaultOf, givenOr, parameterValues, storeAll, storeTitle, attributesUnder, entryFrom, addEntry, addResource, afterTest, Declaration, ofType, ofClass, included, Declare, statementPlace, run, runBlock, branchPatterns, placedUnder, inClass, inBody, parentFirst, enterClass, declaration, runAtTop, topContext, nodeContext, runItems}
 use Rattle.rules.proofs.Lists.{Perhaps, notThere, there, Each, noneLeft, also, found}
 use Rattle.rules.specs.Patterns.{triedLabels}
 use Rattle.rules.proofs.Patterns.{everyNone, everyConstant, everyDefault, EveryBranch, branch-holds, tried-labels-fit}
@@ -315,8 +315,8 @@ module _ (Given : Type 0) (limit room : ℕ) where
   top-sound k defs f c st w h = block-sound k (declaration k 17) (declaration-sound k defs 17) f c st w h
 
   pub items-sound : (k : Known) → Each (FitsDefinition Given) (k .definitions) → {is : List Item} → Each (FitsItem Given) is → (st : State) → Sound st → All Sound (runItems k is st)
-  unfolding runItems topContext nodeContext withDefinition
+  unfolding runItems topContext nodeContext
   items-sound k defs noneLeft st h = allDone h
   items-sound k defs (also (fitsStatementItem f) fs) st h = allBind (top-sound k defs (fitsNext f fitsEnd) topContext st (λ y. words-none) h) λ st′ h′. items-sound k defs fs st′ h′
   items-sound k defs (also (fitsNode _ f) fs) st h = allBind (top-sound k defs f nodeContext st (λ y. words-none) h) λ st′ h′. items-sound k defs fs st′ h′
-  items-sound k defs (also (fitsDefinitionItem {d = d} f) fs) st h = allAny _ λ _. items-sound (withDefinition d k) (also f defs) fs st h
+  items-sound k defs (also (fitsDefinitionItem f) fs) st h = items-sound k defs fs st h

@@ -23,17 +23,18 @@ use Rattle.rules.specs.Read.{manifestOf}
 use Rattle.rules.specs.Patterns.{Patterns, noPattern, constantPattern, defaultPattern, tried, labelsOf, triedLabels}
 use Rattle.rules.specs.State.{Scope, topScope, classScope, bodyScope, sameScope, DeclaredClass, Cell, Cells, noCell, valueInto, markInto, freed, Attribute, Entry, State, Context, Known, scopesTried, isDeclared, assign, trailWith, tested, markDeclared, free, withEntry}
 use Rattle.rules.specs.Evaluate.{firstWith, isEntry, isAttribute, orElse, readIn, readAttribute, integers, booleans, equality, operate, ofConstant, comeTo, comeToAll, select, evaluate, armPatterns}
-use Rattle.rules.specs.Run.{assignsIn, assignsAny, declaresIn, declaresAny, pathAndTrail, withPathAndTrail, inBranch, stored, store, Given as GivenValue, isGiven, evaluateAll, defaultOf, givenOr, parameterValues, takenDefault, takenDefaults, storeAll, storeTitle, attributesUnder, marksFor, entryFrom, addEntry, addResource, afterTest, Declaration, ofType, ofClass, included, Declare, run, runBlock, branchPatterns, placedUnder, inClass, inBody, parentFirst, enterClass, declaration, runAtTop, topContext, nodeContext, withDefinition, runItems}
+use Rattle.rules.specs.Run.{assignsIn, assignsAny, declaresIn, declaresAny, pathAndTrail, withPathAndTrail, inBranch, stored, store, Given as GivenValue, isGiven, evaluateAll, defaultOf, givenOr, parameterValues, takenDefault, takenDefaults, storeAll, storeTitle, attributesUnder, marksFor, entryFrom, addEntry, addResource, afterTest, Declaration, ofType, ofClass, included, Declare, run, runBlock, branchPatterns, placedUnder, inClass, inBody, parentFirst, enterClass, declaration, runAtTop, topContext, nodeContext, runItems}
 use Rattle.rules.specs.declared.Verdict.{Verdict}
 use Rattle.rules.specs.declared.Verdict.the-variants.{Sound, Fault}
 use Rattle.rules.specs.Check.{check}
-use Rattle.rules.specs.Compile.{knownFirst, noneStruckOut, start, runManifest, checked, finalState}
+use Rattle.rules.specs.Compile.{isBuiltIn, knownWith, noneStruckOut, start, runManifest, checked, finalState}
 use Rattle.rules.specs.EditRule.{IsBytes}
 use Rattle.rules.specs.Why.{withoutLimits, isRefused, comesToOne, lowestPlace}
 use Rattle.rules.proofs.Lists.{Perhaps, notThere, there, perhaps-get, each-first, each-left, each-right, each-append, Each, noneLeft, also, found, neither, left-fails, eqb-sym}
 use Rattle.rules.proofs.Patterns.{Every, everyNone, everyConstant, everyDefault, chosen-holds, EveryBranch, branch-holds}
 use Rattle.rules.proofs.Outcome.{All, allRefused, allDone, allBind, allAny, allMap, allIf, allPassed, allFound, allGet, all-itself, allStep, withSteps}
-use Rattle.rules.proofs.Fits.{ConstantRead, InExpression, fitsConstant, fitsVariable, fitsTopVariable, fitsClassVariable, fitsOperation, fitsNegation, fitsAttributeRead, fitsSelector, fitsUnreadable, InArms, fitsNoArm, fitsArm, fitsDefaultArm, InAttributeField, InStatement, fitsAssignment, fitsConditional, fitsChoice, fitsResource, fitsDefined, fitsClass, fitsInclude, fitsUnreadableStatement, InBlock, fitsEnd, fitsNext, InBranches, fitsNoBranch, fitsBranch, fitsDefaultBranch, InParameter, InDefinition, InItem, fitsStatementItem, fitsNode, fitsDefinitionItem, type-found, class-found, manifest-read}
+use Rattle.rules.proofs.Gathering.{gathered-each}
+use Rattle.rules.proofs.Fits.{ConstantRead, InExpression, fitsConstant, fitsVariable, fitsTopVariable, fitsClassVariable, fitsOperation, fitsNegation, fitsAttributeRead, fitsSelector, fitsUnreadable, InArms, fitsNoArm, fitsArm, fitsDefaultArm, InAttributeField, InStatement, fitsAssignment, fitsConditional, fitsChoice, fitsResource, fitsDefined, fitsClass, fitsInclude, fitsUnreadableStatement, InBlock, fitsEnd, fitsNext, InBranches, fitsNoBranch, fitsBranch, fitsDefaultBranch, InParameter, InDefinition, InItem, fitsStatementItem, fitsNode, fitsDefinitionItem, in-definition, type-found, class-found, manifest-read}
 use Rattle.rules.proofs.Laws.{items-for-each}
 use Rattle.rules.proofs.Strikes.{labelledBelow, struck-same, Lowest, lowest-place}
 
@@ -417,19 +418,20 @@ module _ (Given : Type 0) (Of : Constant → Type 0) (struck : Constant → Bool
     top-has k same defs f c st w h = block-has k same (declaration k 17) (declaration-has k same defs 17) f c st w h
 
     items-have : (k : Known) → Strikes k → Each (InDefinition Given Of) (k .definitions) → {is : List Item} → Each (InItem Given Of) is → (st : State) → StateHas st → All StateHas (runItems k is st)
-    unfolding runItems topContext nodeContext withDefinition
+    unfolding runItems topContext nodeContext
     items-have k same defs noneLeft st h = allDone h
     items-have k same defs (also (fitsStatementItem f) fs) st h = allBind (top-has k same defs (fitsNext f fitsEnd) topContext st (joins .none) h) λ st′ h′. items-have k same defs fs st′ h′
     items-have k same defs (also (fitsNode _ f) fs) st h = allBind (top-has k same defs f nodeContext st (joins .none) h) λ st′ h′. items-have k same defs fs st′ h′
-    items-have k same defs (also (fitsDefinitionItem {d = d} f) fs) st h = allAny _ λ _. items-have (withDefinition d k) same (also f defs) fs st h
+    items-have k same defs (also (fitsDefinitionItem f) fs) st h = items-have k same defs fs st h
 
     start-has : (limit output : ℕ) → StateHas (start limit output)
     unfolding start
     start-has limit output = record { cells = λ s n. no-cell-has; trail = joins .none; entries = noneLeft }
 
     pub manifest-has : (manifest : Manifest) (device : List ℕ) (limit output : ℕ) → Each (InItem Given Of) (manifest .items) → All StateHas (runManifest struck manifest device limit output)
-    unfolding runManifest knownFirst
-    manifest-has manifest device limit output f = items-have (knownFirst struck (manifest .strings)) (λ v. refl) noneLeft (items-for-each (manifest .strings) device f) (start limit output) (start-has limit output)
+    unfolding runManifest knownWith
+    manifest-has manifest device limit output f = allBind (gathered-each (λ d. in-definition Given Of) (isBuiltIn (manifest .strings)) f noneLeft) λ ds defs.
+        items-have (knownWith struck (manifest .strings) ds) (λ v. refl) defs (items-for-each (manifest .strings) device f) (start limit output) (start-has limit output)
 
 -- ---- A label whose constants are struck out
 

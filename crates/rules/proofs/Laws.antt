@@ -14,12 +14,13 @@ use Rattle.rules.specs.Read.{manifestOf}
 use Rattle.rules.specs.State.{Attribute, Entry, State}
 use Rattle.rules.specs.Evaluate.{any, isEntry, isAttribute}
 use Rattle.rules.specs.Catalog.{entryBytes, catalogBytes, shownAll, readCatalog}
-use Rattle.rules.specs.Compile.{knownFirst, noneStruckOut, names, isDefaultNode, withoutNodes, withNode, isNode, itemsFor, roomIn, start, runManifest, finalState, onto, entriesInOrder, Compiled, compiledFrom, compiled}
+use Rattle.rules.specs.Compile.{isBuiltIn, knownWith, noneStruckOut, names, isDefaultNode, withoutNodes, withNode, isNode, itemsFor, roomIn, start, runManifest, finalState, onto, entriesInOrder, Compiled, compiledFrom, compiled}
 use Rattle.rules.specs.EditRule.{oneMore, howMany, IsBytes}
 use Rattle.rules.proofs.Lists.{Each, noneLeft, also, each-member, each-apply}
 use Rattle.rules.proofs.Outcome.{All, allDone, allBind, allAny, allGet}
 use Rattle.rules.proofs.ReadBack.{read-back}
-use Rattle.rules.proofs.Fits.{manifest-fits}
+use Rattle.rules.proofs.Gathering.{gathered-each}
+use Rattle.rules.proofs.Fits.{in-definition, manifest-fits}
 use Rattle.rules.proofs.Unique.{uniqueNone, entry-once, name-once}
 use Rattle.rules.proofs.Invariant.{Sound, no-cell-fits, items-sound}
 
@@ -74,10 +75,10 @@ module _ (Given : Type 0) where
 
 -- the invariant at the end of every accepted run; its ranges hold if the manifest is a byte string
 pub final-sound : (m device : List ℕ) (limit output memory : ℕ) → All (Sound (IsBytes m) limit (roomIn output)) (finalState m device limit output memory)
-unfolding finalState runManifest knownFirst
+unfolding finalState runManifest knownWith
 final-sound m device limit output memory =
-    allAny _ λ _. allAny _ λ _. allAny _ λ _.
-    items-sound (IsBytes m) limit (roomIn output) (knownFirst noneStruckOut (manifestOf m .strings)) noneLeft (items-for-each (manifestOf m .strings) device (manifest-fits m))
+    allAny _ λ _. allAny _ λ _. allAny _ λ _. allBind (gathered-each (λ d. in-definition _ _) (isBuiltIn (manifestOf m .strings)) (manifest-fits m) noneLeft) λ ds defs.
+    items-sound (IsBytes m) limit (roomIn output) (knownWith noneStruckOut (manifestOf m .strings) ds) defs (items-for-each (manifestOf m .strings) device (manifest-fits m))
     (start limit output) (start-sound (IsBytes m) limit output)
 
 -- ---- Entries in order: the same entries

@@ -6,8 +6,10 @@ pub mod Same
 pub mod Patterns
 pub mod Lists
 pub mod Outcome
+pub mod Gathering
 pub mod ThreeRuns
 pub mod Strikes
+pub mod FormerOrder
 pub mod Unique
 pub mod Entries
 pub mod SetParts

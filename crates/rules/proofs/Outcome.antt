@@ -21,6 +21,23 @@ pub data Two {A B : Type 0} (R : A → B → Type 0) : Outcome A → Outcome B �
   rightRefused : {r : Reason} {p : ℕ} {m : Outcome A} → Two R m (refused r p)
   bothDone : {a : A} {b : B} → R a b → Two R (done a) (done b)
 
+-- ---- One after the other
+
+module _ {A B : Type 0} where
+  pub bind-bind : {C : Type 0} (o : Outcome A) (f : A → Outcome B) (g : B → Outcome C) → ((o >>= f) >>= g) ≡ (o >>= λ a. f a >>= g)
+  unfolding _>>=_
+  bind-bind (refused r p) f g = refl
+  bind-bind (done a) f g = refl
+
+  pub bind-same : (o : Outcome A) (f g : A → Outcome B) → ((a : A) → f a ≡ g a) → (o >>= f) ≡ (o >>= g)
+  unfolding _>>=_
+  bind-same (refused r p) f g e = refl
+  bind-same (done a) f g e = e a
+
+  pub bind-done : (f : A → Outcome B) {o : Outcome A} {a : A} → o ≡ done a → (o >>= f) ≡ f a
+  unfolding _>>=_
+  bind-done f e = rw e refl
+
 -- ---- One run
 
 module _ {A B : Type 0} where

@@ -17,7 +17,7 @@ use Rattle.values.specs.declared.Reason.the-variants.{StepLimit, Overflow, Divi
 use Rattle.values.specs.Numbers.{numberOf}
 use Rattle.rules.specs.Outcome.{Outcome, refused, done, _>>=_, refuseIf, orRefuse, Result, fails, gives, at, joining}
 use Rattle.rules.specs.Arithmetic.{integerIn, stringIn, booleanIn, fits64, inRange, isZero, floorDivide, sum, difference, quotient, isGreater}
-use Rattle.rules.specs.Tree.{Constant, Operator, plus, minus, divide, greater, equal, and, or, Expression, constant, variable, topVariable, classVariable, operation, negation, attributeRead, selector, Arms, noArm, arm, defaultArm, placeOf, AttributeField, Statement, assignment, conditional, choice, builtInResource, definedResource, classWithAttributes, include, Block, end, next, Branches, noBranch, branch, defaultBranch, Parameter, Parent, ClassDefinition, Item, statement, node, definition}
+use Rattle.rules.specs.Tree.{Constant, Operator, plus, minus, divide, greater, equal, and, or, Expression, constant, variable, topVariable, classVariable, operation, negation, attributeRead, selector, Arms, noArm, arm, defaultArm, placeOf, AttributeField, Statement, assignment, conditional, choice, builtInResource, definedResource, classWithAttributes, include, Block, end, next, Branches, noBranch, branch, defaultBranch, Parameter, Parent, ClassDefinition, Definition, Item, statement, node, definition}
 use Rattle.rules.specs.Tree
 use Rattle.rules.specs.Bytes.{pick, byte, two, endOf, fieldsIn}
 use Rattle.rules.specs.Format.{formOf, headSize, mayEnd, bytesRight, namesRight}
@@ -33,7 +33,7 @@ use Rattle.rules.specs.Check.{header, andThen, allowing, walk, rest, bod
 use Rattle.rules.specs.Patterns.{Patterns}
 use Rattle.rules.specs.State.{Scope, topScope, classScope, Cells, Entry, State, Context, Known, scopesTried, isDeclared, takeStep, cellsFor, assign}
 use Rattle.rules.specs.Evaluate.{orElse, readIn, readAttribute, integers, booleans, equality, operate, comeTo, comeToAll, select, evaluate, armPatterns}
-use Rattle.rules.specs.Run.{store, Given, evaluateAll, namedOnce, parametersKnown, parameterValues, storeAll, storeTitle, addEntry, addResource, afterTest, doNothing, Declaration, ofType, ofClass, included, Declare, run, runBlock, branchPatterns, parentFirst, enterClass, declaration, runAtTop, topContext, nodeContext, withDefinition, runItems}
+use Rattle.rules.specs.Run.{store, Given, evaluateAll, namedOnce, parametersKnown, parameterValues, storeAll, storeTitle, addEntry, addResource, afterTest, doNothing, Declaration, ofType, ofClass, included, Declare, run, runBlock, branchPatterns, parentFirst, enterClass, declaration, runAtTop, topContext, nodeContext, gatherDefinitions, runItems}
 use Rattle.rules.specs.Compile.{runManifest, checked, finalState}
 use Rattle.rules.proofs.Outcome.{withSteps}
 use Rattle.rules.proofs.Patterns.{Every, everyNone, everyConstant, everyDefault, chosen-holds}
@@ -313,11 +313,18 @@ unfolding runAtTop
 own-top known b here st = own-block known (declaration known 17) (own-declaration known 17) b here st
 
 own-items : (known : Known) (items : List Item) (st : State) → IfRefused Own (runItems known items st)
-unfolding runItems numberOf
+unfolding runItems
 own-items known [] st = accepts
 own-items known (statement s ∷ items) st = refusal-bind (own-top known (next s end) topContext st) λ st′. own-items known items st′
 own-items known (node devices block ∷ items) st = refusal-bind (own-top known block nodeContext st) λ st′. own-items known items st′
-own-items known (definition d ∷ items) st = refusal-bind (refusal-if _ _ _ (lit< tt)) λ _. own-items (withDefinition d known) items st
+own-items known (definition d ∷ items) st = own-items known items st
+
+own-gathering : (builtIn : ℕ → Bool) (earlier : List Definition) (items : List Item) → IfRefused Own (gatherDefinitions builtIn earlier items)
+unfolding gatherDefinitions numberOf
+own-gathering builtIn earlier [] = accepts
+own-gathering builtIn earlier (statement s ∷ items) = own-gathering builtIn earlier items
+own-gathering builtIn earlier (node devices block ∷ items) = own-gathering builtIn earlier items
+own-gathering builtIn earlier (definition d ∷ items) = refusal-bind (refusal-if _ _ _ (lit< tt)) λ _. own-gathering builtIn (d ∷ earlier) items
 
 -- ---- The check before running
 
@@ -383,4 +390,4 @@ own-checked (ownFault h) = refuses h
 -- THE LAW: every refusal of a compile is one of document 01's
 pub own-refusals : (m device : List ℕ) (limit output memory : ℕ) → IfRefused Own (finalState m device limit output memory)
 unfolding finalState runManifest numberOf
-own-refusals m device limit output memory = refusal-bind (refusal-if _ _ _ (lit< tt)) λ _. refusal-bind (refusal-if _ _ _ (lit< tt)) λ _. refusal-bind (own-checked (own-check m)) λ _. own-items _ _ _
+own-refusals m device limit output memory = refusal-bind (refusal-if _ _ _ (lit< tt)) λ _. refusal-bind (refusal-if _ _ _ (lit< tt)) λ _. refusal-bind (own-checked (own-check m)) λ _. refusal-bind (own-gathering _ _ _) λ _. own-items _ _ _

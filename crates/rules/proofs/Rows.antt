@@ -3,8 +3,8 @@
 -- After a refusal the whole output is zero; a catalog is followed by zeros up to the output's end. "Kills" names the wrong rules under
 -- which the row would be false.
 --
--- Rows 29 to 36 and row 16 are of the request that a default goes last. No starred row has a default before another pattern, so the starred
--- ones stand as they were.
+-- Rows 29 to 36 and row 16 are of the request that a default goes last, rows 37 to 44 of the request that definitions may stand anywhere. No starred row has a
+-- default before another pattern or uses a definition before it stands, so the starred ones stand as they were.
 use Prim.Native.Nat.{ℕ}
 use mathlib.Core.List.{List, [], _∷_}
 
@@ -848,11 +848,168 @@ row36 = record {
       66 ∷ 0 ∷ 8 ∷ 0 ∷ 0 ∷ 0 ∷ 0 ∷ 0 ∷ 0 ∷ 0 ∷ 8 ∷ []);
 }
 
+-- 37. include a; class a {kiosk "front" (1): price = 40 (2), screens = 2 (3)}.
+-- "A class or type must be usable before its definition": the class is declared at the 29. The kiosk has 1, its price 1,2 and its screens 1,3. Steps: 29, 25.
+-- Kills: a class found only if defined before (9 at the 29).
+unfoldable pub row37 : Row
+row37 = record {
+  manifest =
+      1 ∷ 0 ∷ 38 ∷ 2 ∷ 0 ∷ 1 ∷ 97 ∷ 2 ∷ 0 ∷ 5 ∷ 102 ∷ 114 ∷ 111 ∷ 110 ∷ 116 ∷ 2 ∷ 0 ∷ 5 ∷ 107 ∷ 105 ∷ 111 ∷ 115 ∷ 107 ∷ 2 ∷ 0 ∷ 5 ∷ 112 ∷ 114 ∷ 105 ∷ 99 ∷ 101 ∷ 2 ∷ 0 ∷ 7 ∷ 115 ∷ 99 ∷ 114 ∷ 101 ∷ 101 ∷ 110 ∷ 115 ∷
+      41 ∷ 0 ∷ 2 ∷ 0 ∷ 0 ∷
+      52 ∷ 0 ∷ 50 ∷ 0 ∷ 0 ∷ 32 ∷ 0 ∷ 45 ∷ 37 ∷ 0 ∷ 42 ∷ 0 ∷ 2 ∷ 17 ∷ 0 ∷ 3 ∷ 1 ∷ 0 ∷ 1 ∷ 38 ∷ 0 ∷ 14 ∷ 0 ∷ 3 ∷ 16 ∷ 0 ∷ 9 ∷ 2 ∷ 0 ∷ 0 ∷ 0 ∷ 0 ∷ 0 ∷ 0 ∷ 0 ∷ 40 ∷ 38 ∷ 0 ∷ 14 ∷ 0 ∷ 4 ∷ 16 ∷ 0 ∷ 9 ∷ 3 ∷ 0 ∷ 0 ∷ 0 ∷ 0 ∷ 0 ∷ 0 ∷ 0 ∷ 2 ∷ [];
+  device = 100 ∷ 101 ∷ 115 ∷ 107 ∷ [];
+  limit = 65535;
+  output = 200;
+  memory = 65536;
+  expected = accepted 2 (
+      64 ∷ 0 ∷ 132 ∷ 0 ∷ 2 ∷ 0 ∷ 1 ∷
+      2 ∷ 0 ∷ 0 ∷ 0 ∷ 0 ∷ 0 ∷ 0 ∷ 0 ∷ 0 ∷ 0 ∷ 0 ∷ 0 ∷ 0 ∷ 0 ∷ 0 ∷ 0 ∷ 0 ∷ 0 ∷ 0 ∷ 0 ∷ 0 ∷ 0 ∷ 0 ∷ 0 ∷ 0 ∷ 0 ∷ 0 ∷ 0 ∷ 0 ∷ 0 ∷ 0 ∷ 0 ∷
+      65 ∷ 0 ∷ 45 ∷ 0 ∷ 3 ∷
+      6 ∷ 0 ∷ 0 ∷ 0 ∷ 0 ∷ 0 ∷ 0 ∷ 0 ∷ 0 ∷ 0 ∷ 0 ∷ 0 ∷ 0 ∷ 0 ∷ 0 ∷ 0 ∷ 0 ∷ 0 ∷ 0 ∷ 0 ∷ 0 ∷ 0 ∷ 0 ∷ 0 ∷ 0 ∷ 0 ∷ 0 ∷ 0 ∷ 0 ∷ 0 ∷ 0 ∷ 0 ∷
+      66 ∷ 0 ∷ 8 ∷ 0 ∷ 0 ∷ 0 ∷ 0 ∷ 0 ∷ 0 ∷ 0 ∷ 40 ∷
+      65 ∷ 0 ∷ 45 ∷ 0 ∷ 4 ∷
+      10 ∷ 0 ∷ 0 ∷ 0 ∷ 0 ∷ 0 ∷ 0 ∷ 0 ∷ 0 ∷ 0 ∷ 0 ∷ 0 ∷ 0 ∷ 0 ∷ 0 ∷ 0 ∷ 0 ∷ 0 ∷ 0 ∷ 0 ∷ 0 ∷ 0 ∷ 0 ∷ 0 ∷ 0 ∷ 0 ∷ 0 ∷ 0 ∷ 0 ∷ 0 ∷ 0 ∷ 0 ∷
+      66 ∷ 0 ∷ 8 ∷ 0 ∷ 0 ∷ 0 ∷ 0 ∷ 0 ∷ 0 ∷ 0 ∷ 2 ∷ []);
+}
+
+-- 38. Row 37 with 55 (2) for 40 (2): "Demand 3 covers such uses too". The edited constant stands in the class that is defined behind its use, and its label
+-- is in the price's set and not in that of screens, which stays (EditRuleUsed).
+unfoldable pub row38 : Row
+row38 = record {
+  manifest =
+      1 ∷ 0 ∷ 38 ∷ 2 ∷ 0 ∷ 1 ∷ 97 ∷ 2 ∷ 0 ∷ 5 ∷ 102 ∷ 114 ∷ 111 ∷ 110 ∷ 116 ∷ 2 ∷ 0 ∷ 5 ∷ 107 ∷ 105 ∷ 111 ∷ 115 ∷ 107 ∷ 2 ∷ 0 ∷ 5 ∷ 112 ∷ 114 ∷ 105 ∷ 99 ∷ 101 ∷ 2 ∷ 0 ∷ 7 ∷ 115 ∷ 99 ∷ 114 ∷ 101 ∷ 101 ∷ 110 ∷ 115 ∷
+      41 ∷ 0 ∷ 2 ∷ 0 ∷ 0 ∷
+      52 ∷ 0 ∷ 50 ∷ 0 ∷ 0 ∷ 32 ∷ 0 ∷ 45 ∷ 37 ∷ 0 ∷ 42 ∷ 0 ∷ 2 ∷ 17 ∷ 0 ∷ 3 ∷ 1 ∷ 0 ∷ 1 ∷ 38 ∷ 0 ∷ 14 ∷ 0 ∷ 3 ∷ 16 ∷ 0 ∷ 9 ∷ 2 ∷ 0 ∷ 0 ∷ 0 ∷ 0 ∷ 0 ∷ 0 ∷ 0 ∷ 55 ∷ 38 ∷ 0 ∷ 14 ∷ 0 ∷ 4 ∷ 16 ∷ 0 ∷ 9 ∷ 3 ∷ 0 ∷ 0 ∷ 0 ∷ 0 ∷ 0 ∷ 0 ∷ 0 ∷ 2 ∷ [];
+  device = 100 ∷ 101 ∷ 115 ∷ 107 ∷ [];
+  limit = 65535;
+  output = 200;
+  memory = 65536;
+  expected = accepted 2 (
+      64 ∷ 0 ∷ 132 ∷ 0 ∷ 2 ∷ 0 ∷ 1 ∷
+      2 ∷ 0 ∷ 0 ∷ 0 ∷ 0 ∷ 0 ∷ 0 ∷ 0 ∷ 0 ∷ 0 ∷ 0 ∷ 0 ∷ 0 ∷ 0 ∷ 0 ∷ 0 ∷ 0 ∷ 0 ∷ 0 ∷ 0 ∷ 0 ∷ 0 ∷ 0 ∷ 0 ∷ 0 ∷ 0 ∷ 0 ∷ 0 ∷ 0 ∷ 0 ∷ 0 ∷ 0 ∷
+      65 ∷ 0 ∷ 45 ∷ 0 ∷ 3 ∷
+      6 ∷ 0 ∷ 0 ∷ 0 ∷ 0 ∷ 0 ∷ 0 ∷ 0 ∷ 0 ∷ 0 ∷ 0 ∷ 0 ∷ 0 ∷ 0 ∷ 0 ∷ 0 ∷ 0 ∷ 0 ∷ 0 ∷ 0 ∷ 0 ∷ 0 ∷ 0 ∷ 0 ∷ 0 ∷ 0 ∷ 0 ∷ 0 ∷ 0 ∷ 0 ∷ 0 ∷ 0 ∷
+      66 ∷ 0 ∷ 8 ∷ 0 ∷ 0 ∷ 0 ∷ 0 ∷ 0 ∷ 0 ∷ 0 ∷ 55 ∷
+      65 ∷ 0 ∷ 45 ∷ 0 ∷ 4 ∷
+      10 ∷ 0 ∷ 0 ∷ 0 ∷ 0 ∷ 0 ∷ 0 ∷ 0 ∷ 0 ∷ 0 ∷ 0 ∷ 0 ∷ 0 ∷ 0 ∷ 0 ∷ 0 ∷ 0 ∷ 0 ∷ 0 ∷ 0 ∷ 0 ∷ 0 ∷ 0 ∷ 0 ∷ 0 ∷ 0 ∷ 0 ∷ 0 ∷ 0 ∷ 0 ∷ 0 ∷ 0 ∷
+      66 ∷ 0 ∷ 8 ∷ 0 ∷ 0 ∷ 0 ∷ 0 ∷ 0 ∷ 0 ∷ 0 ∷ 2 ∷ []);
+}
+
+-- 39. t "front" (1): price = 40 (2); type t (price) {kiosk title: price = price}.
+-- As row 37, of a type. The title has 1 and the parameter 2, so the kiosk has 1 and its price 1,2. Steps: 27, 25.
+-- Kills: a type found only if defined before (9 at the 27).
+unfoldable pub row39 : Row
+row39 = record {
+  manifest =
+      1 ∷ 0 ∷ 36 ∷ 2 ∷ 0 ∷ 5 ∷ 102 ∷ 114 ∷ 111 ∷ 110 ∷ 116 ∷ 2 ∷ 0 ∷ 5 ∷ 107 ∷ 105 ∷ 111 ∷ 115 ∷ 107 ∷ 2 ∷ 0 ∷ 5 ∷ 112 ∷ 114 ∷ 105 ∷ 99 ∷ 101 ∷ 2 ∷ 0 ∷ 1 ∷ 116 ∷ 2 ∷ 0 ∷ 5 ∷ 116 ∷ 105 ∷ 116 ∷ 108 ∷ 101 ∷
+      39 ∷ 0 ∷ 25 ∷ 0 ∷ 3 ∷ 17 ∷ 0 ∷ 3 ∷ 1 ∷ 0 ∷ 0 ∷ 38 ∷ 0 ∷ 14 ∷ 0 ∷ 2 ∷ 16 ∷ 0 ∷ 9 ∷ 2 ∷ 0 ∷ 0 ∷ 0 ∷ 0 ∷ 0 ∷ 0 ∷ 0 ∷ 40 ∷
+      50 ∷ 0 ∷ 30 ∷ 0 ∷ 3 ∷ 51 ∷ 0 ∷ 2 ∷ 0 ∷ 2 ∷ 32 ∷ 0 ∷ 20 ∷ 37 ∷ 0 ∷ 17 ∷ 0 ∷ 1 ∷ 19 ∷ 0 ∷ 2 ∷ 0 ∷ 4 ∷ 38 ∷ 0 ∷ 7 ∷ 0 ∷ 2 ∷ 19 ∷ 0 ∷ 2 ∷ 0 ∷ 2 ∷ [];
+  device = 100 ∷ 101 ∷ 115 ∷ 107 ∷ [];
+  limit = 65535;
+  output = 200;
+  memory = 65536;
+  expected = accepted 2 (
+      64 ∷ 0 ∷ 84 ∷ 0 ∷ 1 ∷ 0 ∷ 0 ∷
+      2 ∷ 0 ∷ 0 ∷ 0 ∷ 0 ∷ 0 ∷ 0 ∷ 0 ∷ 0 ∷ 0 ∷ 0 ∷ 0 ∷ 0 ∷ 0 ∷ 0 ∷ 0 ∷ 0 ∷ 0 ∷ 0 ∷ 0 ∷ 0 ∷ 0 ∷ 0 ∷ 0 ∷ 0 ∷ 0 ∷ 0 ∷ 0 ∷ 0 ∷ 0 ∷ 0 ∷ 0 ∷
+      65 ∷ 0 ∷ 45 ∷ 0 ∷ 2 ∷
+      6 ∷ 0 ∷ 0 ∷ 0 ∷ 0 ∷ 0 ∷ 0 ∷ 0 ∷ 0 ∷ 0 ∷ 0 ∷ 0 ∷ 0 ∷ 0 ∷ 0 ∷ 0 ∷ 0 ∷ 0 ∷ 0 ∷ 0 ∷ 0 ∷ 0 ∷ 0 ∷ 0 ∷ 0 ∷ 0 ∷ 0 ∷ 0 ∷ 0 ∷ 0 ∷ 0 ∷ 0 ∷
+      66 ∷ 0 ∷ 8 ∷ 0 ∷ 0 ∷ 0 ∷ 0 ∷ 0 ∷ 0 ∷ 0 ∷ 40 ∷ []);
+}
+
+-- 40. class b under a {kiosk "front" (1): price = price}; include b; class a {price = 40 (2)}.
+-- The parent is defined behind its child and behind the declaration that needs it. It is declared first: price is read from its scope, with 2. Steps: 29, the
+-- parent's declaration, 21, 25.
+-- Kills: a parent found only if defined before (9 at the 35).
+unfoldable pub row40 : Row
+row40 = record {
+  manifest =
+      1 ∷ 0 ∷ 32 ∷ 2 ∷ 0 ∷ 1 ∷ 97 ∷ 2 ∷ 0 ∷ 1 ∷ 98 ∷ 2 ∷ 0 ∷ 5 ∷ 102 ∷ 114 ∷ 111 ∷ 110 ∷ 116 ∷ 2 ∷ 0 ∷ 5 ∷ 107 ∷ 105 ∷ 111 ∷ 115 ∷ 107 ∷ 2 ∷ 0 ∷ 5 ∷ 112 ∷ 114 ∷ 105 ∷ 99 ∷ 101 ∷
+      52 ∷ 0 ∷ 31 ∷ 0 ∷ 1 ∷ 53 ∷ 0 ∷ 2 ∷ 0 ∷ 0 ∷ 32 ∷ 0 ∷ 21 ∷ 37 ∷ 0 ∷ 18 ∷ 0 ∷ 3 ∷ 17 ∷ 0 ∷ 3 ∷ 1 ∷ 0 ∷ 2 ∷ 38 ∷ 0 ∷ 7 ∷ 0 ∷ 4 ∷ 19 ∷ 0 ∷ 2 ∷ 0 ∷ 4 ∷
+      41 ∷ 0 ∷ 2 ∷ 0 ∷ 1 ∷
+      52 ∷ 0 ∷ 22 ∷ 0 ∷ 0 ∷ 32 ∷ 0 ∷ 17 ∷ 33 ∷ 0 ∷ 14 ∷ 0 ∷ 4 ∷ 16 ∷ 0 ∷ 9 ∷ 2 ∷ 0 ∷ 0 ∷ 0 ∷ 0 ∷ 0 ∷ 0 ∷ 0 ∷ 40 ∷ [];
+  device = 100 ∷ 101 ∷ 115 ∷ 107 ∷ [];
+  limit = 65535;
+  output = 200;
+  memory = 65536;
+  expected = accepted 4 (
+      64 ∷ 0 ∷ 84 ∷ 0 ∷ 3 ∷ 0 ∷ 2 ∷
+      2 ∷ 0 ∷ 0 ∷ 0 ∷ 0 ∷ 0 ∷ 0 ∷ 0 ∷ 0 ∷ 0 ∷ 0 ∷ 0 ∷ 0 ∷ 0 ∷ 0 ∷ 0 ∷ 0 ∷ 0 ∷ 0 ∷ 0 ∷ 0 ∷ 0 ∷ 0 ∷ 0 ∷ 0 ∷ 0 ∷ 0 ∷ 0 ∷ 0 ∷ 0 ∷ 0 ∷ 0 ∷
+      65 ∷ 0 ∷ 45 ∷ 0 ∷ 4 ∷
+      6 ∷ 0 ∷ 0 ∷ 0 ∷ 0 ∷ 0 ∷ 0 ∷ 0 ∷ 0 ∷ 0 ∷ 0 ∷ 0 ∷ 0 ∷ 0 ∷ 0 ∷ 0 ∷ 0 ∷ 0 ∷ 0 ∷ 0 ∷ 0 ∷ 0 ∷ 0 ∷ 0 ∷ 0 ∷ 0 ∷ 0 ∷ 0 ∷ 0 ∷ 0 ∷ 0 ∷ 0 ∷
+      66 ∷ 0 ∷ 8 ∷ 0 ∷ 0 ∷ 0 ∷ 0 ∷ 0 ∷ 0 ∷ 0 ∷ 40 ∷ []);
+}
+
+-- 41. kiosk "front" (1): price = a::price; class a {price = 40 (2)}.
+-- "A 15 of a class defined later and not declared is 13", at the 15.
+-- Kills: a class known only from where it stands (9 at the 15).
+unfoldable pub row41 : Row
+row41 = record {
+  manifest =
+      1 ∷ 0 ∷ 28 ∷ 2 ∷ 0 ∷ 1 ∷ 97 ∷ 2 ∷ 0 ∷ 5 ∷ 102 ∷ 114 ∷ 111 ∷ 110 ∷ 116 ∷ 2 ∷ 0 ∷ 5 ∷ 107 ∷ 105 ∷ 111 ∷ 115 ∷ 107 ∷ 2 ∷ 0 ∷ 5 ∷ 112 ∷ 114 ∷ 105 ∷ 99 ∷ 101 ∷
+      37 ∷ 0 ∷ 20 ∷ 0 ∷ 2 ∷ 17 ∷ 0 ∷ 3 ∷ 1 ∷ 0 ∷ 1 ∷ 38 ∷ 0 ∷ 9 ∷ 0 ∷ 3 ∷ 21 ∷ 0 ∷ 4 ∷ 0 ∷ 0 ∷ 0 ∷ 3 ∷
+      52 ∷ 0 ∷ 22 ∷ 0 ∷ 0 ∷ 32 ∷ 0 ∷ 17 ∷ 33 ∷ 0 ∷ 14 ∷ 0 ∷ 3 ∷ 16 ∷ 0 ∷ 9 ∷ 2 ∷ 0 ∷ 0 ∷ 0 ∷ 0 ∷ 0 ∷ 0 ∷ 0 ∷ 40 ∷ [];
+  device = 100 ∷ 101 ∷ 115 ∷ 107 ∷ [];
+  limit = 65535;
+  output = 200;
+  memory = 65536;
+  expected = refused 13 47;
+}
+
+-- 42. kiosk "front" (1): price = the price of t "front" (2); type t {}.
+-- "An 18 of a type defined later is 19", at the 18.
+-- Kills: a type known only from where it stands (9 at the 18).
+unfoldable pub row42 : Row
+row42 = record {
+  manifest =
+      1 ∷ 0 ∷ 28 ∷ 2 ∷ 0 ∷ 5 ∷ 102 ∷ 114 ∷ 111 ∷ 110 ∷ 116 ∷ 2 ∷ 0 ∷ 5 ∷ 107 ∷ 105 ∷ 111 ∷ 115 ∷ 107 ∷ 2 ∷ 0 ∷ 5 ∷ 112 ∷ 114 ∷ 105 ∷ 99 ∷ 101 ∷ 2 ∷ 0 ∷ 1 ∷ 116 ∷
+      37 ∷ 0 ∷ 26 ∷ 0 ∷ 1 ∷ 17 ∷ 0 ∷ 3 ∷ 1 ∷ 0 ∷ 0 ∷ 38 ∷ 0 ∷ 15 ∷ 0 ∷ 2 ∷ 24 ∷ 0 ∷ 10 ∷ 0 ∷ 3 ∷ 0 ∷ 2 ∷ 17 ∷ 0 ∷ 3 ∷ 2 ∷ 0 ∷ 0 ∷
+      50 ∷ 0 ∷ 5 ∷ 0 ∷ 3 ∷ 32 ∷ 0 ∷ 0 ∷ [];
+  device = 100 ∷ 101 ∷ 115 ∷ 107 ∷ [];
+  limit = 65535;
+  output = 200;
+  memory = 65536;
+  expected = refused 19 47;
+}
+
+-- 43. include a; class a {}; class a {}; with limit 0.
+-- 8 "is given after 5 and before any step", also with limit 0: at the second 34.
+-- Kills: 8 given where the second definition stands in the run (6 at the 29).
+unfoldable pub row43 : Row
+row43 = record {
+  manifest =
+      1 ∷ 0 ∷ 4 ∷ 2 ∷ 0 ∷ 1 ∷ 97 ∷
+      41 ∷ 0 ∷ 2 ∷ 0 ∷ 0 ∷
+      52 ∷ 0 ∷ 5 ∷ 0 ∷ 0 ∷ 32 ∷ 0 ∷ 0 ∷
+      52 ∷ 0 ∷ 5 ∷ 0 ∷ 0 ∷ 32 ∷ 0 ∷ 0 ∷ [];
+  device = 100 ∷ 101 ∷ 115 ∷ 107 ∷ [];
+  limit = 0;
+  output = 200;
+  memory = 65536;
+  expected = refused 8 20;
+}
+
+-- 44. x = x; type kiosk {}.
+-- A definition with a built-in type's name is 8, before the 13 of the read that runs before it.
+-- Kills: 8 given in the run (13 at the 13).
+unfoldable pub row44 : Row
+row44 = record {
+  manifest =
+      1 ∷ 0 ∷ 12 ∷ 2 ∷ 0 ∷ 5 ∷ 107 ∷ 105 ∷ 111 ∷ 115 ∷ 107 ∷ 2 ∷ 0 ∷ 1 ∷ 120 ∷
+      33 ∷ 0 ∷ 7 ∷ 0 ∷ 1 ∷ 19 ∷ 0 ∷ 2 ∷ 0 ∷ 1 ∷
+      50 ∷ 0 ∷ 5 ∷ 0 ∷ 0 ∷ 32 ∷ 0 ∷ 0 ∷ [];
+  device = 100 ∷ 101 ∷ 115 ∷ 107 ∷ [];
+  limit = 65535;
+  output = 200;
+  memory = 65536;
+  expected = refused 8 25;
+}
+
 unfoldable pub table : List Row
 table =
     row1 ∷ row2 ∷ row3 ∷ row4 ∷ row5 ∷ row6 ∷ row7 ∷ row8 ∷ row9 ∷ row10 ∷ row11 ∷ row12 ∷ row13 ∷
     row14 ∷ row15 ∷ row16 ∷ row17 ∷ row18 ∷ row19 ∷ row20 ∷ row21 ∷ row22 ∷ row23 ∷ row24 ∷ row25 ∷ row26 ∷
-    row27 ∷ row28 ∷ row29 ∷ row30 ∷ row31 ∷ row32 ∷ row33 ∷ row34 ∷ row35 ∷ row36 ∷ []
+    row27 ∷ row28 ∷ row29 ∷ row30 ∷ row31 ∷ row32 ∷ row33 ∷ row34 ∷ row35 ∷ row36 ∷ row37 ∷ row38 ∷ row39 ∷
+    row40 ∷ row41 ∷ row42 ∷ row43 ∷ row44 ∷ []
 
 -- What the schedule printer writes for the manifests of rows 1 and 2 and device "desk". Each line ends in a line feed.
 

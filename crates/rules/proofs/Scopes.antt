@@ -15,7 +15,7 @@ use Rattle.rules.specs.Tree.{Constant, Statement, assignment, conditiona
 use Rattle.rules.specs.Tree
 use Rattle.rules.specs.State.{Scope, topScope, nodeScope, classScope, bodyScope, sameScope, Base, topBase, nodeBase, baseScope, DeclaredClass, parentOfClass, parentOf, upward, Cell, noCell, valueInto, markInto, freed, count, State, Context, Known, scopesTried, isDeclared, takeStep, assign, tested, markDeclared, free, withEntry}
 use Rattle.rules.specs.Evaluate.{findClass}
-use Rattle.rules.specs.Run.{inBranch, store, Given, takenDefaults, storeAll, storeTitle, addEntry, addResource, afterTest, Declaration, ofType, ofClass, included, Declare, run, runBlock, branchPatterns, placedUnder, inClass, inBody, parentFirst, enterClass, declaration, runAtTop, topContext, nodeContext, definedName, withDefinition, runItems}
+use Rattle.rules.specs.Run.{inBranch, store, Given, takenDefaults, storeAll, storeTitle, addEntry, addResource, afterTest, Declaration, ofType, ofClass, included, Declare, run, runBlock, branchPatterns, placedUnder, inClass, inBody, parentFirst, enterClass, declaration, runAtTop, topContext, nodeContext, definedName, runItems}
 use Rattle.rules.specs.Compile.{start}
 use Rattle.rules.proofs.Lists.{Perhaps, notThere, there, Each, noneLeft, also, eqb-true, eqb-same, both-left, both-right, both-true}
 use Rattle.rules.proofs.Patterns.{everyNone, everyConstant, everyDefault, EveryBranch, branch-holds}
@@ -418,16 +418,19 @@ pub data SmallItem : Item → Type 0 where
   smallNode : {ds : Devices} {b : Block} → SmallItem (node ds b)
   smallDefinition : {d : Definition} → Small d → SmallItem (definition d)
 
+pub small-definition : {d : Definition} → SmallItem (definition d) → Small d
+small-definition (smallDefinition h) = h
+
 top-tidy : (known : Known) → Each Small (known .definitions) → (b : Block) (here : Context) (st : State) → Outside everywhere (here .scope) → Tidy everywhere st → All (After everywhere st) (runAtTop known b here st)
 unfolding runAtTop
 top-tidy known small b here st o t = block-tidy known 17 (declaration known 17) (declaration-orderly known small 17) everywhere (λ j l. refl) b here st o t
 
 pub items-tidy : (known : Known) → Each Small (known .definitions) → {items : List Item} → Each SmallItem items → (st : State) → Tidy everywhere st → All (Tidy everywhere) (runItems known items st)
-unfolding runItems topContext nodeContext sameScope withDefinition
+unfolding runItems topContext nodeContext sameScope
 items-tidy known small noneLeft st t = allDone t
 items-tidy known small (also smallStatement is) st t = allBind (top-tidy known small _ topContext st (record { other = λ j f. refl }) t) λ st′ h. items-tidy known small is st′ (h .tidy)
 items-tidy known small (also smallNode is) st t = allBind (top-tidy known small _ nodeContext st (record { other = λ j f. refl }) t) λ st′ h. items-tidy known small is st′ (h .tidy)
-items-tidy known small (also (smallDefinition {d = d} h) is) st t = allAny _ λ _. items-tidy (withDefinition d known) (also h small) is st t
+items-tidy known small (also (smallDefinition h) is) st t = items-tidy known small is st t
 
 pub start-tidy : (limit outputLength : ℕ) → Tidy everywhere (start limit outputLength)
 unfolding start isDeclared

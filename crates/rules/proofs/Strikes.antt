@@ -103,7 +103,7 @@ module _ {A : Type 0} where
   refused-one (secondRefused {m = m}) h = or-true-right (isRefused m) true refl
   refused-one (threeDone p) h = absurd (false≢true h)
 
-  third-done : {m n o : Outcome A} {a : A} → Alike m n o → m ≡ done a → n ≡ done a → o ≡ done a
+  pub third-done : {m n o : Outcome A} {a : A} → Alike m n o → m ≡ done a → n ≡ done a → o ≡ done a
   third-done t e e′ = inside (rw (e, e′) at t)
     where
       inside : {o : Outcome A} {a : A} → Alike (done a) (done a) o → o ≡ done a

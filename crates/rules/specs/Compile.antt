@@ -12,12 +12,12 @@ use Rattle.values.specs.declared.Reason.the-variants.{MemoryTooShort, ManifestL
 use Rattle.rules.specs.declared.Verdict.{Verdict}
 use Rattle.rules.specs.declared.Verdict.the-variants.{Sound, Fault}
 use Rattle.rules.specs.Check.{check}
-use Rattle.rules.specs.Tree.{Constant, Devices, named, byDefault, Item, statement, node, definition, Manifest}
+use Rattle.rules.specs.Tree.{Constant, Devices, named, byDefault, Definition, Item, statement, node, definition, Manifest}
 use Rattle.rules.specs.Read.{manifestOf}
 use Rattle.rules.specs.Outcome.{Outcome, refused, done, _>>=_, refuseIf}
 use Rattle.rules.specs.State.{Entry, State, Known, noCell}
 use Rattle.rules.specs.Evaluate.{any}
-use Rattle.rules.specs.Run.{runItems}
+use Rattle.rules.specs.Run.{gatherDefinitions, runItems}
 use Rattle.rules.specs.Catalog.{catalogBytes}
 
 -- ---- Strings
@@ -57,9 +57,9 @@ titleText = 116 ∷ 105 ∷ 116 ∷ 108 ∷ 101 ∷ []
 unfoldable pub isBuiltIn : List (List ℕ) → ℕ → Bool
 isBuiltIn strings n = any (sameBytes (stringAt strings n)) builtInTypes
 
--- before the first item runs
-unfoldable pub knownFirst : (struckOut : Constant → Bool) → List (List ℕ) → Known
-knownFirst struckOut strings = record { builtIn = isBuiltIn strings; title = stringNumber titleText strings 0; definitions = []; struckOut = struckOut }
+-- what the names of a manifest mean, with its strings and its definitions
+unfoldable pub knownWith : (struckOut : Constant → Bool) → List (List ℕ) → List Definition → Known
+knownWith struckOut strings definitions = record { builtIn = isBuiltIn strings; title = stringNumber titleText strings 0; definitions = definitions; struckOut = struckOut }
 
 -- a compile takes the manifest as it is
 unfoldable pub noneStruckOut : Constant → Bool
@@ -115,9 +115,11 @@ start limit outputLength = record {
   room = roomIn outputLength;
 }
 
+-- "All definitions are gathered first"; 8 "is given after 5 and before any step"
 unfoldable pub runManifest : (struckOut : Constant → Bool) → Manifest → (device : List ℕ) → (limit outputLength : ℕ) → Outcome State
-runManifest struckOut manifest device limit outputLength =
-    runItems (knownFirst struckOut (manifest .strings)) (itemsFor (manifest .strings) device (manifest .items)) (start limit outputLength)
+runManifest struckOut manifest device limit outputLength = do
+  definitions ← gatherDefinitions (isBuiltIn (manifest .strings)) [] (manifest .items)
+  runItems (knownWith struckOut (manifest .strings) definitions) (itemsFor (manifest .strings) device (manifest .items)) (start limit outputLength)
 
 -- ---- The whole
 
@@ -125,7 +127,7 @@ unfoldable pub checked : Verdict → Outcome (Unit {0})
 checked Sound = done tt
 checked (Fault reason place) = refused reason place
 
--- 1, 2, then 3 to 5, then the run
+-- 1, 2, then 3 to 5, then 8 and the run
 unfoldable pub finalState : (manifest device : List ℕ) → (limit outputLength memoryLength : ℕ) → Outcome State
 finalState manifest device limit outputLength memoryLength = do
   _ ← refuseIf (ltb memoryLength 65536) MemoryTooShort 0

@@ -35,7 +35,7 @@ isEntry t n e = eqb (e .type) t && eqb (e .title) n
 unfoldable pub isAttribute : (name : ℕ) → Attribute → Bool
 isAttribute n a = eqb (a .name) n
 
--- ---- Definitions that have run: "classes and types share one set of names"
+-- ---- Definitions: "classes and types share one set of names"; "looking one up now finds a later one"
 
 unfoldable pub findType : ℕ → List Definition → Option TypeDefinition
 findType n [] = none
@@ -47,7 +47,7 @@ findClass n [] = none
 findClass n (typeDefinition type ∷ others) = findClass n others
 findClass n (classDefinition class ∷ others) = elim (eqb (class .name) n) [ true ↦ some class | false ↦ findClass n others ]
 
--- a type that is built in or defined so far
+-- a type that is built in or defined
 unfoldable pub isType : Known → ℕ → Bool
 isType known n = known .builtIn n || isSome (findType n (known .definitions))
 
@@ -140,7 +140,7 @@ select known patterns p x = do
   _ ← comeToAll known (tried patterns x)
   joining (triedLabels patterns x) (chosen patterns x (refused NoMatch p))
 
--- with what is known so far, in the context `here` and a state
+-- with what is known, in the context `here` and a state
 module _ (known : Known) (here : Context) (st : State) where
   unfoldable mutual
     pub evaluate : Expression → Outcome Labelled
@@ -148,7 +148,7 @@ module _ (known : Known) (here : Context) (st : State) where
       _ ← comeTo known v
       done (ofConstant v)
     evaluate (variable p n) = readIn p (st .cells) n (scopesTried here st)
-    -- "14 tries top only, 15 the class only"; a class that is not defined so far is 9
+    -- "14 tries top only, 15 the class only"; a class that is not defined is 9
     evaluate (topVariable p n) = readIn p (st .cells) n (topScope ∷ [])
     evaluate (classVariable p class n) = do
       _ ← refuseIf (not (isClass known class)) Unknown p
@@ -162,7 +162,7 @@ module _ (known : Known) (here : Context) (st : State) where
       joining (operand .labels) (do
         b ← at (placeOf a) (booleanIn (operand .value))
         plain (Boolean (not b)))
-    -- "an attribute read's is title expression and attribute"; a type neither built in nor defined so far is 9
+    -- "an attribute read's is title expression and attribute"; a type neither built in nor defined is 9
     evaluate (attributeRead p type name a) = do
       titled ← evaluate a
       joining (titled .labels) (do

@@ -237,7 +237,7 @@ statementPlace (classWithAttributes p class attributes) = p
 statementPlace (include p class) = p
 statementPlace (Statement.unreadable p) = p
 
--- with what is known so far, and with what a declaration does: one acts at the level of the statement that makes it
+-- with what is known, and with what a declaration does: one acts at the level of the statement that makes it
 module _ (known : Known) (declare : Declare) where
   unfoldable mutual
     -- a statement after its step: "evaluates its parts in written order, then makes its other checks by rising number"
@@ -384,14 +384,20 @@ definedPlace (classDefinition class) = class .place
 unfoldable pub isDefinition : ℕ → Definition → Bool
 isDefinition n d = eqb (definedName d) n
 
--- "A defined name is defined again, or is a built-in type" (8)
-unfoldable pub isTaken : Known → ℕ → Bool
-isTaken known n = known .builtIn n || any (isDefinition n) (known .definitions)
+-- "whose name an earlier item defines or that is a built-in type's"
+unfoldable pub isTaken : (builtIn : ℕ → Bool) → (earlier : List Definition) → (name : ℕ) → Bool
+isTaken builtIn earlier n = builtIn n || any (isDefinition n) earlier
 
-unfoldable pub withDefinition : Definition → Known → Known
-withDefinition d known = record { builtIn = known .builtIn; title = known .title; definitions = d ∷ known .definitions; struckOut = known .struckOut }
+-- "All definitions are gathered first", the latest first; "A defined name is defined again, or is a built-in type" (8), "at the first item, by place"
+unfoldable pub gatherDefinitions : (builtIn : ℕ → Bool) → (earlier : List Definition) → List Item → Outcome (List Definition)
+gatherDefinitions builtIn earlier [] = done earlier
+gatherDefinitions builtIn earlier (statement s ∷ items) = gatherDefinitions builtIn earlier items
+gatherDefinitions builtIn earlier (node devices block ∷ items) = gatherDefinitions builtIn earlier items
+gatherDefinitions builtIn earlier (definition d ∷ items) = do
+  _ ← refuseIf (isTaken builtIn earlier (definedName d)) DefinedAgain (definedPlace d)
+  gatherDefinitions builtIn (d ∷ earlier) items
 
--- "Items run in order. A definition must run before it is used". Of the nodes only the one that runs is among them.
+-- "Items run in order." Of the nodes only the one that runs is among them; a definition does nothing where it stands.
 unfoldable pub runItems : Known → List Item → State → Outcome State
 runItems known [] st = done st
 runItems known (statement s ∷ items) st = do
@@ -400,6 +406,4 @@ runItems known (statement s ∷ items) st = do
 runItems known (node devices block ∷ items) st = do
   st′ ← runAtTop known block nodeContext st
   runItems known items st′
-runItems known (definition d ∷ items) st = do
-  _ ← refuseIf (isTaken known (definedName d)) DefinedAgain (definedPlace d)
-  runItems (withDefinition d known) items st
+runItems known (definition d ∷ items) st = runItems known items st

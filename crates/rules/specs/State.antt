@@ -138,11 +138,11 @@ pub record Context : Type 0 where
   pub base : Base
   pub path : Labels  -- the path: "the union over the conditions enclosing the statement, through declarations too"
 
--- what a name may mean at this point of the manifest, and which constants are struck out of it
+-- what a name may mean anywhere in the manifest, and which constants are struck out of it
 pub record Known : Type 0 where
   pub builtIn : ℕ → Bool
   pub title : Option ℕ  -- the number of the string "title"
-  pub definitions : List Definition  -- those that have run, the latest first
+  pub definitions : List Definition  -- all of the manifest's, the latest first
   pub struckOut : Constant → Bool  -- none in a compile; only Why.antt strikes constants out, to ask whether the compile comes to them
 
 -- the scopes that a plain read tries: at most 1,024 classes, node and top (more of them change no read: proofs/Scopes.antt)

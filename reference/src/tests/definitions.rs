@@ -82,7 +82,8 @@ fn node_scope() {
     refuse(top_only, 13, "read");
 }
 
-/// R8: "8 is met when the item runs. It covers classes and types alike."
+/// R8: 8 "covers classes and types alike". It "is given after 5 and before any
+/// step" (document 02).
 #[test]
 fn r8_defined_again() {
     let class = || class_definition("a", None, vec![], vec![]);
@@ -109,8 +110,9 @@ fn r8_defined_again() {
             &[&format!("{name} a - - 1 1"), "steps 1"],
         );
     }
-    // A statement between them is refused first.
-    refuse(items(vec![class(), include("b").at("use"), class()]), 9, "use");
+    // A statement between them would be refused 9, had it run.
+    let between = vec![class(), include("b"), class().at("second")];
+    refuse(items(between), 8, "second");
     // A name that is nearly a built-in one is free.
     check(
         items(vec![
@@ -122,37 +124,20 @@ fn r8_defined_again() {
 }
 
 /// R8: "A parent is looked up when its child is declared, so it may be defined
-/// after the child." "A definition must run before it is used."
+/// after the child." Since "looking one up now finds a later one" (document 02),
+/// it may be defined after the use too.
 #[test]
 fn r8_parent_defined_later() {
-    let later = items(vec![
-        class_definition(
-            "child",
-            Some(parent("above").at("35")),
-            vec![],
-            vec![show(var("x"))],
-        ),
-        class_definition("above", None, vec![], vec![assign("x", int(1, 1))]),
-        include("child"),
-    ]);
+    let child = || {
+        let above = Some(parent("above").at("35"));
+        class_definition("child", above, vec![], vec![show(var("x"))])
+    };
+    let above = || class_definition("above", None, vec![], vec![assign("x", int(1, 1))]);
     // Steps: include, parent, assignment, resource.
-    check(later, &["kiosk front x 1 2 0,1", "steps 4"]);
-    let too_late = items(vec![
-        class_definition("child", Some(parent("above").at("35")), vec![], vec![]),
-        include("child"),
-        class_definition("above", None, vec![], vec![]),
-    ]);
-    refuse(too_late, 9, "35");
-    let use_first = items(vec![
-        include("c").at("use"),
-        class_definition("c", None, vec![], vec![]),
-    ]);
-    refuse(use_first, 9, "use");
-    let type_first = items(vec![
-        defined("t", text(1, "a"), vec![]).at("use"),
-        type_definition("t", vec![], vec![]),
-    ]);
-    refuse(type_first, 9, "use");
+    let lines = ["kiosk front x 1 2 0,1", "steps 4"];
+    check(items(vec![child(), above(), include("child")]), &lines);
+    check(items(vec![child(), include("child"), above()]), &lines);
+    refuse(items(vec![child(), include("child")]), 9, "35");
 }
 
 /// R9: "Two 33s of one name are no fault of the definition: when it is

@@ -38,7 +38,7 @@ fn other_constant(random: &mut Random, label: u8, strings: &[Vec<u8>]) -> Field 
 
 /// The same tree and table with some constants of other kinds or values, and
 /// the labels of those that differ.
-fn edited(random: &mut Random, manifest: &Manifest) -> (Manifest, Labels) {
+pub fn edited(random: &mut Random, manifest: &Manifest) -> (Manifest, Labels) {
     let mut other = manifest.clone();
     other.strings = manifest.all_strings();
     let strings = other.strings.clone();
@@ -67,7 +67,7 @@ fn edited(random: &mut Random, manifest: &Manifest) -> (Manifest, Labels) {
     (other, differing)
 }
 
-fn accepted(manifest: &Manifest) -> Option<Vec<Entry>> {
+pub fn accepted(manifest: &Manifest) -> Option<Vec<Entry>> {
     match Case::of(manifest.build().bytes).compile() {
         Ok((Answer::Catalog { .. }, bytes)) => entries(&bytes),
         _ => None,
@@ -75,7 +75,7 @@ fn accepted(manifest: &Manifest) -> Option<Vec<Entry>> {
 }
 
 /// The sentence of demand 3 for one pair.
-fn promise_holds(first: &[Entry], second: &[Entry], differing: &Labels) -> bool {
+pub fn promise_holds(first: &[Entry], second: &[Entry], differing: &Labels) -> bool {
     let same = |a: &Entry, b: &Entry| a.kind == b.kind && a.title == b.title;
     first.iter().all(|entry| {
         let opposite: Vec<&Entry> = second.iter().filter(|other| same(entry, other)).collect();

@@ -12,13 +12,15 @@ fn value(expression: Field, printed: &str) {
     );
 }
 
-/// R17: "15 naming a class that is not defined so far (or a type): 9 at the
-/// 15"; "A class defined and not declared ...: 13 at the 15."
+/// R17: 15 naming a class that the whole manifest does not define (or a type): 9
+/// at the 15; "A class defined and not declared ...: 13 at the 15", now also "of
+/// a class defined later".
 #[test]
 fn r17_class_variable() {
     let read = || show(class_var("c", "x").at("15"));
     let class = || class_definition("c", None, vec![], vec![assign("x", int(1, 7))]);
-    refuse(items(vec![read(), class()]), 9, "15");
+    refuse(items(vec![read()]), 9, "15");
+    refuse(items(vec![read(), class()]), 13, "15");
     refuse(items(vec![type_definition("c", vec![], vec![]), read()]), 9, "15");
     refuse(items(vec![show(class_var("wall", "x").at("15"))]), 9, "15");
     refuse(items(vec![class(), read()]), 13, "15");
@@ -87,8 +89,8 @@ fn r18_attribute_read() {
         19,
         "18",
     );
-    // Not yet defined, it is unknown.
-    refuse(items(vec![read("t", text(1, "a")), kind()]), 9, "18");
+    // "an 18 of a type defined later is 19".
+    refuse(items(vec![read("t", text(1, "a")), kind()]), 19, "18");
     // The resource, or its attribute, is not there.
     refuse(items(vec![wall(), read("gate", text(1, "a"))]), 19, "18");
     refuse(items(vec![wall(), read("wall", text(1, "b"))]), 19, "18");

@@ -4,7 +4,7 @@
 use super::*;
 use crate::case::{answer_line, from_hex, to_hex};
 use crate::compile::compile;
-use crate::special::{named, NAMED};
+use crate::special::{all_named, named};
 
 /// R24: "41, 42, 43 and 44 are whole fields (tag, length, body). 44's body is
 /// one byte." Table: a 0, b 1, t 2, wall 3.
@@ -381,13 +381,14 @@ fn named_inputs() {
         ("no-item", 0),
         ("time-refused-late-3", 3),
         ("time-refused-late-5", 5),
+        ("time-refused-late-8", 8),
         ("time-refused-late-13", 13),
         ("time-largest-accepted", 0),
     ];
     for (name, refusal) in expected {
         assert_eq!(number(name), refusal, "{name}");
     }
-    for (name, make) in NAMED {
+    for (name, make) in all_named() {
         assert!(make().manifest.len() <= 65_535, "{name}");
     }
 }

@@ -3,6 +3,7 @@
 
 mod default_last;
 mod definitions;
+mod definitions_anywhere;
 mod demand;
 mod expressions;
 mod fields;

@@ -3,7 +3,7 @@ use Rattle.rules.specs.Run.{topContext, nodeContext}
 use Rattle.cells.specs.Scopes.{scopeOf}
 use Rattle.cells.specs.Memory.{baseFor}
 use Rattle.labels.specs.Sets.{noLabels}
-use Rattle.compiler.proofs.Items.{passes-over, runs-node, stands-statement, runs-statement, is-definition, runs-definition}
+use Rattle.compiler.proofs.Items.{passes-over, runs-node, stands-statement, runs-statement, passes-definition}
 use borrow.Author.Needs.{needs}
 use Rattle.compiler.proofs.run_item.Statement.{statement}
 use Rattle.compiler.proofs.run_item.Tie as tie
@@ -23,9 +23,6 @@ node-block-requires c κs = search needs
 run-block-requires : tie.Need-run-block-requires
 run-block-requires c κs = search needs
 
-define-requires : tie.Need-define-requires
-define-requires c κs = (c .before .before .before .before .before .before .pre .0 .set, (c .before .before .before .before .before .before .pre .1, is-definition _ _ (c .before .before .before .before .before .before .pre .1) (c .before .before .byte-at .ensures) (c .before .match .keys2)))
-
 run-statement-requires : tie.Need-run-statement-requires
 run-statement-requires c κs = (c .before .before .before .before .before .before .before .before .pre .0, (stands-statement _ _ (c .before .before .before .before .before .before .before .before .pre .1) (c .before .before .before .before .byte-at .ensures) (c .before .before .before .match .rest .0 .1) (c .before .before .before .match .rest .1), c .before .before .before .before .before .before .before .before .pre .1 .names))
 
@@ -39,17 +36,14 @@ returns-2 : tie.Need-returns-2
 unfolding noLabels nodeContext scopeOf baseFor
 returns-2 c = runs-node _ _ _ _ _ _ _ (c .before .before .before .before .before .before .before .before .before .before .before .before .before .before .before .before .pre .0) (c .before .before .before .before .before .before .before .before .before .before .before .before .before .before .before .before .pre .1) (c .before .before .before .before .before .before .before .before .before .before .before .before .byte-at .ensures) _ _ (c .before .before .before .before .before .before .before .before .before .before .before .match .keys1) (c .before .before .before .before .before .before .before .before .before .before .is-chosen .ensures) (c .before .before .before .before .before .before .before .before .before .if1 .left) (c .before .before .before .before .before .before .before .before .node-block .ensures) (c .before .before .before .before .run-block .ensures)
 
+returns-3 : tie.Need-returns-3
+returns-3 c = passes-definition _ _ _ _ _ _ _ (c .before .before .before .before .before .pre .0) (c .before .before .before .before .before .pre .1) (c .before .byte-at .ensures) (c .match .keys2)
+
 same-length-3 : tie.Need-same-length-3
 same-length-3 c = search needs
 
-returns-3 : tie.Need-returns-3
-returns-3 c = runs-definition _ _ _ _ _ _ _ (c .before .before .before .before .before .before .before .before .before .pre .0) (c .before .before .before .before .before .before .before .before .before .pre .1) (c .before .before .before .before .before .byte-at .ensures) _ (c .before .before .before .before .match .keys2) (c .before .before .define .ensures)
-
 same-length-4 : tie.Need-same-length-4
 same-length-4 c = search needs
-
-same-length-5 : tie.Need-same-length-5
-same-length-5 c = search needs
 
 returns-4 : tie.Need-returns-4
 unfolding noLabels topContext scopeOf baseFor
@@ -64,13 +58,11 @@ run-item-spec =
     returns
     node-block-requires
     run-block-requires
-    define-requires
     run-statement-requires
     same-length
     same-length-2
     returns-2
-    same-length-3
     returns-3
+    same-length-3
     same-length-4
-    same-length-5
     returns-4)

@@ -1,5 +1,6 @@
 -- `run_items`: at the loop's head the items left make the whole run of what the bytes stand for.
-use Rattle.compiler.proofs.Items.{Along, items-begin, item-stands, still-able, items-go-on, items-refuse, items-refused, items-done}
+use Rattle.definitions.proofs.Gathering.{item-stands}
+use Rattle.compiler.proofs.Items.{Along, items-begin, still-able, items-go-on, items-refuse, items-refused, items-done}
 use Rattle.compiler.specs.Running.{chosenOf}
 use lib.ListN.{length}
 use borrow.Author.Needs.{needs}
@@ -22,7 +23,7 @@ loop-holds : tie.Need-loop-holds Inv-loop μ-loop
 loop-holds c = items-begin _ _ _ _ _ (c .before .before .before .before .pre .0) (c .before .before .before .before .pre .1) (c .end-of .ensures)
 
 run-item-requires : tie.Need-run-item-requires Inv-loop μ-loop
-run-item-requires c κs = (still-able (c .before .before .before .before .loop .inv), item-stands (c .before .before .before .before .loop .inv) (c .before .before .before .loop-test .taken))
+run-item-requires c κs = (still-able (c .before .before .before .before .loop .inv), item-stands (c .before .before .before .before .loop .inv .items) (c .before .before .before .loop-test .taken))
 
 enum-known-r : tie.Need-enum-known-r Inv-loop μ-loop
 enum-known-r c = search needs

@@ -3,6 +3,7 @@
 use super::*;
 use crate::answer::Answer;
 use crate::case::Case;
+use crate::why_definitions::*;
 use crate::why_large::*;
 use crate::why_named::*;
 use crate::why_places::*;
@@ -177,6 +178,17 @@ fn default_not_assigned() {
     tells(unmet_default_parent_declared_meanwhile(), Part::Value);
 }
 
+/// "a class or type must be usable before its definition": the constants told
+/// stand in those that are, or before them.
+#[test]
+fn definitions_later() {
+    tells(part_value_class_later(), Part::Value);
+    tells(part_value_default_later(), Part::Value);
+    tells(part_path_class_later(), Part::Path);
+    tells(met_class_later(), Part::Value);
+    tells(unmet_class_later(), Part::Value);
+}
+
 /// "'Not among them' comes back precisely when the set lacks the label."
 #[test]
 fn set_lacks_the_label() {
@@ -199,6 +211,7 @@ fn no_such_attribute() {
         no_resource_in_branch(),
         no_resource_for_device(),
         no_resource_of_defined_type(),
+        no_resource_of_later_type(),
         no_attribute(),
         no_attribute_at_all(),
         no_item(),
@@ -216,6 +229,8 @@ fn compile_refuses_first() {
         (refused_field(), 3),
         (refused_after_resource(), 13),
         (refused_before_27(), 13),
+        (refused_twice(), 8),
+        (refused_twice_before_run(), 8),
     ] {
         let place = place_told(&asking);
         refuses(asking, number, place);
