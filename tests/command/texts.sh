@@ -214,11 +214,21 @@ refused_at no_value 12 1:21 'class wide ($a = 1, @$b) { }\nnode desk { include w
 refused_at unknown_parameter 11 2:35 'class wide ($a, $b = 1) { }\nnode desk { class { wide: a => 1, @c => 2 } }\n'
 refused_at in_a_type 13 2:26 'define entrance ($hours = 14) {\n  gate { $title: from => @$nix + $hours } }\nnode desk { entrance { north: } }\n'
 refused_at defined_again 8 2:1 'define entrance { }\n@define entrance ($x) { }\n'
+refused_at defined_again_first 8 3:1 '$x = $nix\ndefine entrance { }\n@define entrance ($x) { }\n'
+refused_at built_in_defined 8 2:1 'node desk { kiosk { front: } }\n@define kiosk { }\n'
+refused_at defined_behind 13 3:8 'node desk { include wide }\nclass wide inherits base {\n  $e = @$nix\n}\nclass base { }\n'
 # whether `class` defines or declares is known at the token behind it, where no other word tells
 refused_at class_again 8 2:7 'class wide { }\nclass @wide { }\n'
 refused_at declared_at_the_top 9 1:7 'class @{ nix: }\n'
 refused_at declared_in_a_node 9 1:13 'node desk { @class { nix: } }\n'
 refused_at other_node 13 3:19 "node 'hill', lobby { \$x = \$nix }\nnode (door, desk) {\n  \$x = 1 \$y = 1 - @\$nix }\n"
+
+# the example with its definitions behind their uses
+for device in harbor-desk harbor-gate hill-desk lobby; do
+    call "$schedule" "$device" "$root/examples/joined.pp"
+    [ "$status" -eq 0 ] && [ "$(cut -d ' ' -f 1-4 "$out")" = "$(cut -d ' ' -f 1-4 "$root/examples/schedules/$device")" ]
+    count "joined_$device" $?
+done
 
 # tabs, carriage returns, long texts
 refused_at compile_tabs 13 2:19 '$fee = 40\n\tif\ttrue { $x =\t1-@$nix }\n'
