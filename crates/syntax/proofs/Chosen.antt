@@ -8,13 +8,13 @@ use native.Mathlib.Omega.{arith}
 use lib.Dec.{eqb}
 use lib.ListN.{length}
 use borrow.Author.Tests.{eq-eqb, ne-eqb}
-use Rattle.rules.specs.Bytes.{byte, two, endOf, fieldsIn}
+use Rattle.rules.specs.Bytes.{pick, byte, two, endOf, fieldsIn}
 use Rattle.rules.specs.Compile.{sameBytes, stringAt}
 use Rattle.wire.proofs.Fields.{no-fields, field-first}
 use Rattle.syntax.specs.declared.Found.{Found}
 use Rattle.syntax.specs.declared.Found.the-variants.{At, Nothing}
 use Rattle.syntax.specs.Strings.{stringTexts, foundOf}
-use Rattle.syntax.specs.Nodes.{itemPlaces, someNames, namesDevice, isDefaultAt, firstAt, orFirst, nodeFor}
+use Rattle.syntax.specs.Nodes.{itemPlaces, someNames, namesDevice, isDefaultAt, defaultWith, firstAt, orFirst, nodeFor}
 
 -- ---- The names of one node
 
@@ -58,45 +58,66 @@ module _ (m : List ℕ) (p : ℕ) {t : ℕ} (et : t ≡ byte m p) where
   unfolding isDefaultAt
   node-default is u = rw (← et, eq-eqb t 0x30 is, ← u)
 
--- ---- The first item that passes a test
+-- ---- The default node met
 
-module _ (f : ℕ → Bool) (m : List ℕ) (e q : ℕ) {whole : Option ℕ} where
-  pub this-item : {b : Bool} → q < e → b ≡ f q → b ≡ true → firstAt f (fieldsIn m q e) ≡ whole → At q ≡ foundOf whole
-  unfolding firstAt foundOf
-  this-item l b h inv = ap foundOf (rw (field-first m q e l, ← b, h) at inv)
+module _ (m : List ℕ) (p : ℕ) {met : Found} where
+  pub met-before : {q : ℕ} → met ≡ At q → met ≡ defaultWith m met p
+  unfolding defaultWith
+  met-before h = rw h refl
 
-  pub later-item : {b : Bool} {w : ℕ} → q < e → b ≡ f q → b ≡ false → w ≡ endOf m q → firstAt f (fieldsIn m q e) ≡ whole → firstAt f (fieldsIn m w e) ≡ whole
-  unfolding firstAt
-  later-item l b h w inv = rw w (rw (field-first m q e l, ← b, h) at inv)
+  pub default-here : {b : Bool} → met ≡ Nothing → b ≡ isDefaultAt m p → b ≡ true → At p ≡ defaultWith m met p
+  unfolding defaultWith
+  default-here h told is = rw (h, ← told, is) refl
 
-  pub no-item : e ≤ q → firstAt f (fieldsIn m q e) ≡ whole → Nothing ≡ foundOf whole
-  unfolding firstAt foundOf
-  no-item h inv = ap foundOf (rw (no-fields m q e h) at inv)
-
-pub of-all-items : (f : ℕ → Bool) (m : List ℕ) {p : ℕ} {r : Found} → p ≡ endOf m 0 → r ≡ foundOf (firstAt f (fieldsIn m p (length m))) → r ≡ foundOf (firstAt f (itemPlaces m))
-unfolding itemPlaces
-of-all-items f m h r = rw (← h) r
+  pub none-here : {b : Bool} → met ≡ Nothing → b ≡ isDefaultAt m p → b ≡ false → Nothing ≡ defaultWith m met p
+  unfolding defaultWith
+  none-here h told is = rw (h, ← told, is) refl
 
 -- ---- The node that runs
 
-no-place : {p : ℕ} {A : Type 0} → Nothing ≡ At p → A
-no-place e = let z : _≡_ {A = ℕ} 0 1 = cc in absurd (omega arith)
+-- where the items from p on are left, with the default node met before them
+pub record Looking (m device : List ℕ) (p : ℕ) (met : Found) : Type 0 where
+  pub before : Option ℕ
+  pub same : met ≡ foundOf before
+  pub left : orFirst (firstAt (namesDevice m device) (fieldsIn m p (length m))) (orFirst before (firstAt (isDefaultAt m) (fieldsIn m p (length m)))) ≡ nodeFor m device
 
-found-one : (x y : Option ℕ) {p : ℕ} → foundOf x ≡ At p → foundOf x ≡ foundOf (orFirst x y)
-unfolding foundOf orFirst
-found-one none y e = no-place e
-found-one (some p) y e = refl
+pub looking-begins : (m device : List ℕ) {p : ℕ} → p ≡ endOf m 0 → Looking m device p Nothing
+unfolding foundOf orFirst nodeFor itemPlaces
+looking-begins m device e = rw e (record { before = none; same = refl; left = refl })
 
-found-none : (x y : Option ℕ) → foundOf x ≡ Nothing → foundOf y ≡ foundOf (orFirst x y)
-unfolding foundOf orFirst
-found-none none y e = refl
-found-none (some p) y e = no-place (sym e)
+with-found : (m : List ℕ) (p : ℕ) (before : Option ℕ) (d : Bool) → isDefaultAt m p ≡ d → defaultWith m (foundOf before) p ≡ foundOf (orFirst before (pick d (some p) none))
+unfolding defaultWith foundOf orFirst
+with-found m p (some q) d e = refl
+with-found m p none true e = rw e refl
+with-found m p none false e = rw e refl
 
-module _ (m device : List ℕ) {r : Found} (er : r ≡ foundOf (firstAt (namesDevice m device) (itemPlaces m))) where
-  pub one-names : {p : ℕ} → r ≡ At p → r ≡ foundOf (nodeFor m device)
-  unfolding nodeFor
-  one-names h = er ∙ found-one (firstAt (namesDevice m device) (itemPlaces m)) (firstAt (isDefaultAt m) (itemPlaces m)) (sym er ∙ h)
+first-stays : (before later : Option ℕ) (p : ℕ) (d : Bool) → orFirst (orFirst before (pick d (some p) none)) later ≡ orFirst before (pick d (some p) later)
+unfolding orFirst
+first-stays (some q) later p d = refl
+first-stays none later p true = refl
+first-stays none later p false = refl
 
-  pub none-names : {s : Found} → r ≡ Nothing → s ≡ foundOf (firstAt (isDefaultAt m) (itemPlaces m)) → s ≡ foundOf (nodeFor m device)
-  unfolding nodeFor
-  none-names h s = s ∙ found-none (firstAt (namesDevice m device) (itemPlaces m)) (firstAt (isDefaultAt m) (itemPlaces m)) (sym er ∙ h)
+none-more : (before : Option ℕ) → before ≡ orFirst none (orFirst before none)
+unfolding orFirst
+none-more none = refl
+none-more (some q) = refl
+
+module _ {m device : List ℕ} {p : ℕ} {met : Found} (so : Looking m device p met) where
+  module _ (here : p < length m) {b : Bool} (told : b ≡ namesDevice m device p) where
+    pub names-it : b ≡ true → At p ≡ foundOf (nodeFor m device)
+    unfolding firstAt orFirst foundOf
+    names-it h = ap foundOf (rw (field-first m p (length m) here, ← told, h) at (so .left))
+
+    pub looking-goes-on : {next : Found} {q : ℕ} → b ≡ false → next ≡ defaultWith m met p → q ≡ endOf m p → Looking m device q next
+    unfolding firstAt
+    looking-goes-on h is e = rw e (record {
+      before = orFirst (so .before) (pick (isDefaultAt m p) (some p) none);
+      same = is ∙ ap (λ (x : Found). defaultWith m x p) (so .same) ∙ with-found m p (so .before) (isDefaultAt m p) refl;
+      left =
+          ap (orFirst (firstAt (namesDevice m device) (fieldsIn m (endOf m p) (length m)))) (first-stays (so .before) (firstAt (isDefaultAt m) (fieldsIn m (endOf m p) (length m))) p (isDefaultAt m p))
+          ∙ (rw (field-first m p (length m) here, ← told, h) at (so .left));
+    })
+
+  pub looked-at-all : length m ≤ p → met ≡ foundOf (nodeFor m device)
+  unfolding firstAt
+  looked-at-all h = so .same ∙ ap foundOf (none-more (so .before) ∙ (rw (no-fields m p (length m) h) at (so .left)))

@@ -8,6 +8,8 @@ use lib.Dec.{eqb}
 use lib.ListN.{length}
 use Rattle.rules.specs.Bytes.{pick, byte, two, endOf, fieldsIn}
 use Rattle.rules.specs.Compile.{sameBytes, stringAt}
+use Rattle.syntax.specs.declared.Found.{Found}
+use Rattle.syntax.specs.declared.Found.the-variants.{At, Nothing}
 use Rattle.syntax.specs.Strings.{stringTexts}
 
 -- the items
@@ -37,6 +39,11 @@ orFirst (some p) q = some p
 -- the place of the node that runs for the device
 unfoldable pub nodeFor : (m device : List ℕ) → Option ℕ
 nodeFor m device = orFirst (firstAt (namesDevice m device) (itemPlaces m)) (firstAt (isDefaultAt m) (itemPlaces m))
+
+-- the default node met before, or else the item at p, if it is one
+unfoldable pub defaultWith : List ℕ → (met : Found) → (p : ℕ) → Found
+defaultWith m (At q) p = At q
+defaultWith m Nothing p = pick (isDefaultAt m p) (At p) Nothing
 
 -- an item that runs: one that is no node, or the node chosen
 unfoldable pub runsAt : List ℕ → Option ℕ → ℕ → Bool

@@ -4,7 +4,7 @@ ghost use Prim.Native.Nat.{_+_, _≤_, _<_};
 ghost use lib.ListN.{length};
 ghost use Rattle.rules.specs.Bytes.{fieldsIn};
 ghost use Rattle.syntax.specs.Strings.{Indexed, foundOf};
-ghost use Rattle.syntax.specs.Nodes.{itemPlaces, someNames, namesDevice, isDefaultAt, firstAt, nodeFor};
+ghost use Rattle.syntax.specs.Nodes.{someNames, namesDevice, isDefaultAt, defaultWith, nodeFor};
 use crate::Found;
 use crate::strings::same_bytes;
 use crate::strings::string_at;
@@ -42,21 +42,6 @@ fn names_device(m: &[u8], device: &[u8], table: &[u8], strings: u16, p: usize) -
     some_names(m, device, table, strings, p + 3, end_of(m, p))
 }
 
-// The first node that names the device.
-fn first_naming(m: &[u8], device: &[u8], table: &[u8], strings: u16) -> Found
-    requires { ⌜ (Indexed (now m) (now table) strings) × (length (now m) ≤ 65535) ⌝ }
-    ensures { λ r. ⌜ r ≡ foundOf (firstAt (namesDevice (now (m .entry)) (now (device .entry))) (itemPlaces (now (m .entry)))) ⌝ }
-{
-    let mut p = end_of(m, 0);
-    while p < m.len() {
-        if names_device(m, device, table, strings, p) {
-            return Found::At(p as u16);
-        }
-        p = end_of(m, p);
-    }
-    Found::Nothing
-}
-
 // Whether the item at `p` is a default node.
 fn is_default(m: &[u8], p: usize) -> bool
     requires { ⌜ p ≤ 65535 ⌝ }
@@ -68,30 +53,34 @@ fn is_default(m: &[u8], p: usize) -> bool
     byte_at(m, p + 3) == 0x1b
 }
 
-// The first default node.
-fn first_default(m: &[u8]) -> Found
-    requires { ⌜ length (now m) ≤ 65535 ⌝ }
-    ensures { λ r. ⌜ r ≡ foundOf (firstAt (isDefaultAt (now (m .entry))) (itemPlaces (now (m .entry)))) ⌝ }
+// The default node met before, or else the item at `p`, if it is one.
+fn first_default(m: &[u8], p: usize, met: Found) -> Found
+    requires { ⌜ p ≤ 65535 ⌝ }
+    ensures { λ r. ⌜ r ≡ defaultWith (now (m .entry)) met p ⌝ }
 {
-    let mut p = end_of(m, 0);
-    while p < m.len() {
-        if is_default(m, p) {
-            return Found::At(p as u16);
-        }
-        p = end_of(m, p);
+    match met {
+        Found::At(_) => return met,
+        Found::Nothing => {}
+    }
+    if is_default(m, p) {
+        return Found::At(p as u16);
     }
     Found::Nothing
 }
 
-// The place of the node that runs for the device.
+// The place of the node that runs for the device: the items are gone over once, for the first that names it and for the first default one.
 pub fn node_place(m: &[u8], device: &[u8], table: &[u8], strings: u16) -> Found
     requires { ⌜ (Indexed (now m) (now table) strings) × (length (now m) ≤ 65535) ⌝ }
     ensures { λ r. ⌜ r ≡ foundOf (nodeFor (now (m .entry)) (now (device .entry))) ⌝ }
 {
-    let naming = first_naming(m, device, table, strings);
-    match naming {
-        Found::At(_) => return naming,
-        Found::Nothing => {}
+    let mut default = Found::Nothing;
+    let mut p = end_of(m, 0);
+    while p < m.len() {
+        if names_device(m, device, table, strings, p) {
+            return Found::At(p as u16);
+        }
+        default = first_default(m, p, default);
+        p = end_of(m, p);
     }
-    first_default(m)
+    default
 }
