@@ -1,5 +1,5 @@
 -- One law for each way through `is_chosen`, `run_item`, `run_items` and `run_prepared`. Assumes nothing.
-use Prim.Native.Nat.{ℕ, _+_, _-_, _%_, _<_, _≤_}
+use Prim.Native.Nat.{ℕ, _-_, _%_, _<_, _≤_}
 use mathlib.Core.Path.{_≡_, refl, sym, ap, _∙_}
 use mathlib.Core.Logic.{_⊎_, inl, inr}
 use mathlib.Core.Bool.{Bool, true, false, not}
@@ -14,7 +14,7 @@ use Rattle.wire.specs.Bytes.{byte, endOf, fieldsIn}
 use Rattle.rules.specs.Format.{allowed}
 use Rattle.rules.specs.Check.{check}
 use Rattle.rules.specs.Outcome.{Outcome, refused, done, _>>=_}
-use Rattle.rules.specs.Tree.{Definition, end, next, Item, node, definition, Statement, Constant}
+use Rattle.rules.specs.Tree.{Definition, end, next, Item, node, Statement, Constant}
 use Rattle.rules.specs.State.{Entry, State, Context, Known, takeStep}
 use Rattle.rules.specs.Run.{statementPlace, run, runBlock, declaration, runAtTop, topContext, nodeContext, gatherDefinitions, runItems}
 use Rattle.rules.specs.Fields.{readEach, readField}

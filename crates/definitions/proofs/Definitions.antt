@@ -3,7 +3,7 @@ use Prim.Native.Nat.{ℕ, _+_, _<_}
 use mathlib.Core.Path.{_≡_, refl, sym, ap, _∙_}
 use mathlib.Core.Logic.{inl, inr}
 use mathlib.Core.Bool.{Bool, true, false, _||_, not}
-use mathlib.Core.List.{List, [], _∷_}
+use mathlib.Core.List.{List, _∷_}
 use mathlib.Core.Option.{Option, none, some}
 use native.Mathlib.Omega.{arith}
 use lib.Dec.{eqb}
@@ -28,7 +28,7 @@ use Rattle.summaries.proofs.Summaries.{summarized-still}
 use Rattle.evaluator.specs.Known.{DefinedAt, undefined, typeAt, classAt, KnownIn}
 use Rattle.declarations.specs.Standing.{Set, Defined, defined}
 use Rattle.declarations.proofs.Standing.{name-small as begins-small}
-use Rattle.definitions.specs.Defined.{ItemStands, IsDefinition, withDefinitions, OnlyNames, Defines}
+use Rattle.definitions.specs.Defined.{ItemStands, IsDefinition, withDefinitions, Defines}
 use Rattle.memory.proofs.Words.{words-kept, struck-same}
 
 -- ---- A definition at its place

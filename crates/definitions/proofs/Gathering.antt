@@ -1,6 +1,6 @@
 -- One law for each way through `gather_item` and `gather`. Assumes nothing.
 use Prim.Native.Nat.{ℕ, _+_, _<_, _≤_}
-use mathlib.Core.Path.{_≡_, refl, sym, ap, _∙_, subst}
+use mathlib.Core.Path.{_≡_, refl, sym, ap, _∙_}
 use mathlib.Core.Logic.{_⊎_, inl, inr}
 use mathlib.Core.Bool.{Bool, true, false}
 use mathlib.Core.List.{List, [], _∷_}
@@ -12,8 +12,8 @@ use Rattle.values.specs.declared.Reason.the-variants.{DefinedAgain}
 use Rattle.wire.specs.Bytes.{byte, two, endOf, fieldsIn}
 use Rattle.wire.proofs.Fields.{no-fields, field-first}
 use Rattle.rules.specs.Check.{stringPlaces, check}
-use Rattle.rules.specs.Outcome.{Outcome, refused, done, _>>=_, refuseIf}
-use Rattle.rules.specs.Tree.{Definition, Item, statement, node, definition}
+use Rattle.rules.specs.Outcome.{refused, _>>=_, refuseIf}
+use Rattle.rules.specs.Tree.{Definition, Item, definition}
 use Rattle.rules.specs.State.{Known}
 use Rattle.rules.specs.Run.{definedName, definedPlace, isTaken, gatherDefinitions}
 use Rattle.rules.specs.declared.Kind.the-variants.{Item as ItemKind}

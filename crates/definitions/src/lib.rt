@@ -1,10 +1,9 @@
 // What the names of a manifest mean before anything runs: built-in types, the title, and all definitions; and the node that runs for a device.
 ghost use mathlib.Core.Path.{_≡_};
-ghost use Prim.Native.Nat.{_+_, _≤_, _<_};
+ghost use mathlib.Core.List.{List, [], _∷_};
+ghost use Prim.Native.Nat.{ℕ, _+_, _≤_, _<_};
 ghost use lib.ListN.{length};
 ghost use Rattle.wire.specs.Bytes.{byte, two};
-ghost use mathlib.Core.List.{List, [], _∷_};
-ghost use Prim.Native.Nat.{ℕ};
 ghost use Rattle.rules.specs.Check.{stringPlaces, check};
 ghost use Rattle.rules.specs.State.{Known};
 ghost use Rattle.rules.specs.Run.{isTaken};

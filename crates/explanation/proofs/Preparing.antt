@@ -8,7 +8,6 @@ use lib.ListN.{length}
 use Rattle.wire.specs.Bytes.{byte, two}
 use Rattle.rules.specs.Tree.{Constant}
 use Rattle.rules.specs.State.{Entry}
-use Rattle.rules.specs.Read.{manifestOf}
 use Rattle.rules.specs.Evaluate.{findType, findClass}
 use Rattle.rules.specs.Compile.{noneStruckOut, knownWith}
 use Rattle.rules.proofs.Strikes.{labelledBelow}
@@ -19,9 +18,9 @@ use Rattle.memory.specs.Words.{wordOf, WordSet, strikeLabel, strikeEnd, askedTy
 use Rattle.memory.proofs.Titles.{title-same}
 use Rattle.memory.proofs.Words.{word-at, struck-same}
 use Rattle.summaries.proofs.Summaries.{summarized-same}
-use Rattle.evaluator.specs.Known.{DefinedAt, KnownIn}
+use Rattle.evaluator.specs.Known.{DefinedAt}
 use Rattle.declarations.proofs.Laws.{set-kept}
-use Rattle.provenance.specs.Notes.{Question, nothingAsked, askedOf, noteFor, Noted}
+use Rattle.provenance.specs.Notes.{nothingAsked, askedOf, noteFor, Noted}
 use Rattle.definitions.specs.Prepared.{Prepares, Blank}
 use Rattle.compiler.proofs.Items.{blank-noted}
 use Rattle.explanation.specs.declared.Numbers.{Numbers}
