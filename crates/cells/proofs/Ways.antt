@@ -199,14 +199,14 @@ module _ (w w′ : List ℕ) (s n : ℕ) {q : Found} (e : Obtains (slotsOf w) s 
       stored-by i at y w″ keeps c (λ p. assign p (scopeOf s) n x) (λ b z. valueInto b x z) (λ z. refl) (filled-cell x (slotsOf w′ i) (o .used) ∙ ap (cellWith (some x)) (o .mark))
       (λ p es k r. assign-fits p (scopeOf s) n (stateOf w es k r) x none-there (room-left i at y w″ keeps c))
 
-  pub mark-done : (l : Labels) (i : ℕ) (w″ : List ℕ) {m u : Labels} → q ≡ At i → m ≡ setAt w′ (bodyAt i + bodyMark) → u ≡ l ∪ m
-      → StoresAt i (marked u) w′ w″ → Answers w w″ Done (λ p. markOne p (scopeOf s) n l)
+  pub mark-done : (l : Labels) (i : ℕ) (w″ : List ℕ) → q ≡ At i → StoresAt i (marked (l ∪ setAt w′ (bodyAt i + bodyMark))) w′ w″ → Answers w w″ Done (λ p. markOne p (scopeOf s) n l)
   unfolding stateOf markedOne markInto
-  mark-done l i w″ {m} {u} at em eu c =
+  mark-done l i w″ at c =
       let o = ready-at i at in
+      let u : Labels = l ∪ setAt w′ (bodyAt i + bodyMark) in
       let y : Slot = marked u (slotsOf w′ i) in
       let keeps : Keeps y (slotsOf w′ i) = marked-keeps u (slotsOf w′ i) in
-      let joined : u ≡ l ∪ cellsIn (slotsOf w) s n .mark = eu ∙ ap (λ (k : Labels). l ∪ k) (em ∙ mark-read w′ i (o .below) ∙ o .mark) in
+      let joined : u ≡ l ∪ cellsIn (slotsOf w) s n .mark = ap (λ (k : Labels). l ∪ k) (mark-read w′ i (o .below) ∙ o .mark) in
       stored-by i at y w″ keeps c (λ p. markOne p (scopeOf s) n l) (λ b z. markInto b l z) (λ z. refl) (marked-cell u (slotsOf w′ i) ∙ rw (o .used, o .value, joined) refl)
       (λ p es k r. mark-fits p (scopeOf s) n (stateOf w es k r) l (room-left i at y w″ keeps c))
 

@@ -3,6 +3,7 @@ ghost use mathlib.Core.Path.{_≡_};
 ghost use mathlib.Core.Bool.{true, false};
 ghost use Prim.Native.Nat.{_+_, _≤_, _<_};
 ghost use lib.ListN.{length};
+ghost use Rattle.labels.specs.Sets.{_∪_};
 ghost use Rattle.labels.specs.Bytes.{setAt};
 ghost use Rattle.wire.specs.Numbers.{highBytes};
 ghost use Rattle.wire.specs.Runs.{over};
@@ -309,11 +310,12 @@ fn put_value(work: &mut [u8], i: usize, x: Labelled)
     records::put_record(work, BODIES + BODY_SIZE * i, x);
 }
 
-fn put_mark(work: &mut [u8], i: usize, mark: Labels)
+// Joins a set to the mark of a slot, in place.
+fn join_at(work: &mut [u8], i: usize, set: Labels)
     requires { ⌜ (i < 512) × (65536 ≤ length (now work)) ⌝ }
-    ensures { λ _. ⌜ StoresAt i (marked mark) (now (work .entry)) (now (work .exit)) ⌝ }
+    ensures { λ _. ⌜ StoresAt i (marked (set ∪ setAt (now (work .entry)) (bodyAt i + bodyMark))) (now (work .entry)) (now (work .exit)) ⌝ }
 {
-    mark.write_within(work, BODIES + BODY_SIZE * i + BODY_MARK);
+    labels::join_within(work, BODIES + BODY_SIZE * i + BODY_MARK, set);
 }
 
 // Claims a slot for a key that none is in use for: one that was freed stands in its chain already. Nothing where all are in use.
@@ -373,8 +375,7 @@ pub fn join_mark(work: &mut [u8], scope: u16, name: u16, set: Labels) -> Stored
     let Found::At(i) = obtain(work, scope, name) else {
         return Stored::NoRoom;
     };
-    let mark = mark_at(work, i);
-    put_mark(work, i, set.union(mark));
+    join_at(work, i, set);
     Stored::Done
 }
 

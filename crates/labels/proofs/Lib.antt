@@ -2,3 +2,4 @@ pub mod Digits
 pub mod Laws
 pub mod Search
 pub mod Places
+pub mod Words

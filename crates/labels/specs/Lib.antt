@@ -1,3 +1,4 @@
 pub mod Sets
 pub mod Search
 pub mod Bytes
+pub mod Words

@@ -1,11 +1,13 @@
 // A set of labels 0 to 255, held in four words by value.
 ghost use mathlib.Core.Path.{_≡_};
-ghost use Prim.Native.Nat.{_+_, _≤_};
+ghost use Prim.Native.Nat.{_+_, _^_, _≤_, _<_};
+ghost use lib.Bits.{bitOr};
 ghost use lib.ListN.{length};
 ghost use Rattle.wire.specs.Runs.{over};
 ghost use Rattle.labels.specs.Sets.{oneLabel, _∪_, wordOf, has};
 ghost use Rattle.labels.specs.Search.{countOf, nextFrom};
 ghost use Rattle.labels.specs.Bytes.{lowBytes, numberAt, labelBytes, setAt};
+ghost use Rattle.labels.specs.Words.{labelsIn, Joins, JoinsAt};
 
 pub struct Labels {
     pub w0: u64,
@@ -182,6 +184,42 @@ impl Labels {
         put_word(bytes, at + 16, self.w2);
         put_word(bytes, at + 24, self.w3);
     }
+
+    // The set in four words that a caller lends.
+    pub fn in_words(set: &[u64; 4]) -> Labels
+        ensures { λ r. ⌜ r ≡ labelsIn (now (set .entry)) ⌝ }
+    {
+        Labels {
+            w0: set[0],
+            w1: set[1],
+            w2: set[2],
+            w3: set[3],
+        }
+    }
+}
+
+// ---- Joining in place: each word is read, joined and written once
+
+// Joins a set to the one in four words that a caller lends.
+pub fn join(set: &mut [u64; 4], more: Labels)
+    requires { ⌜ length (now set) ≡ 4 ⌝ }
+    ensures { λ _. ⌜ Joins (now (set .entry)) (now (set .exit)) more ⌝ }
+{
+    set[0] = set[0] | more.w0;
+    set[1] = set[1] | more.w1;
+    set[2] = set[2] | more.w2;
+    set[3] = set[3] | more.w3;
+}
+
+// Joins a set to the one in the 32 bytes from `at` on.
+pub fn join_within(bytes: &mut [u8], at: usize, more: Labels)
+    requires { ⌜ at + 32 ≤ length (now bytes) ⌝ }
+    ensures { λ _. ⌜ JoinsAt (now (bytes .entry)) (now (bytes .exit)) at more ⌝ }
+{
+    join_word(bytes, at, more.w0);
+    join_word(bytes, at + 8, more.w1);
+    join_word(bytes, at + 16, more.w2);
+    join_word(bytes, at + 24, more.w3);
 }
 
 // What is there of the bytes, and zeros; called from two places for the same reason as `write_short`.
@@ -214,6 +252,15 @@ fn put_word(out: &mut [u8], at: usize, word: u64)
         left /= 256;
         i += 1;
     }
+}
+
+// Joins a word to the one in the 8 bytes from `at` on.
+fn join_word(bytes: &mut [u8], at: usize, word: u64)
+    requires { ⌜ at + 8 ≤ length (now bytes) ⌝ }
+    ensures { λ _. ⌜ (now (bytes .exit) ≡ over (now (bytes .entry)) at (lowBytes 8 (bitOr word (numberAt (now (bytes .entry)) at 8)))) × (numberAt (now (bytes .entry)) at 8 < 2 ^ 64) ⌝ }
+{
+    let old = read_word(bytes, at);
+    put_word(bytes, at, word | old);
 }
 
 // Goes down from the highest byte, which comes last.

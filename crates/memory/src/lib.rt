@@ -98,8 +98,7 @@ pub fn join_trail(work: &mut [u8], set: Labels)
     requires { ⌜ 65536 ≤ length (now work) ⌝ }
     ensures { λ _. ⌜ Becomes (now (work .entry)) (now (work .exit)) (trailed set) (λ ns. ns) ⌝ }
 {
-    let old = trail(work);
-    set.union(old).write_within(work, TRAIL);
+    labels::join_within(work, TRAIL, set);
 }
 
 // ---- Names: where a definition stands, and which are built-in types

@@ -22,28 +22,19 @@ returns c =
     let start = c .before .before .before .before .before .before .before in
     mark-full _ _ _ _ (c .before .before .before .before .obtain .ensures) (start .pre .1) _ (c .enum-told .given .1)
 
-mark-at-requires : tie.Need-mark-at-requires
-mark-at-requires c κs =
+join-at-requires : tie.Need-join-at-requires
+join-at-requires c κs =
     let start = c .before .before .before .before .before .before .before .before .before in
     let obtain = c .before .before .before .before .before .before .obtain in
     (ready-at _ _ _ _ (obtain .ensures) (start .pre .1) _ (c .before .before .i .given .1) .below, omega (arith, start .pre .0, obtain .kept .0))
-
-union-requires : tie.Need-union-requires
-union-requires c κs = tt
-
-put-mark-requires : tie.Need-put-mark-requires
-put-mark-requires c κs =
-    let start = c .before .before .before .before .before .before .before .before .before .before .before .before in
-    let obtain = c .before .before .before .before .before .before .before .before .before .obtain in
-    (ready-at _ _ _ _ (obtain .ensures) (start .pre .1) _ (c .before .before .before .before .before .i .given .1) .below, omega (arith, start .pre .0, obtain .kept .0))
 
 same-length-2 : tie.Need-same-length-2
 same-length-2 c = search needs
 
 returns-2 : tie.Need-returns-2
 returns-2 c =
-    let start = c .before .before .before .before .before .before .before .before .before .before .before .before .before .before .before in
-    mark-done _ _ _ _ (c .before .before .before .before .before .before .before .before .before .before .before .before .obtain .ensures) (start .pre .1) _ _ _ (c .before .before .before .before .before .before .before .before .i .given .1) (c .before .before .before .before .before .mark-at .ensures) (c .before .before .before .union .ensures) (c .before .before .put-mark .ensures)
+    let start = c .before .before .before .before .before .before .before .before .before .before .before .before in
+    mark-done _ _ _ _ (c .before .before .before .before .before .before .before .before .before .obtain .ensures) (start .pre .1) _ _ _ (c .before .before .before .before .before .i .given .1) (c .before .before .join-at .ensures)
 
 pub join-mark-spec : {M : Type 1} → statement M
 join-mark-spec =
@@ -54,8 +45,6 @@ join-mark-spec =
     enum-told
     same-length
     returns
-    mark-at-requires
-    union-requires
-    put-mark-requires
+    join-at-requires
     same-length-2
     returns-2)
