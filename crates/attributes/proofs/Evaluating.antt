@@ -20,9 +20,7 @@ use Rattle.places.proofs.Statements.{attribute-opens}
 use Rattle.cells.specs.Memory.{stateOf}
 use Rattle.memory.specs.declared.Scope.{Scope}
 use Rattle.memory.specs.Contexts.{contextIn}
-use Rattle.evaluator.specs.declared.Evaluated.{Evaluated}
-use Rattle.evaluator.specs.declared.Evaluated.the-variants.{Value as Yields, Refused as NotEvaluated}
-use Rattle.evaluator.specs.Answers.{refusedBy, evaluated}
+use Rattle.evaluator.specs.Answers.{refusedBy}
 use Rattle.evaluator.specs.Known.{Ready, Tells, Sized}
 use Rattle.evaluator.proofs.Expressions.{resized}
 use Rattle.attributes.specs.declared.Gathered.the-variants.{Done, Refused}
@@ -126,13 +124,11 @@ module _ {m w out : List ℕ} {fill : ℕ} {scope : Scope} {d first end q : ℕ}
     pub expression-sized : {p : ℕ} → Sized m w out fill p → Sized m w out fill (q + 5)
     expression-sized s = resized s (omega (arith, attribute-opens (first-here .here) deep .expression .stands .ends, s .manifest))
 
-    module _ {e : Evaluated} (told : StandsAs m (d - 1) ExpressionKind (q + 5) → Tells m w out fill scope (evaluated e) (λ k c st. evaluate k c st (expressionAt m (d - 1) (q + 5)))) where
-      pub evaluating-stops : {why : Refusal} → e ≡ NotEvaluated why → GivenIn m w out fill scope d first end t (Refused why)
-      unfolding evaluated
-      evaluating-stops is = notGiven (rest-stops (so-far .rest) (d - 1) deep more told (ap evaluated is))
+    module _ {o : Outcome Labelled} (told : StandsAs m (d - 1) ExpressionKind (q + 5) → Tells m w out fill scope o (λ k c st. evaluate k c st (expressionAt m (d - 1) (q + 5)))) where
+      pub evaluating-stops : {why : Refusal} → o ≡ refusedBy why → GivenIn m w out fill scope d first end t (Refused why)
+      evaluating-stops is = notGiven (rest-stops (so-far .rest) (d - 1) deep more told is)
 
-      pub evaluating-on : (x : Labelled) {name r : ℕ} {t′ : List ℕ} → e ≡ Yields x → name ≡ two m (q + 3) → Adds t t′ name x → r ≡ endOf m q → Evaluating m w out fill scope d first end r t′
-      unfolding evaluated
+      pub evaluating-on : (x : Labelled) {name r : ℕ} {t′ : List ℕ} → o ≡ done x → name ≡ two m (q + 3) → Adds t t′ name x → r ≡ endOf m q → Evaluating m w out fill scope d first end r t′
       evaluating-on x {name} {r} {t′} is named adds next =
           subst (λ (j : ℕ). Evaluating m w out fill scope d first end j t′) (sym next) (record {
             gs = so-far .gs ++ (record { place = q; name = two m (q + 3); content = x } ∷ []);
@@ -140,7 +136,7 @@ module _ {m w out : List ℕ} {fill : ℕ} {scope : Scope} {d first end q : ℕ}
             passed = so-far .passed ++ (q ∷ []);
             alikes = alike-last q x (so-far .alikes);
             places = append-assoc (so-far .passed) (q ∷ []) (fieldsIn m (endOf m q) end) ∙ ap (λ (l : List ℕ). so-far .passed ++ l) (sym (first-here .places)) ∙ so-far .places;
-            rest = rest-on (so-far .rest) (d - 1) deep more told x (ap evaluated is);
+            rest = rest-on (so-far .rest) (d - 1) deep more told x is;
           })
 
   pub evaluating-ends : end ≤ q → GivenIn m w out fill scope d first end t Done

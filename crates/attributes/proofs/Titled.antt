@@ -27,12 +27,11 @@ use Rattle.places.proofs.Statements.{TitledAt, defined-opens}
 use Rattle.cells.specs.Memory.{stateOf}
 use Rattle.memory.specs.declared.Scope.{Scope}
 use Rattle.memory.specs.Contexts.{contextIn}
-use Rattle.evaluator.specs.declared.Evaluated.{Evaluated}
-use Rattle.evaluator.specs.declared.Evaluated.the-variants.{Value as Yields, Refused as NotEvaluated}
-use Rattle.evaluator.specs.Answers.{refusedBy, evaluated}
+use Rattle.evaluator.specs.Answers.{refusedBy}
 use Rattle.evaluator.specs.Known.{Ready, Tells}
 use Rattle.attributes.specs.declared.Gathered.{Gathered}
 use Rattle.attributes.specs.declared.Gathered.the-variants.{Done, Refused}
+use Rattle.attributes.specs.declared.Title.the-variants.{Value as IsTitle, Refused as NoTitle}
 use Rattle.attributes.specs.Evaluated.{GivenIn, notGiven, given, Titled, titledAll, titledAt, TitledIn, notTitled, titled}
 
 -- what follows the title x, with the value v for its kind
@@ -57,24 +56,23 @@ module _ {m : List ℕ} {d p : ℕ} (s : StandsAs m d StatementKind p) (by : byt
   pub end-near : length m ≤ 65535 → endOf m p ≤ 65535
   end-near short = omega (arith, s .stands .ends)
 
-  module _ (w out : List ℕ) (fill : ℕ) (scope : Scope) (e : Evaluated) (told : StandsAs m (d - 1) ExpressionKind (p + 5) → Tells m w out fill scope (evaluated e) (λ k c st. evaluate k c st (expressionAt m (d - 1) (p + 5)))) where
+  module _ (w out : List ℕ) (fill : ℕ) (scope : Scope) {o : Outcome Labelled} (told : StandsAs m (d - 1) ExpressionKind (p + 5) → Tells m w out fill scope o (λ k c st. evaluate k c st (expressionAt m (d - 1) (p + 5)))) where
     -- the run after the title's answer
     titled-run : (k : Known) (path : Labels) (es : List Entry) (n r : ℕ) → Ready m w out fill k es
-        → (evaluated e >>= λ x. titledRest m (d - 1) p k (contextIn scope path) (stateOf w es n r) x (x .value))
+        → (o >>= λ x. titledRest m (d - 1) p k (contextIn scope path) (stateOf w es n r) x (x .value))
         ≡ titledAt m (d - 1) p k (contextIn scope path) (stateOf w es n r)
     unfolding titledAt titledAll
     titled-run k path es n r h =
         ap (λ (u : Outcome Labelled). u >>= λ x. titledRest m (d - 1) p k (contextIn scope path) (stateOf w es n r) x (x .value))
         (told (opened .title) .says k path es n r h)
 
-    pub title-stops : {t : List ℕ} {why : Refusal} → e ≡ NotEvaluated why → TitledIn m w out fill scope (d - 1) p t e
-    unfolding evaluated _>>=_
-    title-stops {t} {why} is =
-        subst (λ (v : Evaluated). TitledIn m w out fill scope (d - 1) p t v) (sym is) (notTitled {why = why} (record { says = λ k path es n z h. rw is at (titled-run k path es n z h) }))
+    pub title-stops : {t : List ℕ} {why : Refusal} → o ≡ refusedBy why → TitledIn m w out fill scope (d - 1) p t (NoTitle why)
+    unfolding _>>=_
+    title-stops is = notTitled (record { says = λ k path es n z h. rw is at (titled-run k path es n z h) })
 
-    module _ (x : Labelled) (is : e ≡ Yields x) where
-      pub title-wrong : {t : List ℕ} {why : Refusal} → (tagOf the-type (x .value) ≡ 1 → ⊥) → why ≡ refusalAt WrongKind (p + 5) → TitledIn m w out fill scope (d - 1) p t (NotEvaluated why)
-      unfolding evaluated stringIn at _>>=_
+    module _ (x : Labelled) (is : o ≡ done x) where
+      pub title-wrong : {t : List ℕ} {why : Refusal} → (tagOf the-type (x .value) ≡ 1 → ⊥) → why ≡ refusalAt WrongKind (p + 5) → TitledIn m w out fill scope (d - 1) p t (NoTitle why)
+      unfolding stringIn at _>>=_
       title-wrong unlike at-title = notTitled (record { says = λ k path es n r h. ap refusedBy at-title ∙ sym (go (x .value) refl k (contextIn scope path) es n r) ∙ (rw is at (titled-run k path es n r h)) })
         where
           go : (v : Value) → x .value ≡ v → (k : Known) (c : Context) (es : List Entry) (n r : ℕ)
@@ -90,24 +88,24 @@ module _ {m : List ℕ} {d p : ℕ} (s : StandsAs m d StatementKind p) (by : byt
             (subst (λ (j : ℕ). GivenIn m w out fill scope (d - 1) j (endOf m p) t g) first-is (subst (λ (j : ℕ). GivenIn m w out fill scope (d - 1) first j t g) end-is got))
 
         string-run : (k : Known) (path : Labels) (es : List Entry) (n r : ℕ) → Ready m w out fill k es
-            → {o : Outcome (List Given)} → o ≡ evaluateAll k (contextIn scope path) (stateOf w es n r) (attributesAt m (d - 1) (fieldsIn m (endOf m (p + 5)) (endOf m p)))
-            → (o >>= λ gs. done (record { title = x; given = gs })) ≡ titledAt m (d - 1) p k (contextIn scope path) (stateOf w es n r)
-        unfolding evaluated stringIn at _>>=_
+            → {all : Outcome (List Given)} → all ≡ evaluateAll k (contextIn scope path) (stateOf w es n r) (attributesAt m (d - 1) (fieldsIn m (endOf m (p + 5)) (endOf m p)))
+            → (all >>= λ gs. done (record { title = x; given = gs })) ≡ titledAt m (d - 1) p k (contextIn scope path) (stateOf w es n r)
+        unfolding stringIn at _>>=_
         string-run k path es n r h gave =
             ap (λ (u : Outcome (List Given)). u >>= λ gs. done (record { title = x; given = gs })) gave
             ∙ ap (λ (v : Value). titledRest m (d - 1) p k (contextIn scope path) (stateOf w es n r) x v) (sym string)
             ∙ (rw is at (titled-run k path es n r h))
 
-        pub attributes-stop : {why : Refusal} → g ≡ Refused why → TitledIn m w out fill scope (d - 1) p t (NotEvaluated why)
+        pub attributes-stop : {why : Refusal} → g ≡ Refused why → TitledIn m w out fill scope (d - 1) p t (NoTitle why)
         unfolding _>>=_
         attributes-stop {why} f = go (here f)
           where
-            go : GivenIn m w out fill scope (d - 1) (endOf m (p + 5)) (endOf m p) t (Refused why) → TitledIn m w out fill scope (d - 1) p t (NotEvaluated why)
+            go : GivenIn m w out fill scope (d - 1) (endOf m (p + 5)) (endOf m p) t (Refused why) → TitledIn m w out fill scope (d - 1) p t (NoTitle why)
             go (notGiven tells) = notTitled (record { says = λ k path es n z h. string-run k path es n z h (tells .says k path es n z h) })
 
-        pub all-given : g ≡ Done → TitledIn m w out fill scope (d - 1) p t (Yields x)
+        pub all-given : g ≡ Done → TitledIn m w out fill scope (d - 1) p t (IsTitle x)
         unfolding _>>=_
         all-given f = go (here f)
           where
-            go : GivenIn m w out fill scope (d - 1) (endOf m (p + 5)) (endOf m p) t Done → TitledIn m w out fill scope (d - 1) p t (Yields x)
+            go : GivenIn m w out fill scope (d - 1) (endOf m (p + 5)) (endOf m p) t Done → TitledIn m w out fill scope (d - 1) p t (IsTitle x)
             go (given gs gives alikes tells) = titled gs gives alikes (record { says = λ k path es n z h. string-run k path es n z h (tells .says k path es n z h) })

@@ -14,10 +14,10 @@ use Rattle.places.specs.At.{expressionAt, attributesAt}
 use Rattle.memory.specs.declared.Scope.{Scope}
 use Rattle.evaluator.specs.Answers.{refusedBy}
 use Rattle.evaluator.specs.Known.{Tells}
-use Rattle.evaluator.specs.declared.Evaluated.{Evaluated}
-use Rattle.evaluator.specs.declared.Evaluated.the-variants.{Value, Refused as NotEvaluated}
 use Rattle.attributes.specs.declared.Gathered.{Gathered}
 use Rattle.attributes.specs.declared.Gathered.the-variants.{Done, Refused}
+use Rattle.attributes.specs.declared.Title.{Title}
+use Rattle.attributes.specs.declared.Title.the-variants.{Value, Refused as NoTitle}
 use Rattle.attributes.specs.Names.{Alike}
 use Rattle.attributes.specs.Table.{Gives}
 
@@ -40,7 +40,7 @@ titledAll e l ats k c st = evaluate k c st e >>= λ x. at l (stringIn (x .value)
 unfoldable pub titledAt : List ℕ → (b p : ℕ) → Known → Context → State → Outcome Titled
 titledAt m b p = titledAll (expressionAt m b (p + 5)) (p + 5) (attributesAt m b (fieldsIn m (endOf m (p + 5)) (endOf m p)))
 
-pub data TitledIn (m w out : List ℕ) (fill : ℕ) (scope : Scope) (b p : ℕ) (t : List ℕ) : Evaluated → Type 0 where
-  notTitled : {why : Refusal} → Tells m w out fill scope (refusedBy why) (titledAt m b p) → TitledIn m w out fill scope b p t (NotEvaluated why)
+pub data TitledIn (m w out : List ℕ) (fill : ℕ) (scope : Scope) (b p : ℕ) (t : List ℕ) : Title → Type 0 where
+  notTitled : {why : Refusal} → Tells m w out fill scope (refusedBy why) (titledAt m b p) → TitledIn m w out fill scope b p t (NoTitle why)
   titled : {x : Labelled} (gs : List Given) → Gives t gs → Alike m gs (fieldsIn m (endOf m (p + 5)) (endOf m p)) → Tells m w out fill scope (done (record { title = x; given = gs })) (titledAt m b p)
       → TitledIn m w out fill scope b p t (Value x)

@@ -15,7 +15,9 @@ ghost use Rattle.evaluator.specs.Known.{Sized};
 ghost use Rattle.attributes.specs.Names.{hasName, namedIn, nameFrom, repeatedIn, Marked, Marks, Unmarked};
 ghost use Rattle.attributes.specs.Table.{HasRow, givenAt, Adds, Fresh};
 ghost use Rattle.attributes.specs.Evaluated.{GivenIn, TitledIn};
-use evaluator::Evaluated;
+use evaluator::Valued;
+use evaluator::value_of;
+use labels::Labels;
 use memory::Scope;
 use records::Held;
 use values::Labelled;
@@ -31,6 +33,12 @@ pub struct Span {
 
 pub enum Gathered {
     Done,
+    Refused(Refusal),
+}
+
+// The title of a declaration.
+pub enum Title {
+    Value(Labelled),
     Refused(Refusal),
 }
 
@@ -198,10 +206,14 @@ pub fn evaluate_attributes(
     let end = span.end;
     let mut q = span.first;
     while q < end {
-        let e = evaluator::evaluate(m, depth - 1, q + 5, work, out, fill, scope);
-        match e {
-            Evaluated::Refused(refusal) => return Gathered::Refused(refusal),
-            Evaluated::Value(x) => add_given(table, wire::two_at(m, q + 3), x),
+        let mut set = [0u64; 4];
+        let e = evaluator::evaluate(m, depth - 1, q + 5, work, out, fill, scope, &mut set);
+        match value_of(e) {
+            Valued::Refused(refusal) => return Gathered::Refused(refusal),
+            Valued::Value(value) => {
+                let labels = Labels::in_words(&set);
+                add_given(table, wire::two_at(m, q + 3), Labelled { value, labels });
+            }
         }
         q = wire::end_of(m, q);
     }
@@ -218,32 +230,28 @@ pub fn evaluate_titled(
     fill: usize,
     scope: Scope,
     table: &mut [u8],
-) -> Evaluated
+) -> Title
     requires { ⌜ ((Sized (now m) (now work) (now out) fill p × StandsAs (now m) depth Statement p) × (byte (now m) p ≡ 0x27)) × Fresh (now m) (now table) (fieldsIn (now m) (endOf (now m) (p + 5)) (endOf (now m) p)) ⌝ }
     ensures { λ r. ⌜ TitledIn (now (m .entry)) (now (work .entry)) (now (out .entry)) fill scope (depth - 1) p (now (table .exit)) r ⌝ }
 {
-    let t = evaluator::evaluate(m, depth - 1, p + 5, work, out, fill, scope);
-    let Evaluated::Value(x) = t else {
-        return t;
+    let mut set = [0u64; 4];
+    let t = evaluator::evaluate(m, depth - 1, p + 5, work, out, fill, scope, &mut set);
+    let value = match value_of(t) {
+        Valued::Refused(refusal) => return Title::Refused(refusal),
+        Valued::Value(value) => value,
     };
-    let value = x.value;
     let Value::String(_) = value else {
-        return Evaluated::Refused(Refusal::at(Reason::WrongKind, p + 5));
+        return Title::Refused(Refusal::at(Reason::WrongKind, p + 5));
     };
     let first = wire::end_of(m, p + 5);
     let end = wire::end_of(m, p);
-    let g = evaluate_attributes(
-        m,
-        depth - 1,
-        Span { first, end },
-        work,
-        out,
-        fill,
-        scope,
-        table,
-    );
+    let span = Span { first, end };
+    let g = evaluate_attributes(m, depth - 1, span, work, out, fill, scope, table);
     match g {
-        Gathered::Refused(refusal) => Evaluated::Refused(refusal),
-        Gathered::Done => Evaluated::Value(x),
+        Gathered::Refused(refusal) => Title::Refused(refusal),
+        Gathered::Done => {
+            let labels = Labels::in_words(&set);
+            Title::Value(Labelled { value, labels })
+        }
     }
 }

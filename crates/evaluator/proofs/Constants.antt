@@ -3,24 +3,33 @@ use Prim.Native.Nat.{ℕ, _+_}
 use mathlib.Core.Path.{_≡_, refl, sym, ap, _∙_}
 use mathlib.Core.Bool.{Bool, true, false, _&&_}
 use mathlib.Core.List.{List}
+use lib.ListN.{length}
 use native.Mathlib.Omega.{arith}
 use borrow.Author.Tests.{ne-eqb, eqb-true, le-ltb}
 use lib.Dec.{eqb}
 use lib.IntN.{ℤ}
 use Rattle.labels.specs.declared.Labels.{Labels}
-use Rattle.labels.specs.Sets.{oneLabel}
+use Rattle.labels.specs.Sets.{oneLabel, _∪_}
+use Rattle.labels.specs.Words.{labelsIn, Joins}
+use Rattle.labels.proofs.Words.{grows-none, grows-joined}
 use Rattle.values.specs.declared.Value.{Value}
 use Rattle.values.specs.declared.Value.the-variants.{Integer, String, Boolean}
 use Rattle.values.specs.declared.Labelled.{Labelled}
+use Rattle.values.specs.declared.Refusal.{Refusal}
+use Rattle.values.specs.Refusals.{refusalAt}
 use Rattle.wire.specs.Bytes.{pick, byte, two}
 use Rattle.wire.specs.Numbers.{number, signed64}
 use Rattle.wire.specs.Runs.{bytesAt}
 use Rattle.rules.specs.Evaluate.{ofConstant}
 use Rattle.places.specs.At.{valueAt, constantAt}
-use Rattle.rules.specs.Outcome.{Outcome, refused, done, _>>=_, refuseIf}
+use Rattle.rules.specs.Outcome.{_>>=_, refuseIf, plain}
 use Rattle.values.specs.declared.Reason.the-variants.{Malformed}
 use Rattle.memory.specs.Words.{wordOf, strikeLabel, strikeEnd, struckAt, struckIn}
+use Rattle.evaluator.specs.declared.Evaluated.{Evaluated}
+use Rattle.evaluator.specs.declared.Evaluated.the-variants.{Refused}
+use Rattle.evaluator.specs.Answers.{evaluated, Joined}
 use Rattle.evaluator.specs.Known.{constantIn}
+use Rattle.evaluator.proofs.Outcomes.{refusal-joined, value-joined}
 
 module _ (m : List ℕ) (p : ℕ) where
   pub integer-read : {t : ℕ} {z v : ℤ} → t ≡ byte m p → t ≡ 0x10 → v ≡ z → z ≡ signed64 (number (bytesAt m (p + 4) 8) 0) → Integer v ≡ valueAt m p (byte m p)
@@ -55,10 +64,15 @@ module _ (m w : List ℕ) (p : ℕ) where
   struck-told labelled struck = struck ∙ ap (λ (n : ℕ). struckAt w n p) labelled
 
   module _ {b : Bool} (struck : b ≡ struckIn w (constantAt m p)) where
-    pub constant-struck : {o : Outcome Labelled} → b ≡ true → o ≡ refused Malformed p → o ≡ constantIn w (constantAt m p)
+    pub constant-struck : {s : List ℕ} {why : Refusal} → length s ≡ 4 → b ≡ true → why ≡ refusalAt Malformed p → Joined s s (Refused why) (constantIn w (constantAt m p))
     unfolding constantIn constantAt refuseIf _>>=_
-    constant-struck is e = rw (sym struck ∙ is) e
+    constant-struck {s} size is e = record { grows = grows-none size; says = rw (sym struck ∙ is) (refusal-joined (labelsIn s) (labelsIn s) e) }
 
-    pub constant-kept : {x : Labelled} → b ≡ false → x ≡ ofConstant (constantAt m p) → done x ≡ constantIn w (constantAt m p)
+    pub constant-kept : {s s′ : List ℕ} {l : ℕ} {k : Labels} {v : Value} (e : Evaluated) → b ≡ false → l ≡ byte m (p + 3) → k ≡ oneLabel l → Joins s s′ k → v ≡ valueAt m p (byte m p) → evaluated e ≡ plain v → Joined s s′ e (constantIn w (constantAt m p))
     unfolding constantIn refuseIf _>>=_
-    constant-kept is e = rw (sym struck ∙ is) (ap done e)
+    constant-kept {s} {s′} e is label one joins value told = record {
+      grows = grows-joined joins;
+      says = rw (sym struck ∙ is) (
+          let read = constant-read m p label one value in
+          value-joined (labelsIn s) (labelsIn s′) e (ofConstant (constantAt m p)) (told ∙ ap (λ (x : Labelled). plain (x .value)) read) (joins .labels ∙ ap (λ (x : Labelled). labelsIn s ∪ x .labels) read));
+    }

@@ -4,12 +4,14 @@ use mathlib.Core.Path.{_≡_, sym, ap, _∙_, subst}
 use mathlib.Core.List.{List}
 use native.Mathlib.Omega.{arith}
 use lib.ListN.{length}
+use Rattle.labels.specs.Words.{labelsIn}
 use Rattle.values.specs.declared.Value.{Value}
 use Rattle.values.specs.declared.Labelled.{Labelled}
 use Rattle.values.specs.declared.Refusal.{Refusal}
+use Rattle.values.specs.Refusals.{refusalAt}
 use Rattle.values.specs.declared.Reason.the-variants.{WrongKind as NotThatKind}
 use Rattle.wire.specs.Bytes.{byte, two, endOf}
-use Rattle.rules.specs.Outcome.{Outcome, refused, plain, joining}
+use Rattle.rules.specs.Outcome.{Outcome, refused, joining}
 use Rattle.rules.specs.Read.{operatorFrom}
 use Rattle.rules.specs.State.{State, Context, Known, Entry}
 use Rattle.rules.specs.Evaluate.{operate, evaluate}
@@ -22,11 +24,13 @@ use Rattle.memory.specs.Contexts.{contextIn}
 use Rattle.evaluator.specs.declared.Begun.{Begun}
 use Rattle.evaluator.specs.declared.Begun.the-variants.{WrongKind, Decided, Open}
 use Rattle.evaluator.specs.declared.Evaluated.{Evaluated}
-use Rattle.evaluator.specs.declared.Evaluated.the-variants.{Value as Yields, Refused}
-use Rattle.evaluator.specs.Answers.{evaluated}
+use Rattle.evaluator.specs.declared.Evaluated.the-variants.{Refused}
+use Rattle.evaluator.specs.declared.Valued.{Valued}
+use Rattle.evaluator.specs.declared.Valued.the-variants.{Value as IsValue, Refused as IsRefused}
+use Rattle.evaluator.specs.Answers.{answered, evaluated, valuedAs}
 use Rattle.evaluator.specs.Operators.{begin, afterLeft, combine, negation}
-use Rattle.evaluator.specs.Known.{Ready, Tells, Sized, attributeOf}
-use Rattle.evaluator.proofs.Outcomes.{_▷_, stops, goes-on}
+use Rattle.evaluator.specs.Known.{Ready, TellsJoined, Sized, attributeOf}
+use Rattle.evaluator.proofs.Outcomes.{_▷_, stops, goes-on, refusal-joined, plain-joined, with-labels}
 use Rattle.evaluator.proofs.Operators.{operate-steps}
 
 -- a run of the definition, in what is known, a context and a state
@@ -37,25 +41,34 @@ Run = Known → Context → State → Outcome Labelled
 abbrev pub Small : (q t : ℕ) → Type 0
 Small q t = (q ≤ 65535) × (t ≤ 65535 → q ≡ t)
 
+-- what holds of an operand at t, found at the small place q
+pub operand-at : {m : List ℕ} {d t q : ℕ} (P : ℕ → Type 0) → length m ≤ 65535 → StandsAs m d ExpressionKind t → Small q t → (StandsAs m d ExpressionKind q → P q) → P t
+operand-at {m} {d} {t} {q} P short stands small h =
+    let same : q ≡ t = small .1 (omega (arith, stands .stands .ends)) in
+    subst (λ (n : ℕ). StandsAs m d ExpressionKind n → P n) same h stands
+
 module _ (m w out : List ℕ) (fill : ℕ) (scope : Scope) where
   -- an answer tells of each run that gives the same
-  pub tells-as : {a : Outcome Labelled} {f : Run} (g : Run) → ((k : Known) (c : Context) (st : State) → f k c st ≡ g k c st) → Tells m w out fill scope a f → Tells m w out fill scope a g
-  tells-as g e t = record { says = λ k path es n r h. t .says k path es n r h ∙ e k (contextIn scope path) (stateOf w es n r) }
+  tells-as : {s s′ : List ℕ} {a : Evaluated} {f : Run} (g : Run) → ((k : Known) (c : Context) (st : State) → f k c st ≡ g k c st) → TellsJoined m w out fill scope s s′ a f → TellsJoined m w out fill scope s s′ a g
+  tells-as {s} g e t = record { says = λ k path es n r h. t .says k path es n r h ∙ ap (joining (labelsIn s)) (e k (contextIn scope path) (stateOf w es n r)) }
 
-  -- an operand at t, found at the small place q
-  pub operand-told : (d t : ℕ) {q : ℕ} {a : Outcome Labelled} → length m ≤ 65535 → StandsAs m d ExpressionKind t → Small q t
-      → (StandsAs m d ExpressionKind q → Tells m w out fill scope a (λ k c st. evaluate k c st (expressionAt m d q))) → Tells m w out fill scope a (λ k c st. evaluate k c st (expressionAt m d t))
-  operand-told d t {q} {a} short s small h =
-      let same : q ≡ t = small .1 (omega (arith, s .stands .ends)) in
-      subst (λ (n : ℕ). StandsAs m d ExpressionKind n → Tells m w out fill scope a (λ k c st. evaluate k c st (expressionAt m d n))) same h s
+  -- what is told of the expression at p with d levels
+  abbrev Told : (d p : ℕ) (s s′ : List ℕ) → Evaluated → Type 0
+  Told d p s s′ a = TellsJoined m w out fill scope s s′ a (λ k c st. evaluate k c st (expressionAt m d p))
+
+  pub operand-told : (d t : ℕ) {q : ℕ} {s s′ : List ℕ} {a : Evaluated} → length m ≤ 65535 → StandsAs m d ExpressionKind t → Small q t → (StandsAs m d ExpressionKind q → Told d q s s′ a) → Told d t s s′ a
+  operand-told d t {s = s} {s′} {a} short stands small h = operand-at (λ n. Told d n s s′ a) short stands small h
 
   -- first an operand, then the rest with its value
-  module _ {f whole : Run} (rest : Known → Context → State → Value → Outcome Labelled) (means : (k : Known) (c : Context) (st : State) → (f k c st ▷ rest k c st) ≡ whole k c st) where
-    pub then-stops : {e : Evaluated} {why : Refusal} → Tells m w out fill scope (evaluated e) f → e ≡ Refused why → Tells m w out fill scope (evaluated (Refused why)) whole
-    then-stops t is = tells-as whole means (record { says = λ k path es n r h. stops (rest k (contextIn scope path) (stateOf w es n r)) (t .says k path es n r h) is })
+  module _ {f whole : Run} {s s1 : List ℕ} {e : Evaluated} (rest : Known → Context → State → Value → Outcome Labelled) (means : (k : Known) (c : Context) (st : State) → (f k c st ▷ rest k c st) ≡ whole k c st)
+      (told : TellsJoined m w out fill scope s s1 e f) {u : Valued} (apart : u ≡ valuedAs e) where
+    pub then-stops : {why : Refusal} → u ≡ IsRefused why → TellsJoined m w out fill scope s s1 e whole
+    then-stops refuses = tells-as whole means
+        (record { says = λ k path es n r h. stops e (labelsIn s) (labelsIn s1) (rest k (contextIn scope path) (stateOf w es n r)) apart (f k (contextIn scope path) (stateOf w es n r)) (told .says k path es n r h) refuses })
 
-    pub then-goes-on : {e : Evaluated} {g i : Outcome Labelled} (x : Labelled) → Tells m w out fill scope (evaluated e) f → e ≡ Yields x → Tells m w out fill scope g (λ k c st. rest k c st (x .value)) → i ≡ joining (x .labels) g → Tells m w out fill scope i whole
-    then-goes-on x t is u joined = tells-as whole means (record { says = λ k path es n r h. goes-on (rest k (contextIn scope path) (stateOf w es n r)) x (t .says k path es n r h) is (joined ∙ ap (joining (x .labels)) (u .says k path es n r h)) })
+    pub then-goes-on : {v : Value} {s2 : List ℕ} {g : Evaluated} → u ≡ IsValue v → TellsJoined m w out fill scope s1 s2 g (λ k c st. rest k c st v) → TellsJoined m w out fill scope s s2 g whole
+    then-goes-on yields after = tells-as whole means
+        (record { says = λ k path es n r h. goes-on e (labelsIn s) (labelsIn s1) (rest k (contextIn scope path) (stateOf w es n r)) apart (f k (contextIn scope path) (stateOf w es n r)) (told .says k path es n r h) yields (after .says k path es n r h) })
 
   -- ---- Operators
 
@@ -69,52 +82,58 @@ module _ (m w out : List ℕ) (fill : ℕ) (scope : Scope) where
         (λ i. evaluate k c st (expressionAt m b (p + 4)) ▷ λ x. operate (operatorFrom (byte m (p + 3))) p (sym (expression-place m b (p + 4)) i) (sym (expression-place m b (endOf m (p + 4))) i) x (evaluate k c st (expressionAt m b (endOf m (p + 4)))))
         ∙ sym (ap (evaluate k c st) (o .tree))
 
-    module _ {q : ℕ} {a : Evaluated} (small : Small q (p + 4)) (left : StandsAs m b ExpressionKind q → Tells m w out fill scope (evaluated a) (λ k c st. evaluate k c st (expressionAt m b q))) where
-      pub left-stops : {why : Refusal} → a ≡ Refused why → Tells m w out fill scope (evaluated (Refused why)) (λ k c st. evaluate k c st (expressionAt m d p))
-      left-stops is = then-stops (λ k c st x. operatorHere x k c st) operation-means (operand-told b (p + 4) short (o .left) small left) is
+    abbrev combined : (x y : Value) → Outcome Labelled
+    combined x y = combine (operatorFrom (byte m (p + 3))) p (endOf m (p + 4)) x y
 
-      pub left-goes-on : (x : Labelled) {g i : Outcome Labelled} → a ≡ Yields x → ((e : ℕ) → OperationAt m e b p → Tells m w out fill scope g (operatorHere (x .value))) → i ≡ joining (x .labels) g → Tells m w out fill scope i (λ k c st. evaluate k c st (expressionAt m d p))
-      left-goes-on x is right joined = then-goes-on (λ k c st x. operatorHere x k c st) operation-means x (operand-told b (p + 4) short (o .left) small left) is (right d o) joined
+    -- what the left value x says of the operator
+    module _ {op : ℕ} {begun : Begun} (x : Value) (byte-is : op ≡ byte m (p + 3)) (begins : begun ≡ begin (operatorFrom op) x) where
+      begun-is : {v : Begun} → begun ≡ v → begin (operatorFrom (byte m (p + 3))) x ≡ v
+      begun-is eq = ap (λ (n : ℕ). begin (operatorFrom n) x) (sym byte-is) ∙ sym begins ∙ eq
 
-    -- the right operand, if the left value x leaves it open
-    module _ (x : Value) {op : ℕ} {begun : Begun} (byte-is : op ≡ byte m (p + 3)) (begins : begun ≡ begin (operatorFrom op) x) where
-      begun-is : {u : Begun} → begun ≡ u → begin (operatorFrom (byte m (p + 3))) x ≡ u
-      begun-is is = ap (λ (n : ℕ). begin (operatorFrom n) x) (sym byte-is) ∙ sym begins ∙ is
-
-      steps : (k : Known) (c : Context) (st : State) {u : Begun} → begun ≡ u → afterLeft u (p + 4) x (evaluate k c st (expressionAt m b (endOf m (p + 4))) ▷ λ y. combine (operatorFrom (byte m (p + 3))) p (endOf m (p + 4)) x y) ≡ operatorHere x k c st
-      steps k c st is =
-          ap (λ (v : Begun). afterLeft v (p + 4) x (evaluate k c st (expressionAt m b (endOf m (p + 4))) ▷ λ y. combine (operatorFrom (byte m (p + 3))) p (endOf m (p + 4)) x y)) (sym (begun-is is))
+      steps : {v : Begun} → begun ≡ v → (k : Known) (c : Context) (st : State) → afterLeft v (p + 4) x (evaluate k c st (expressionAt m b (endOf m (p + 4))) ▷ combined x) ≡ operatorHere x k c st
+      steps eq k c st =
+          ap (λ (v : Begun). afterLeft v (p + 4) x (evaluate k c st (expressionAt m b (endOf m (p + 4))) ▷ combined x)) (sym (begun-is eq))
           ∙ operate-steps (operatorFrom (byte m (p + 3))) p (p + 4) (endOf m (p + 4)) x (evaluate k c st (expressionAt m b (endOf m (p + 4))))
 
-      pub left-unlike : {q : ℕ} {i : Outcome Labelled} → begun ≡ WrongKind → Small q (p + 4) → i ≡ refused NotThatKind q → Tells m w out fill scope i (operatorHere x)
+      right-means : begun ≡ Open → (k : Known) (c : Context) (st : State) → (evaluate k c st (expressionAt m b (endOf m (p + 4))) ▷ combined x) ≡ operatorHere x k c st
       unfolding afterLeft
-      left-unlike {q} is small e =
-          let same : q ≡ p + 4 = small .1 (omega (arith, o .left .stands .ends)) in
-          record { says = λ k path es n r h. e ∙ ap (refused NotThatKind) same ∙ steps k (contextIn scope path) (stateOf w es n r) is }
+      right-means eq k c st = steps eq k c st
 
-      pub left-decides : {i : Outcome Labelled} → begun ≡ Decided → i ≡ plain x → Tells m w out fill scope i (operatorHere x)
-      unfolding afterLeft
-      left-decides is e = record { says = λ k path es n r h. e ∙ steps k (contextIn scope path) (stateOf w es n r) is }
+    module _ {q : ℕ} {s s1 : List ℕ} {a : Evaluated} (small : Small q (p + 4)) (left : StandsAs m b ExpressionKind q → Told b q s s1 a) {u : Valued} (apart : u ≡ valuedAs a) where
+      pub left-stops : {why : Refusal} → u ≡ IsRefused why → Told d p s s1 a
+      left-stops refuses = then-stops (λ k c st x. operatorHere x k c st) operation-means (operand-told b (p + 4) short (o .left) small left) apart refuses
 
-      module _ {e q : ℕ} (y : Evaluated) (is-open : begun ≡ Open) (end-is : e ≡ endOf m (p + 4)) (small : Small q e) (right : StandsAs m b ExpressionKind q → Tells m w out fill scope (evaluated y) (λ k c st. evaluate k c st (expressionAt m b q))) where
-        right-means : (k : Known) (c : Context) (st : State) → (evaluate k c st (expressionAt m b (endOf m (p + 4))) ▷ λ y. combine (operatorFrom (byte m (p + 3))) p (endOf m (p + 4)) x y) ≡ operatorHere x k c st
+      left-goes-on : {x : Value} {s2 : List ℕ} {g : Evaluated} → u ≡ IsValue x → TellsJoined m w out fill scope s1 s2 g (operatorHere x) → Told d p s s2 g
+      left-goes-on yields after = then-goes-on (λ k c st x. operatorHere x k c st) operation-means (operand-told b (p + 4) short (o .left) small left) apart yields after
+
+      module _ {x : Value} (yields : u ≡ IsValue x) {op : ℕ} {begun : Begun} (byte-is : op ≡ byte m (p + 3)) (begins : begun ≡ begin (operatorFrom op) x) where
+        pub left-unlike : {why : Refusal} → begun ≡ WrongKind → why ≡ refusalAt NotThatKind q → Told d p s s1 (Refused why)
         unfolding afterLeft
-        right-means k c st = steps k c st is-open
+        left-unlike eq e =
+            let same : q ≡ p + 4 = small .1 (omega (arith, o .left .stands .ends)) in
+            left-goes-on yields (record { says = λ k path es n r h. refusal-joined (labelsIn s1) (labelsIn s1) e ∙ ap (joining (labelsIn s1)) (ap (refused NotThatKind) same ∙ steps x byte-is begins eq k (contextIn scope path) (stateOf w es n r)) })
 
-        right-small : Small q (endOf m (p + 4))
-        right-small = (small .0, λ l. small .1 (omega arith) ∙ end-is)
+        pub left-decides : begun ≡ Decided → Told d p s s1 a
+        unfolding afterLeft
+        left-decides eq =
+            left-goes-on yields (record { says = λ k path es n r h. plain-joined a apart yields (labelsIn s1) ∙ ap (joining (labelsIn s1)) (steps x byte-is begins eq k (contextIn scope path) (stateOf w es n r)) })
 
-        right-told : Tells m w out fill scope (evaluated y) (λ k c st. evaluate k c st (expressionAt m b (endOf m (p + 4))))
-        right-told = operand-told b (endOf m (p + 4)) short (o .right) right-small right
+        -- the right operand, if the left value leaves it open
+        module _ {e r : ℕ} {s2 : List ℕ} {y : Evaluated} (is-open : begun ≡ Open) (end-is : e ≡ endOf m (p + 4)) (near : Small r e) (right : StandsAs m b ExpressionKind r → Told b r s1 s2 y) {v : Valued} (taken : v ≡ valuedAs y) where
+          right-near : Small r (endOf m (p + 4))
+          right-near = (near .0, λ l. near .1 (omega arith) ∙ end-is)
 
-        pub right-stops : {why : Refusal} → y ≡ Refused why → Tells m w out fill scope (evaluated (Refused why)) (operatorHere x)
-        right-stops is = then-stops (λ k c st y. combine (operatorFrom (byte m (p + 3))) p (endOf m (p + 4)) x y) right-means right-told is
+          right-told : Told b (endOf m (p + 4)) s1 s2 y
+          right-told = operand-told b (endOf m (p + 4)) short (o .right) right-near right
 
-        pub right-goes-on : (v : Labelled) {g i : Outcome Labelled} → y ≡ Yields v → g ≡ combine (operatorFrom op) p q x (v .value) → i ≡ joining (v .labels) g → Tells m w out fill scope i (operatorHere x)
-        right-goes-on v is both joined =
-            let same : q ≡ endOf m (p + 4) = right-small .1 (omega (arith, o .right .stands .ends)) in
-            then-goes-on (λ k c st y. combine (operatorFrom (byte m (p + 3))) p (endOf m (p + 4)) x y) right-means v right-told is
-            (record { says = λ k path es n r h. both ∙ λ j. combine (operatorFrom (byte-is j)) p (same j) x (v .value) }) joined
+          pub right-stops : {why : Refusal} → v ≡ IsRefused why → Told d p s s2 y
+          right-stops refuses = left-goes-on yields (then-stops (λ k c st z. combined x z) (right-means x byte-is begins is-open) right-told taken refuses)
+
+          pub right-goes-on : {z : Value} {g : Evaluated} → v ≡ IsValue z → evaluated g ≡ combine (operatorFrom op) p r x z → Told d p s s2 g
+          right-goes-on {z} {g} gives both =
+              let same : r ≡ endOf m (p + 4) = right-near .1 (omega (arith, o .right .stands .ends)) in
+              left-goes-on yields (then-goes-on (λ k c st z. combined x z) (right-means x byte-is begins is-open) right-told taken gives
+              (record { says = λ k path es n t h. with-labels g (both ∙ λ j. combine (operatorFrom (byte-is j)) p (same j) x z) (labelsIn s2) }))
 
   -- ---- not
 
@@ -125,15 +144,15 @@ module _ (m w out : List ℕ) (fill : ℕ) (scope : Scope) where
         (λ i. evaluate k c st (expressionAt m b (p + 3)) ▷ λ x. negation (sym (expression-place m b (p + 3)) i) x)
         ∙ sym (ap (evaluate k c st) (o .tree))
 
-    module _ {q : ℕ} {a : Evaluated} (small : Small q (p + 3)) (told : StandsAs m b ExpressionKind q → Tells m w out fill scope (evaluated a) (λ k c st. evaluate k c st (expressionAt m b q))) where
-      pub negation-stops : {why : Refusal} → a ≡ Refused why → Tells m w out fill scope (evaluated (Refused why)) (λ k c st. evaluate k c st (expressionAt m d p))
-      negation-stops is = then-stops (λ k c st x. negation (p + 3) x) negation-means (operand-told b (p + 3) short (o .operand) small told) is
+    module _ {q : ℕ} {s s1 : List ℕ} {a : Evaluated} (small : Small q (p + 3)) (told : StandsAs m b ExpressionKind q → Told b q s s1 a) {u : Valued} (apart : u ≡ valuedAs a) where
+      pub negation-stops : {why : Refusal} → u ≡ IsRefused why → Told d p s s1 a
+      negation-stops refuses = then-stops (λ k c st x. negation (p + 3) x) negation-means (operand-told b (p + 3) short (o .operand) small told) apart refuses
 
-      pub negation-goes-on : (x : Labelled) {g i : Outcome Labelled} → a ≡ Yields x → g ≡ negation q (x .value) → i ≡ joining (x .labels) g → Tells m w out fill scope i (λ k c st. evaluate k c st (expressionAt m d p))
-      negation-goes-on x is gave joined =
+      pub negation-goes-on : {x : Value} {g : Evaluated} → u ≡ IsValue x → evaluated g ≡ negation q x → Told d p s s1 g
+      negation-goes-on {x} {g} yields gave =
           let same : q ≡ p + 3 = small .1 (omega (arith, o .operand .stands .ends)) in
-          then-goes-on (λ k c st x. negation (p + 3) x) negation-means x (operand-told b (p + 3) short (o .operand) small told) is
-          (record { says = λ k path es n r h. gave ∙ ap (λ (l : ℕ). negation l (x .value)) same }) joined
+          then-goes-on (λ k c st x. negation (p + 3) x) negation-means (operand-told b (p + 3) short (o .operand) small told) apart yields
+          (record { says = λ k path es n r h. with-labels g (gave ∙ ap (λ (l : ℕ). negation l x) same) (labelsIn s1) })
 
   -- ---- Attributes
 
@@ -147,16 +166,16 @@ module _ (m w out : List ℕ) (fill : ℕ) (scope : Scope) where
         (λ i. evaluate k c st (expressionAt m b (p + 7)) ▷ λ x. attributeHere (sym (expression-place m b (p + 7)) i) k (st .entries) x)
         ∙ sym (ap (evaluate k c st) (o .tree))
 
-    module _ {q : ℕ} {a : Evaluated} (small : Small q (p + 7)) (told : StandsAs m b ExpressionKind q → Tells m w out fill scope (evaluated a) (λ k c st. evaluate k c st (expressionAt m b q))) where
-      pub title-stops : {why : Refusal} → a ≡ Refused why → Tells m w out fill scope (evaluated (Refused why)) (λ k c st. evaluate k c st (expressionAt m d p))
-      title-stops is = then-stops (λ k c st x. attributeHere (p + 7) k (st .entries) x) attribute-means (operand-told b (p + 7) short (o .title) small told) is
+    module _ {q : ℕ} {s s1 : List ℕ} {a : Evaluated} (small : Small q (p + 7)) (told : StandsAs m b ExpressionKind q → Told b q s s1 a) {u : Valued} (apart : u ≡ valuedAs a) where
+      pub title-stops : {why : Refusal} → u ≡ IsRefused why → Told d p s s1 a
+      title-stops refuses = then-stops (λ k c st x. attributeHere (p + 7) k (st .entries) x) attribute-means (operand-told b (p + 7) short (o .title) small told) apart refuses
 
-      pub title-goes-on : (x : Labelled) {g i : Outcome Labelled} → a ≡ Yields x → ((k : Known) (es : List Entry) → Ready m w out fill k es → g ≡ attributeHere q k es (x .value)) → i ≡ joining (x .labels) g → Tells m w out fill scope i (λ k c st. evaluate k c st (expressionAt m d p))
+      pub title-goes-on : {x : Value} (s2 : List ℕ) (g : Evaluated) → u ≡ IsValue x → ((k : Known) (es : List Entry) → Ready m w out fill k es → answered g (labelsIn s2) ≡ joining (labelsIn s1) (attributeHere q k es x)) → Told d p s s2 g
       unfolding stateOf
-      title-goes-on x is read joined =
+      title-goes-on {x} s2 g yields read =
           let same : q ≡ p + 7 = small .1 (omega (arith, o .title .stands .ends)) in
-          then-goes-on (λ k c st x. attributeHere (p + 7) k (st .entries) x) attribute-means x (operand-told b (p + 7) short (o .title) small told) is
-          (record { says = λ k path es n r h. read k es h ∙ ap (λ (l : ℕ). attributeHere l k es (x .value)) same }) joined
+          then-goes-on (λ k c st x. attributeHere (p + 7) k (st .entries) x) attribute-means (operand-told b (p + 7) short (o .title) small told) apart yields
+          (record { says = λ k path es n r h. read k es h ∙ ap (λ (l : ℕ). joining (labelsIn s1) (attributeHere l k es x)) same })
 
 -- the same lengths, at another place
 pub resized : {m w out : List ℕ} {fill p q : ℕ} → Sized m w out fill p → q ≤ 65535 → Sized m w out fill q

@@ -4,9 +4,10 @@ use mathlib.Core.Path.{_≡_, refl, sym, ap, _∙_, subst}
 use mathlib.Core.Bool.{true, false, Bool}
 use mathlib.Core.List.{List, [], _∷_}
 use native.Mathlib.Omega.{arith}
+use Rattle.labels.specs.Words.{labelsIn}
 use Rattle.values.specs.declared.Labelled.{Labelled}
 use Rattle.wire.specs.Bytes.{byte, two}
-use Rattle.rules.specs.Outcome.{Outcome, done, _>>=_, refuseIf}
+use Rattle.rules.specs.Outcome.{Outcome, done, _>>=_, refuseIf, joining}
 use Rattle.rules.specs.Format.{allowed}
 use Rattle.rules.specs.State.{Known, upward, scopesTried}
 use Rattle.rules.specs.Evaluate.{readIn, ofConstant, evaluate, comeTo}
@@ -20,9 +21,9 @@ use Rattle.cells.specs.Memory.{cellsOf, classesOf, baseFor, stateOf}
 use Rattle.cells.proofs.Scopes.{top-scope}
 use Rattle.memory.specs.declared.Scope.{Scope}
 use Rattle.memory.specs.Contexts.{contextIn}
-use Rattle.evaluator.specs.declared.Evaluated.the-variants.{Value as Yields}
-use Rattle.evaluator.specs.Answers.{evaluated}
-use Rattle.evaluator.specs.Known.{KnownIn, Tells, classRead, constantIn}
+use Rattle.evaluator.specs.declared.Evaluated.{Evaluated}
+use Rattle.evaluator.specs.Answers.{answered}
+use Rattle.evaluator.specs.Known.{KnownIn, Tells, TellsJoined, classRead, constantIn}
 use Rattle.evaluator.proofs.Reading.{read-one}
 use Rattle.values.specs.declared.Reason.the-variants.{Malformed}
 
@@ -57,16 +58,23 @@ module _ (m w out : List ℕ) (fill : ℕ) (scope : Scope) (d p : ℕ) where
   abbrev Said : Outcome Labelled → Type 0
   Said a = Tells m w out fill scope a (λ k c st. evaluate k c st (expressionAt m d p))
 
+  -- the same with a set joined, for e levels
+  abbrev ToldAt : (s s′ : List ℕ) → Evaluated → (e : ℕ) → Type 0
+  ToldAt s s′ a e = TellsJoined m w out fill scope s s′ a (λ k c st. evaluate k c st (expressionAt m e p))
+
+  pub told-joined : {s s′ : List ℕ} (a : Evaluated) {o : Outcome Labelled} → answered a (labelsIn s′) ≡ joining (labelsIn s) o → Said o → ToldAt s s′ a d
+  told-joined {s} a joined said = record { says = λ k path es n r h. joined ∙ ap (joining (labelsIn s)) (said .says k path es n r h) }
+
   -- no field has no level
-  pub no-level : {a : Outcome Labelled} → d ≡ 0 → StandsAs m d ExpressionKind p → Said a
-  no-level z s = absurd (omega (arith, level (s .stands)))
+  pub no-level : {s s′ : List ℕ} {a : Evaluated} → d ≡ 0 → StandsAs m d ExpressionKind p → ToldAt s s′ a d
+  no-level z stands = absurd (omega (arith, level (stands .stands)))
 
   module _ {t : ℕ} (tag : t ≡ byte m p) where
-    pub says-constant : {a : Outcome Labelled} → t < 0x13 → a ≡ constantIn w (constantAt m p) → StandsAs m d ExpressionKind p → Said a
+    pub says-constant : t < 0x13 → StandsAs m d ExpressionKind p → Said (constantIn w (constantAt m p))
     unfolding evaluate comeTo constantIn stateOf constantAt _>>=_ refuseIf
-    says-constant l e s =
+    says-constant l s =
         let tree = constant-opens (record { stands = s .stands; kind = constant-below (byte m p) (expression-tag (byte m p) (s .kind)) (omega (arith, tag)) }) in
-        record { says = λ k path es n r h. e ∙ ap (λ (b : Bool). refuseIf b Malformed p >>= λ _. done (ofConstant (constantAt m p))) (sym (h .known .struck (constantAt m p))) ∙ sym (ap (evaluate k (contextIn scope path) (stateOf w es n r)) tree) }
+        record { says = λ k path es n r h. ap (λ (b : Bool). refuseIf b Malformed p >>= λ _. done (ofConstant (constantAt m p))) (sym (h .known .struck (constantAt m p))) ∙ sym (ap (evaluate k (contextIn scope path) (stateOf w es n r)) tree) }
 
     pub says-variable : {n : ℕ} {a : Outcome Labelled} → t ≡ 0x13 → n ≡ two m (p + 3) → a ≡ readIn p (cellsOf w) n (upward 1026 (classesOf w) (baseFor (scope .«base_is_node»)) (scopeOf (scope .number))) → StandsAs m d ExpressionKind p → Said a
     unfolding evaluate scopesTried stateOf
@@ -89,21 +97,20 @@ module _ (m w out : List ℕ) (fill : ℕ) (scope : Scope) (d p : ℕ) where
           e k (h .known) ∙ (λ i. classRead k p (cellsOf w) (class i) (name i)) ∙ sym (ap (evaluate k (contextIn scope path) (stateOf w es n r)) (class-variable-opens (s .stands) (sym tag ∙ is)));
     }
 
-    module _ (some : d ≡ 0 → ⊥) where
-      one-more : d ≡ suc (d - 1)
-      one-more = omega arith
+    one-more : (d ≡ 0 → ⊥) → d ≡ suc (d - 1)
+    one-more some = omega arith
 
-      pub says-operation : {a : Outcome Labelled} → t ≡ 0x16 → ((e : ℕ) → OperationAt m e (d - 1) p → Tells m w out fill scope a (λ k c st. evaluate k c st (expressionAt m e p))) → StandsAs m d ExpressionKind p → Said a
-      says-operation is e s = e d (operation-opens (s .stands) one-more (sym tag ∙ is))
+    module _ (some : d ≡ 0 → ⊥) {s s′ : List ℕ} {a : Evaluated} where
+      pub says-operation : t ≡ 0x16 → ((e : ℕ) → OperationAt m e (d - 1) p → ToldAt s s′ a e) → StandsAs m d ExpressionKind p → ToldAt s s′ a d
+      says-operation is e stands = e d (operation-opens (stands .stands) (one-more some) (sym tag ∙ is))
 
-      pub says-negation : {a : Outcome Labelled} → t ≡ 0x17 → ((e : ℕ) → NegationAt m e (d - 1) p → Tells m w out fill scope a (λ k c st. evaluate k c st (expressionAt m e p))) → StandsAs m d ExpressionKind p → Said a
-      says-negation is e s = e d (negation-opens (s .stands) one-more (sym tag ∙ is))
+      pub says-negation : t ≡ 0x17 → ((e : ℕ) → NegationAt m e (d - 1) p → ToldAt s s′ a e) → StandsAs m d ExpressionKind p → ToldAt s s′ a d
+      says-negation is e stands = e d (negation-opens (stands .stands) (one-more some) (sym tag ∙ is))
 
-      pub says-attribute : {a : Outcome Labelled} → t ≡ 0x18 → ((e : ℕ) → AttributeReadAt m e (d - 1) p → Tells m w out fill scope a (λ k c st. evaluate k c st (expressionAt m e p))) → StandsAs m d ExpressionKind p → Said a
-      says-attribute is e s = e d (attribute-read-opens (s .stands) one-more (sym tag ∙ is))
+      pub says-attribute : t ≡ 0x18 → ((e : ℕ) → AttributeReadAt m e (d - 1) p → ToldAt s s′ a e) → StandsAs m d ExpressionKind p → ToldAt s s′ a d
+      says-attribute is e stands = e d (attribute-read-opens (stands .stands) (one-more some) (sym tag ∙ is))
 
-      pub says-selector : {a : Outcome Labelled} → 0x16 ≤ t → (t ≡ 0x16 → ⊥) → (t ≡ 0x17 → ⊥) → (t ≡ 0x18 → ⊥)
-          → ((e : ℕ) → SelectorAt m e (d - 1) p → Tells m w out fill scope a (λ k c st. evaluate k c st (expressionAt m e p))) → StandsAs m d ExpressionKind p → Said a
-      says-selector l n6 n7 n8 e s =
-          let is = selector-last t (subst IsExpressionTag (sym tag) (expression-tag (byte m p) (s .kind))) l n6 n7 n8 in
-          e d (selector-opens (s .stands) one-more (sym tag ∙ is))
+      pub says-selector : 0x16 ≤ t → (t ≡ 0x16 → ⊥) → (t ≡ 0x17 → ⊥) → (t ≡ 0x18 → ⊥) → ((e : ℕ) → SelectorAt m e (d - 1) p → ToldAt s s′ a e) → StandsAs m d ExpressionKind p → ToldAt s s′ a d
+      says-selector l n6 n7 n8 e stands =
+          let is = selector-last t (subst IsExpressionTag (sym tag) (expression-tag (byte m p) (stands .kind))) l n6 n7 n8 in
+          e d (selector-opens (stands .stands) (one-more some) (sym tag ∙ is))

@@ -6,3 +6,4 @@ pub mod Reading
 pub mod Selectors
 pub mod Expressions
 pub mod Leaves
+pub mod Fresh

@@ -9,14 +9,16 @@ use denote.Enum.Declared.{tagOf}
 use native.Mathlib.Numerals.{sub-one}
 use Rattle.labels.specs.declared.Labels.{Labels}
 use Rattle.labels.specs.Bytes.{setAt}
-use Rattle.labels.specs.Sets.{noLabels, _∪_}
+use Rattle.labels.specs.Sets.{_∪_}
 use Rattle.values.specs.declared.Labelled.{Labelled}
+use Rattle.values.specs.declared.Refusal.{Refusal}
+use Rattle.values.specs.Refusals.{refusalAt}
 use Rattle.values.specs.declared.Reason.the-variants.{NoValue, Unknown, WrongKind, NotInCatalog}
 use Rattle.values.specs.declared.Value.{Value}
 use Rattle.values.specs.declared.Value.the-variants.{String}
 use Rattle.values.proofs.Value.{the-type}
 use Rattle.wire.specs.Bytes.{two}
-use Rattle.rules.specs.Outcome.{Outcome, refused, _>>=_, refuseIf, orRefuse, at, joining}
+use Rattle.rules.specs.Outcome.{Outcome, refused, done, _>>=_, refuseIf, orRefuse, at, plain, joining}
 use Rattle.rules.specs.Arithmetic.{stringIn}
 use Rattle.rules.specs.State.{Scope, Base, DeclaredClass, parentOf, upward, isSome, noCell, Cells, Known, Entry}
 use Rattle.rules.specs.Evaluate.{isType, isClass, orElse, readIn, readAttribute}
@@ -32,8 +34,12 @@ use Rattle.cells.proofs.SlotReads.{content-there, mark-read}
 use Rattle.cells.proofs.Ways.{in-slots, cell-found}
 use Rattle.memory.specs.declared.Above.{Above}
 use Rattle.memory.specs.declared.Above.the-variants.{At, Nothing}
-use Rattle.evaluator.specs.declared.Evaluated.the-variants.{Value as Yields}
-use Rattle.evaluator.specs.Answers.{evaluated}
+use Rattle.evaluator.specs.declared.Evaluated.{Evaluated}
+use Rattle.evaluator.specs.declared.Evaluated.the-variants.{Refused}
+use Rattle.evaluator.specs.declared.Variable.{Variable}
+use Rattle.evaluator.specs.declared.Sought.{Sought}
+use Rattle.evaluator.specs.declared.Sought.the-variants.{Variable as IsVariable, Unknown as UnknownClass}
+use Rattle.evaluator.specs.Answers.{answered, evaluated}
 use Rattle.memory.specs.Names.{scopeAbove}
 use Rattle.catalog.specs.declared.Found.{Found}
 use Rattle.catalog.specs.declared.Found.the-variants.{Content, Nothing as NotFound}
@@ -41,8 +47,8 @@ use Rattle.catalog.specs.Finding.{Written, lookUp, foundIn}
 use Rattle.catalog.proofs.Reading.{read-attribute-is}
 use Rattle.catalog.proofs.Order.{look-in-order}
 use Rattle.catalog_index.specs.Index.{Indexed}
-use Rattle.evaluator.specs.Known.{KnownIn, Ready, classRead, attributeOf}
-use Rattle.evaluator.proofs.Outcomes.{joining-none, joining-both}
+use Rattle.evaluator.specs.Known.{KnownIn, Ready, variableIn, soughtAs, classRead, attributeOf}
+use Rattle.evaluator.proofs.Outcomes.{joining-none, joining-both, value-joined, refusal-joined}
 use Rattle.evaluator.proofs.Operators.{not-string}
 
 pub no-value : (o : Option Labelled) → isSome o ≡ false → o ≡ none
@@ -105,9 +111,6 @@ module _ (p : ℕ) (cells : Cells) (n : ℕ) (classes : ℕ → Option DeclaredC
       unfolding scopeAbove above
       read-on z = rw (sym parent, z) at passed
 
-  pub read-begin : (left : ℕ) (s : Scope) → joining noLabels (reading left s) ≡ reading left s
-  read-begin left s = joining-none (reading left s)
-
 -- the ways of `read_up` at one scope, by the slot that is found
 module _ (w : List ℕ) (p n : ℕ) (b : Base) {whole : Outcome Labelled} (marks : Labels) (left s : ℕ) (so-far : joining marks (reading p (cellsOf w) n (classesOf w) b left (scopeOf s)) ≡ whole) (more : 0 < left) {q : SlotFound} (found : q ≡ slotFor (slotsOf w) s n) where
   abbrev rest : Outcome Labelled
@@ -132,11 +135,12 @@ module _ (w : List ℕ) (p n : ℕ) (b : Base) {whole : Outcome Labelled} (marks
     unfolding orElse
     pass-empty none-there = rw (no-value (valueIn (slotsOf w i)) (sym told ∙ none-there)) at with-mark
 
-    pub read-here : {own k : Labels} {v : Value} → t ≡ true → own ≡ contentIn w i .labels → k ≡ u ∪ own → v ≡ contentIn w i .value → evaluated (Yields (record { value = v; labels = k })) ≡ whole
-    unfolding orElse evaluated joining _>>=_
-    read-here there labels both value = rw (value, both, labels) (rw (content-there w i below (sym told ∙ there)) at with-mark)
+    pub read-here : {own k : Labels} {v : Value} (e : Evaluated) → t ≡ true → own ≡ contentIn w i .labels → k ≡ u ∪ own → v ≡ contentIn w i .value → evaluated e ≡ plain v → answered e k ≡ whole
+    unfolding orElse
+    read-here {k = k} e there labels both value is =
+        value-joined u k e (contentIn w i) (is ∙ ap plain value) (both ∙ ap (λ (l : Labels). u ∪ l) labels) ∙ (rw (content-there w i below (sym told ∙ there)) at with-mark)
 
--- ---- The ways of `read_class`
+-- ---- The ways of `class_variable`
 
 module _ (m w : List ℕ) (p q n : ℕ) {b : Bool} (told : (k : Known) → KnownIn m w k → b ≡ isClass k q) where
   pub class-unknown : {e : Outcome Labelled} → not b ≡ true → e ≡ refused Unknown p → (k : Known) → KnownIn m w k → e ≡ classRead k p (cellsOf w) q n
@@ -148,9 +152,24 @@ module _ (m w : List ℕ) (p q n : ℕ) {b : Bool} (told : (k : Known) → Known
   class-cell base t l r k h =
       r ∙ read-one p (cellsOf w) n (classesOf w) base (scopeOf (2 + q)) ∙ ap (λ (s : Scope). readIn p (cellsOf w) n (s ∷ [])) (class-scope q l) ∙ rw (sym (told k h), t)
 
+  -- the same with the name read at p
+  pub class-sought : {a : ℕ} → n ≡ two m (p + 5) → (base : Base) → not b ≡ false → q < 1024 → a ≡ two m (p + 5) → {e : Outcome Labelled} → e ≡ readIn p (cellsOf w) a (upward 1 (classesOf w) base (scopeOf (2 + q))) → (k : Known) → KnownIn m w k → e ≡ classRead k p (cellsOf w) q n
+  class-sought at base t l name r = class-cell base t l (r ∙ ap (λ (i : ℕ). readIn p (cellsOf w) i (upward 1 (classesOf w) base (scopeOf (2 + q)))) (name ∙ sym at))
+
 pub was-true : (b : Bool) → not b ≡ false → b ≡ true
 was-true true e = refl
 was-true false e = sym e
+
+-- ---- The ways of `variable_read`
+
+module _ (w : List ℕ) (p : ℕ) (k l : Labels) {r : Sought} where
+  pub sought-unknown : {why : Refusal} → r ≡ UnknownClass → why ≡ refusalAt Unknown p → answered (Refused why) l ≡ joining k (soughtAs w p r)
+  unfolding soughtAs
+  sought-unknown is e = rw is (refusal-joined k l e)
+
+  pub sought-read : {v : Variable} (a : Evaluated) → r ≡ IsVariable v → answered a l ≡ joining k (variableIn w p v) → answered a l ≡ joining k (soughtAs w p r)
+  unfolding soughtAs
+  sought-read a is read = rw is read
 
 -- ---- The ways of `attribute_of`
 
@@ -192,8 +211,8 @@ module _ (m w out : List ℕ) (fill p l : ℕ) (x : Value) where
       found-is : (k : Known) (es : List Entry) → Ready m w out fill k es → foundIn (lookUp t s a es) ≡ f
       found-is k es r = sym (found (onto es []) (r .catalog) (r .index) ∙ ap foundIn (look-in-order t s a es (r .unique)))
 
-      pub attribute-there : (y : Labelled) → f ≡ Content y → (k : Known) (es : List Entry) → Ready m w out fill k es → evaluated (Yields y) ≡ attribute k es
-      unfolding evaluated orRefuse
+      pub attribute-there : (y : Labelled) → f ≡ Content y → (k : Known) (es : List Entry) → Ready m w out fill k es → done y ≡ attribute k es
+      unfolding orRefuse
       attribute-there y g k es r = rw (found-some (lookUp t s a es) y (found-is k es r ∙ g)) at (looked k es r)
 
       pub attribute-missing : {e : Outcome Labelled} → f ≡ NotFound → e ≡ refused NotInCatalog p → (k : Known) (es : List Entry) → Ready m w out fill k es → e ≡ attribute k es

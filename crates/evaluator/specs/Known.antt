@@ -7,25 +7,32 @@ use mathlib.Core.List.{List, [], _∷_}
 use mathlib.Core.Option.{Option, none, some}
 use lib.Dec.{eqb}
 use Rattle.labels.specs.declared.Labels.{Labels}
+use Rattle.labels.specs.Words.{labelsIn}
 use Rattle.values.specs.declared.Value.{Value}
 use Rattle.values.specs.declared.Labelled.{Labelled}
 use Rattle.wire.specs.Bytes.{pick, byte}
 use Rattle.values.specs.declared.Reason.the-variants.{Malformed, Unknown}
-use Rattle.rules.specs.Outcome.{Outcome, done, _>>=_, refuseIf, at}
+use Rattle.rules.specs.Outcome.{Outcome, refused, done, _>>=_, refuseIf, at, joining}
 use Rattle.rules.specs.Arithmetic.{stringIn}
 use Rattle.rules.specs.Tree.{Constant, TypeDefinition, ClassDefinition, typeDefinition, classDefinition, definition}
-use Rattle.rules.specs.State.{Entry, State, Context, Known, Cells, classScope}
+use Rattle.rules.specs.State.{Entry, State, Context, Known, Cells, classScope, upward}
 use Rattle.rules.specs.Evaluate.{findType, findClass, isType, isClass, ofConstant, readIn, readAttribute}
 use Rattle.rules.specs.Compile.{onto}
 use Rattle.rules.specs.declared.Kind.the-variants.{Item}
 use Rattle.rules.specs.Once.{UniqueEntries}
 use Rattle.places.specs.At.{itemAt, StandsAs}
-use Rattle.cells.specs.Memory.{definitionOf, builtInOf, stateOf}
+use Rattle.cells.specs.Scopes.{scopeOf}
+use Rattle.cells.specs.Memory.{definitionOf, builtInOf, stateOf, cellsOf, classesOf, baseFor}
 use Rattle.memory.specs.Words.{struckIn}
 use Rattle.memory.specs.declared.Scope.{Scope}
 use Rattle.memory.specs.Contexts.{contextIn}
 use Rattle.catalog.specs.Finding.{Written}
 use Rattle.catalog_index.specs.Index.{Indexed}
+use Rattle.evaluator.specs.declared.Evaluated.{Evaluated}
+use Rattle.evaluator.specs.declared.Variable.{Variable}
+use Rattle.evaluator.specs.declared.Sought.{Sought}
+use Rattle.evaluator.specs.declared.Sought.the-variants.{Variable as IsVariable, Unknown as UnknownClass}
+use Rattle.evaluator.specs.Answers.{answered}
 
 -- what the definition at a place says of its name: none at 0, and else a type or a class, as read there
 pub data DefinedAt (m : List ℕ) (p : ℕ) : Option TypeDefinition → Option ClassDefinition → Type 0 where
@@ -50,6 +57,10 @@ pub record Ready (m w out : List ℕ) (fill : ℕ) (k : Known) (es : List Entry)
 pub record Tells {A : Type 0} (m w out : List ℕ) (fill : ℕ) (scope : Scope) (answer : Outcome A) (run : Known → Context → State → Outcome A) : Type 0 where
   pub says : (k : Known) (path : Labels) (es : List Entry) (n r : ℕ) → Ready m w out fill k es → answer ≡ run k (contextIn scope path) (stateOf w es n r)
 
+-- the same of an answer for which the set s was lent, and became s′: its labels were joined to the set
+pub record TellsJoined (m w out : List ℕ) (fill : ℕ) (scope : Scope) (s s′ : List ℕ) (answer : Evaluated) (run : Known → Context → State → Outcome Labelled) : Type 0 where
+  pub says : (k : Known) (path : Labels) (es : List Entry) (n r : ℕ) → Ready m w out fill k es → answered answer (labelsIn s′) ≡ joining (labelsIn s) (run k (contextIn scope path) (stateOf w es n r))
+
 -- the tag of a name's definition, 0 if there is none
 unfoldable pub definedTag : (m w : List ℕ) → (name : ℕ) → ℕ
 definedTag m w n = pick (eqb (definitionOf w n) 0) 0 (byte m (definitionOf w n))
@@ -59,6 +70,14 @@ definedTag m w n = pick (eqb (definitionOf w n) 0) 0 (byte m (definitionOf w n))
 -- a constant, if the memory w has none struck out or another
 unfoldable pub constantIn : (w : List ℕ) → Constant → Outcome Labelled
 constantIn w v = refuseIf (struckIn w v) Malformed (v .place) >>= λ _. done (ofConstant v)
+
+-- a variable that is sought in the memory w, for a read at p
+unfoldable pub variableIn : (w : List ℕ) → (p : ℕ) → Variable → Outcome Labelled
+variableIn w p v = readIn p (cellsOf w) (v .name) (upward (v .tries) (classesOf w) (baseFor (v .scope .«base_is_node»)) (scopeOf (v .scope .number)))
+
+unfoldable pub soughtAs : (w : List ℕ) → (p : ℕ) → Sought → Outcome Labelled
+soughtAs w p (IsVariable v) = variableIn w p v
+soughtAs w p UnknownClass = refused Unknown p
 
 -- a class variable: its class q, its name n
 unfoldable pub classRead : Known → (place : ℕ) → Cells → (q n : ℕ) → Outcome Labelled

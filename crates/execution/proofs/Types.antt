@@ -27,8 +27,8 @@ use Rattle.cells.proofs.Scopes.{body-scope}
 use Rattle.memory.specs.declared.Scope.{Scope}
 use Rattle.memory.specs.declared.Context.{Context as Here}
 use Rattle.memory.specs.Contexts.{contextIn, contextOf}
-use Rattle.evaluator.specs.declared.Evaluated.{Evaluated}
-use Rattle.evaluator.specs.declared.Evaluated.the-variants.{Value, Refused as NotEvaluated}
+use Rattle.attributes.specs.declared.Title.{Title}
+use Rattle.attributes.specs.declared.Title.the-variants.{Value, Refused as NoTitle}
 use Rattle.statements.specs.Answers.{Keeps}
 use Rattle.attributes.specs.Names.{Alike}
 use Rattle.attributes.specs.Table.{Gives}
@@ -74,12 +74,12 @@ module _ {m : List ℕ} {d p : ℕ} (s : StandsAs m d StatementKind p) (tag : by
       go (refused r q) = refl
       go (done x) = last x (at (p + 5) (stringIn (x .value))) rest
 
-  module _ (levels : ℕ) {w out t : List ℕ} {fill left : ℕ} {scope : Scope} {path : Labels} {e : Evaluated} (told : TitledIn m w out fill scope (d - 1) p t e) where
-    pub defined-refused : {why : Refusal} → e ≡ NotEvaluated why → Executes m w w out out fill left left (contextIn scope path) (Refused why) (λ k. run k (declaration k levels) (statementAt m d p))
+  module _ (levels : ℕ) {w out t : List ℕ} {fill left : ℕ} {scope : Scope} {path : Labels} {e : Title} (told : TitledIn m w out fill scope (d - 1) p t e) where
+    pub defined-refused : {why : Refusal} → e ≡ NoTitle why → Executes m w w out out fill left left (contextIn scope path) (Refused why) (λ k. run k (declaration k levels) (statementAt m d p))
     unfolding _>>=_
     defined-refused {why} is = go (subst (TitledIn m w out fill scope (d - 1) p t) is told)
       where
-        go : TitledIn m w out fill scope (d - 1) p t (NotEvaluated why) → Executes m w w out out fill left left (contextIn scope path) (Refused why) (λ k. run k (declaration k levels) (statementAt m d p))
+        go : TitledIn m w out fill scope (d - 1) p t (NoTitle why) → Executes m w w out out fill left left (contextIn scope path) (Refused why) (λ k. run k (declaration k levels) (statementAt m d p))
         go (notTitled tells) = refuses why (omega arith) (λ k ask es g. defined-runs k (declaration k levels) (contextIn scope path) _ ∙ ap (λ (o : Outcome Titled). o >>= λ x. declaration k levels (ofType p (two m (p + 3)) (x .title) (x .given)) (contextIn scope path) (stateWith w out fill left es)) (sym (tells .says k path es _ _ (g .ready))))
 
     pub defined-declares : {x : Labelled} {left′ : ℕ} {w′ out′ : List ℕ} {a : Filled} → e ≡ Value x

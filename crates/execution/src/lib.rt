@@ -24,12 +24,12 @@ use attributes::SMALL_NAMES;
 use attributes::SMALL_TABLE;
 use attributes::Span;
 use attributes::TABLE;
+use attributes::Title;
 use attributes::evaluate_attributes;
 use declarations::Class;
 use declarations::Request;
 use declarations::Started;
 use declarations::StartedClass;
-use evaluator::Evaluated;
 use labels::Labels;
 use memory::Context;
 use memory::Scope;
@@ -381,8 +381,8 @@ fn gather_type(
     let scope = here.scope;
     let t = attributes::evaluate_titled(m, depth, p, work, out, fill, scope, table);
     match t {
-        Evaluated::Refused(refusal) => Filled::Refused(refusal),
-        Evaluated::Value(x) => declare_type(m, p, table, x, work, out, fill, left, levels, here),
+        Title::Refused(refusal) => Filled::Refused(refusal),
+        Title::Value(x) => declare_type(m, p, table, x, work, out, fill, left, levels, here),
     }
 }
 

@@ -10,7 +10,7 @@ use lib.ListN.{length, getD, set, length-set}
 use lib.Pow.{shl-exact}
 use Rattle.labels.specs.Sets.{bitOf, oneLabel, _∪_}
 use Rattle.labels.proofs.Laws.{one-of}
-use Rattle.patterns.specs.Words.{labelsIn, JoinsLabel}
+use Rattle.labels.specs.Words.{labelsIn, Joins}
 
 -- word i with the bit of l
 abbrev joined : List ℕ → (i l : ℕ) → ℕ
@@ -40,11 +40,11 @@ words-joined (a ∷ b ∷ c ∷ []) l size small = absurd (omega arith)
 words-joined (a ∷ b ∷ c ∷ d ∷ e ∷ f) l size small = absurd (omega arith)
 
 -- the way of `join_label`
-pub label-joined : (s : List ℕ) (l : ℕ) → length s ≡ 4 → l < 256 → JoinsLabel s (set s (l / 64) (bitOr (getD s (l / 64) 0) (1 * 2 ^ (l % 64) % 2 ^ 64))) l
+pub label-joined : (s : List ℕ) (l : ℕ) → length s ≡ 4 → l < 256 → Joins s (set s (l / 64) (bitOr (getD s (l / 64) 0) (1 * 2 ^ (l % 64) % 2 ^ 64))) (oneLabel l)
 unfolding bitOf
 label-joined s l size small =
     let bit : 1 * 2 ^ (l % 64) % 2 ^ 64 ≡ bitOf l = shl-exact 1 (l % 64) 64 (lit< tt) (omega (arith, mod-lt l (zero-lt-suc 63))) ∙ omega arith in
     record {
-      size = length-set s (l / 64) _;
+      size = length-set s (l / 64) _ ∙ size;
       labels = ap (λ (b : ℕ). labelsIn (set s (l / 64) (bitOr (getD s (l / 64) 0) b))) bit ∙ words-joined s l size small;
     }

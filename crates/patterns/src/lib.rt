@@ -2,15 +2,15 @@
 ghost use mathlib.Core.Path.{_≡_};
 ghost use Prim.Native.Nat.{_≤_, _<_};
 ghost use lib.ListN.{length};
+ghost use Rattle.labels.specs.Sets.{oneLabel};
+ghost use Rattle.labels.specs.Words.{Joins};
 ghost use Rattle.wire.specs.Bytes.{byte, fieldsIn};
 ghost use Rattle.rules.specs.Arithmetic.{sameValue};
 ghost use Rattle.rules.specs.Patterns.{tried};
 ghost use Rattle.places.specs.At.{constantAt};
 ghost use Rattle.patterns.specs.declared.Choice.the-variants.{At};
-ghost use Rattle.patterns.specs.Words.{labelsIn, JoinsLabel};
 ghost use Rattle.patterns.specs.Tried.{patternsAt, kept, Matches};
 ghost use Rattle.patterns.specs.Struck.{firstStruck, Near};
-use labels::Labels;
 use values::Value;
 
 // The place of what follows from the pattern chosen.
@@ -19,31 +19,13 @@ pub enum Choice {
     Nothing,
 }
 
-// What the patterns tried tell.
-pub struct Matched {
-    pub at: Choice,
-    pub labels: Labels,
-}
-
-// Adds a label to a set that is kept in four words.
+// Joins a label to a set in four words.
 fn join_label(set: &mut [u64; 4], label: u8)
     requires { ⌜ length (now set) ≡ 4 ⌝ }
-    ensures { λ _. ⌜ JoinsLabel (now (set .entry)) (now (set .exit)) label ⌝ }
+    ensures { λ _. ⌜ Joins (now (set .entry)) (now (set .exit)) (oneLabel label) ⌝ }
 {
     let i = (label / 64) as usize;
     set[i] = set[i] | (1u64 << (label % 64));
-}
-
-// The set in four words.
-fn labels_of(set: &[u64; 4]) -> Labels
-    ensures { λ r. ⌜ r ≡ labelsIn (now (set .entry)) ⌝ }
-{
-    Labels {
-        w0: set[0],
-        w1: set[1],
-        w2: set[2],
-        w3: set[3],
-    }
 }
 
 // Whether the constant at p, whose tag is known, has the value x, compared in place.
@@ -87,12 +69,11 @@ fn first_default(met: Choice, follows: usize) -> Choice
     }
 }
 
-// The first constant among the patterns of the fields from `from` to `end` that equals x, also behind a default, or else the first default, and the labels of the constants tried. The rule of which one is chosen stands here alone.
-pub fn try_patterns(m: &[u8], from: usize, end: usize, x: Value) -> Matched
-    requires { ⌜ end ≤ 65535 ⌝ }
-    ensures { λ r. ⌜ Matches (now (m .entry)) from end x r ⌝ }
+// The first constant among the patterns of the fields from `from` to `end` that equals x, also behind a default, or else the first default; the labels of the constants tried join the set lent. The rule of which one is chosen stands here alone.
+pub fn try_patterns(m: &[u8], from: usize, end: usize, x: Value, set: &mut [u64; 4]) -> Choice
+    requires { ⌜ (end ≤ 65535) × (length (now set) ≡ 4) ⌝ }
+    ensures { λ r. ⌜ Matches (now (m .entry)) from end x (now (set .entry)) (now (set .exit)) r ⌝ }
 {
-    let mut tried = [0u64; 4];
     let mut default = Choice::Nothing;
     let mut q = from;
     while q < end {
@@ -103,19 +84,13 @@ pub fn try_patterns(m: &[u8], from: usize, end: usize, x: Value) -> Matched
             q = wire::end_of(m, q);
             continue;
         }
-        join_label(&mut tried, wire::byte_at(m, pattern + 3));
+        join_label(set, wire::byte_at(m, pattern + 3));
         if equals_constant(m, tag, pattern, x) {
-            return Matched {
-                at: Choice::At(wire::end_of(m, pattern)),
-                labels: labels_of(&tried),
-            };
+            return Choice::At(wire::end_of(m, pattern));
         }
         q = wire::end_of(m, q);
     }
-    Matched {
-        at: default,
-        labels: labels_of(&tried),
-    }
+    default
 }
 
 // The first constant struck out among the patterns that are tried on x, of the fields from `from` to `end`. In a compile none is.

@@ -37,11 +37,9 @@ use Rattle.memory.specs.Contexts.{contextOf}
 use Rattle.memory.specs.Words.{wordOf, WordSet, askedType, askedTitle, askedName, askedLabel, noteWord}
 use Rattle.catalog.specs.declared.Place.{Place}
 use Rattle.catalog.specs.declared.Place.the-variants.{At, Nothing}
-use Rattle.evaluator.specs.declared.Evaluated.{Evaluated}
-use Rattle.evaluator.specs.declared.Evaluated.the-variants.{Value as Yields, Refused}
-use Rattle.evaluator.specs.Answers.{refusedBy, evaluated}
+use Rattle.evaluator.specs.Answers.{refusedBy}
 use Rattle.evaluator.specs.Known.{Ready, Tells}
-use Rattle.evaluator.proofs.Expressions.{Small, operand-told}
+use Rattle.evaluator.proofs.Expressions.{Small, operand-at}
 use Rattle.attributes.specs.Names.{hasName, namedIn}
 use Rattle.resources.specs.Entries.{titledRun}
 use Rattle.resources.proofs.Whole.{resource-run}
@@ -151,22 +149,20 @@ other-entry q e es unlike = when-false (eqb (suc (e .type)) (q .type) && eqb (e 
 
 -- ---- The ways of `attribute_part`
 
-module _ (m w out : List ℕ) (fill : ℕ) (here : Here) (d q : ℕ) (set : Labels) (short : length m ≤ 65535) {a : ℕ} (small : Small a (q + 5)) (e : Evaluated) (told : StandsAs m d ExpressionKind a → Tells m w out fill (here .scope) (evaluated e) (λ k c st. evaluate k c st (expressionAt m d a))) where
-  value-told : StandsAs m d ExpressionKind (q + 5) → (k : Known) (es : List Entry) (n r : ℕ) → Ready m w out fill k es → evaluated e ≡ evaluate k (contextOf here) (stateOf w es n r) (expressionAt m d (q + 5))
-  value-told s k es n r h = operand-told m w out fill (here .scope) d (q + 5) short s small told .says k (here .path) es n r h
+module _ (m w out : List ℕ) (fill : ℕ) (here : Here) (d q : ℕ) (set : Labels) (short : length m ≤ 65535) {a : ℕ} (small : Small a (q + 5)) {e : Outcome Labelled} (told : StandsAs m d ExpressionKind a → Tells m w out fill (here .scope) e (λ k c st. evaluate k c st (expressionAt m d a))) where
+  value-told : StandsAs m d ExpressionKind (q + 5) → (k : Known) (es : List Entry) (n r : ℕ) → Ready m w out fill k es → e ≡ evaluate k (contextOf here) (stateOf w es n r) (expressionAt m d (q + 5))
+  value-told s k es n r h = operand-at (λ l. Tells m w out fill (here .scope) e (λ k c st. evaluate k c st (expressionAt m d l))) short s small told .says k (here .path) es n r h
 
   -- an expression that is refused gives nothing
-  pub part-refused : {why : Refusal} (part : ℕ) → e ≡ Refused why → NotesAttribute m w out fill here d q set part
-  unfolding evaluated
-  part-refused part is = record { says = λ s k es n r h x got. absurd (refused-done (ap evaluated (sym is) ∙ value-told s k es n r h ∙ got)) }
+  pub part-refused : {why : Refusal} (part : ℕ) → e ≡ refusedBy why → NotesAttribute m w out fill here d q set part
+  part-refused part is = record { says = λ s k es n r h x got. absurd (refused-done (sym is ∙ value-told s k es n r h ∙ got)) }
 
-  pub part-found : (x : Labelled) {marks trail : Labels} {label part : ℕ} → e ≡ Yields x → (StandsAs m d ExpressionKind a → MarksAt m w out fill (here .scope) d a marks) → label ≡ askedOf w .label → trail ≡ trailOf w
+  pub part-found : (x : Labelled) {marks trail : Labels} {label part : ℕ} → e ≡ done x → (StandsAs m d ExpressionKind a → MarksAt m w out fill (here .scope) d a marks) → label ≡ askedOf w .label → trail ≡ trailOf w
       → part ≡ heldPart (record { title = set; path = here .path; trail = trail; marks = marks; value = x .labels }) label → NotesAttribute m w out fill here d q set part
-  unfolding evaluated
   part-found x {marks} {trail} {label} is read asked trail-is held = record {
     says = λ s k es n r h y got.
         let marked : marks ≡ marksRead k (contextOf here) (stateOf w es n r) (expressionAt m d (q + 5)) = operand-marks m w out fill (here .scope) d (q + 5) short s small read .says k (here .path) es n r h in
-        let value : x ≡ y = done-same (ap evaluated (sym is) ∙ value-told s k es n r h ∙ got) in
+        let value : x ≡ y = done-same (sym is ∙ value-told s k es n r h ∙ got) in
         held ∙ (λ i. heldPart (record { title = set; path = here .path; trail = trail-is i; marks = marked i; value = value i .labels }) (asked i));
   }
 
@@ -252,18 +248,18 @@ module _ (m w out : List ℕ) (fill : ℕ) (here : Here) (d p : ℕ) where
   pub resource-flat : d < 2 → NotesRun m w out fill here d p Kept
   resource-flat flat = record { says = λ s by k declare es n r h. absurd (omega (arith, level s, level (resource-opens s (level s) by .title .stands))) }
 
-  module _ {b : ℕ} (deep : d ≡ suc b) (short : length m ≤ 65535) {q : ℕ} (small : Small q (p + 5)) (e : Evaluated) (told : StandsAs m b ExpressionKind q → Tells m w out fill (here .scope) (evaluated e) (λ k c st. evaluate k c st (expressionAt m b q))) where
+  module _ {b : ℕ} (deep : d ≡ suc b) (short : length m ≤ 65535) {q : ℕ} (small : Small q (p + 5)) {e : Outcome Labelled} (told : StandsAs m b ExpressionKind q → Tells m w out fill (here .scope) e (λ k c st. evaluate k c st (expressionAt m b q))) where
     -- the run of the statement, from its title on
-    run-titled : {v : Evaluated} → e ≡ v → Stands m d p → byte m p ≡ 0x25 → (k : Known) (declare : Declare) (es : List Entry) (n r : ℕ) → Ready m w out fill k es
-        → (evaluated v >>= λ x. titledRun m b p x k (contextOf here) (stateOf w es n r)) ≡ run k declare (statementAt m d p) (contextOf here) (stateOf w es n r)
-    run-titled is s by k declare es n r h = rw is at (resource-run m w out fill r here d p true deep short small e told s by k declare es n h)
+    run-titled : {v : Outcome Labelled} → e ≡ v → Stands m d p → byte m p ≡ 0x25 → (k : Known) (declare : Declare) (es : List Entry) (n r : ℕ) → Ready m w out fill k es
+        → (v >>= λ x. titledRun m b p x k (contextOf here) (stateOf w es n r)) ≡ run k declare (statementAt m d p) (contextOf here) (stateOf w es n r)
+    run-titled is s by k declare es n r h = rw is at (resource-run m w out fill r here d p true deep short small told s by k declare es n h)
 
-    pub title-refused : {why : Refusal} → e ≡ Refused why → NotesRun m w out fill here d p Kept
-    unfolding evaluated _>>=_
+    pub title-refused : {why : Refusal} → e ≡ refusedBy why → NotesRun m w out fill here d p Kept
+    unfolding _>>=_
     title-refused is = record { says = λ s by k declare es n r h. record { says = λ type x n′ r′ ends. absurd (refused-done (run-titled is s by k declare es n r h ∙ ends)) } }
 
-    pub title-noted : (x : Labelled) {inner : ℕ} {note : Note} → e ≡ Yields x → b ≡ suc inner → NotesTitled m w out fill here inner p x note → NotesRun m w out fill here d p note
-    unfolding evaluated _>>=_
+    pub title-noted : (x : Labelled) {inner : ℕ} {note : Note} → e ≡ done x → b ≡ suc inner → NotesTitled m w out fill here inner p x note → NotesRun m w out fill here d p note
+    unfolding _>>=_
     title-noted x {inner} {note} is above notes = record {
       says = λ s by k declare es n r h.
           let o = resource-opens s deep by in

@@ -8,6 +8,7 @@ use borrow.Author.Tests.{eqb-true, eqb-false}
 use lib.Dec.{eqb}
 use lib.ListN.{length}
 use Rattle.values.specs.declared.Value.the-variants.{Boolean}
+use Rattle.values.specs.declared.Value.{Value}
 use Rattle.values.specs.declared.Labelled.{Labelled}
 use Rattle.values.specs.declared.Refusal.{Refusal}
 use Rattle.wire.specs.Bytes.{byte}
@@ -20,23 +21,27 @@ use Rattle.rules.specs.declared.Kind.the-variants.{Expression as ExpressionKind
 use Rattle.places.specs.At.{expressionAt, StandsAs}
 use Rattle.places.specs.Parts.{OperationAt}
 use Rattle.memory.specs.declared.Scope.{Scope}
+use Rattle.labels.specs.declared.Labels.{Labels}
 use Rattle.evaluator.specs.declared.Evaluated.{Evaluated}
-use Rattle.evaluator.specs.declared.Evaluated.the-variants.{Value as Yields, Refused}
-use Rattle.evaluator.specs.Answers.{evaluated}
+use Rattle.evaluator.specs.declared.Valued.{Valued}
+use Rattle.evaluator.specs.declared.Valued.the-variants.{Value as IsValue, Refused}
+use Rattle.evaluator.specs.Answers.{answered, valuedAs}
+use Rattle.evaluator.proofs.Outcomes.{value-answered, refusal-answered}
 use Rattle.evaluator.specs.Known.{Tells}
-use Rattle.evaluator.proofs.Expressions.{Small, operand-told}
+use Rattle.evaluator.proofs.Expressions.{Small, operand-at}
 use Rattle.evaluator.proofs.Operators.{operator-and, operator-or}
 use Rattle.provenance.specs.Given.{Gives}
 
 -- ---- The ways of `is_boolean`
 
-pub boolean-refused : (b : Bool) (e : Evaluated) {why : Refusal} → e ≡ Refused why → false ≡ isBoolean b (evaluated e)
-unfolding isBoolean evaluated
-boolean-refused b e is = rw is
+module _ (b : Bool) (e : Evaluated) {u : Valued} (apart : u ≡ valuedAs e) where
+  pub boolean-refused : {why : Refusal} → u ≡ Refused why → (k : Labels) → false ≡ isBoolean b (answered e k)
+  unfolding isBoolean
+  boolean-refused is k = rw (refusal-answered e apart is k)
 
-pub boolean-compared : (b : Bool) (e : Evaluated) {x : Labelled} {r : Bool} → e ≡ Yields x → r ≡ sameValue (Boolean b) (x .value) → r ≡ isBoolean b (evaluated e)
-unfolding isBoolean evaluated
-boolean-compared b e is same = rw is same
+  pub boolean-compared : {x : Value} {r : Bool} → u ≡ IsValue x → r ≡ sameValue (Boolean b) x → (k : Labels) → r ≡ isBoolean b (answered e k)
+  unfolding isBoolean
+  boolean-compared is same k = rw (value-answered e apart is k) same
 
 -- ---- Operator bytes
 
@@ -69,9 +74,9 @@ module _ (m w out : List ℕ) (fill : ℕ) (scope : Scope) {d b p : ℕ} (o : Op
   pub never-skips : op < 5 → Skips false
   never-skips l = record { says = λ k path es n r h. skips-low (byte m (p + 3)) _ (omega (arith, byte-is)) }
 
-  pub skips-by-left : {q : ℕ} (a : Evaluated) {s : Bool} → length m ≤ 65535 → 5 ≤ op → Small q (p + 4)
-      → (StandsAs m b ExpressionKind q → Tells m w out fill scope (evaluated a) (λ k c st. evaluate k c st (expressionAt m b q)))
-      → s ≡ isBoolean (not (eqb op 5)) (evaluated a) → Skips s
-  skips-by-left {q} a short l small told e =
-      let t = operand-told m w out fill scope b (p + 4) short (o .left) small told in
+  pub skips-by-left : {q : ℕ} {a : Outcome Labelled} {s : Bool} → length m ≤ 65535 → 5 ≤ op → Small q (p + 4)
+      → (StandsAs m b ExpressionKind q → Tells m w out fill scope a (λ k c st. evaluate k c st (expressionAt m b q)))
+      → s ≡ isBoolean (not (eqb op 5)) a → Skips s
+  skips-by-left {a = a} short l small told e =
+      let t = operand-at (λ n. Tells m w out fill scope a (λ k c st. evaluate k c st (expressionAt m b n))) short (o .left) small told in
       record { says = λ k path es n r h. e ∙ (λ i. isBoolean (not (eqb (byte-is i) 5)) (t .says k path es n r h i)) ∙ skips-high (byte m (p + 3)) _ (omega (arith, byte-is)) }

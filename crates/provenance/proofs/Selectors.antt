@@ -22,17 +22,14 @@ use Rattle.places.specs.At.{constantAt, expressionAt, armAt, armsAt, StandsAs, 
 use Rattle.places.specs.Parts.{SelectorAt}
 use Rattle.patterns.specs.declared.Choice.{Choice}
 use Rattle.patterns.specs.declared.Choice.the-variants.{At, Nothing}
-use Rattle.patterns.specs.declared.Matched.{Matched}
 use Rattle.patterns.specs.Tried.{patternsAt, Matches}
 use Rattle.patterns.proofs.Follows.{mapped-first}
 use Rattle.cells.specs.Memory.{stateOf}
 use Rattle.memory.specs.declared.Scope.{Scope}
 use Rattle.memory.specs.Contexts.{contextIn}
-use Rattle.evaluator.specs.declared.Evaluated.{Evaluated}
-use Rattle.evaluator.specs.declared.Evaluated.the-variants.{Value as Yields, Refused}
-use Rattle.evaluator.specs.Answers.{evaluated}
+use Rattle.evaluator.specs.Answers.{refusedBy}
 use Rattle.evaluator.specs.Known.{Tells}
-use Rattle.evaluator.proofs.Expressions.{Small, operand-told}
+use Rattle.evaluator.proofs.Expressions.{Small, operand-at}
 use Rattle.evaluator.proofs.Selectors.{armStands, arm-stands, siblings-within}
 use Rattle.provenance.specs.Given.{Gives}
 use Rattle.provenance.proofs.Expressions.{MarksAt, operand-marks}
@@ -54,7 +51,7 @@ module _ (m : List ℕ) (d : ℕ) (k : Known) (c : Context) (st : State) where
       let after : Arms = armsAt m d qs in
       mapped-first (armMarks k c st) (marksFor m (d - 1) k c st) m q qs (defaultArm e after) (arm (constantAt m (q + 3)) e after) (ap (defaultPattern (marksRead k c st e)) (arms-at qs)) (ap (constantPattern (constantAt m (q + 3)) (marksRead k c st e)) (arms-at qs))
 
-  chosen-at : {first end : ℕ} {x : Value} {r : Matched} → Matches m first end x r → marksFor m (d - 1) k c st (r .at) ≡ chosen (armMarks k c st (armsAt m d (fieldsIn m first end))) x noLabels
+  chosen-at : {first end : ℕ} {x : Value} {s s′ : List ℕ} {r : Choice} → Matches m first end x s s′ r → marksFor m (d - 1) k c st r ≡ chosen (armMarks k c st (armsAt m d (fieldsIn m first end))) x noLabels
   unfolding marksFor
   chosen-at {first} {end} {x} i =
       let f = marksFor m (d - 1) k c st in
@@ -63,19 +60,19 @@ module _ (m : List ℕ) (d : ℕ) (k : Known) (c : Context) (st : State) where
 
 -- ---- The ways of `chosen_marks`
 
-module _ (m w out : List ℕ) (fill : ℕ) (scope : Scope) (d first end : ℕ) (x : Value) {r : Matched} (i : Matches m first end x r) where
+module _ (m w out : List ℕ) (fill : ℕ) (scope : Scope) (d first end : ℕ) (x : Value) {s s′ : List ℕ} {r : Choice} (i : Matches m first end x s s′ r) where
   abbrev Chosen : Labels → Type 0
   Chosen a = Gives m w out fill scope a (λ k c st. chosen (armMarks k c st (armsAt m d (fieldsIn m first end))) x noLabels)
 
-  pub chooses-none : r .at ≡ Nothing → Chosen noLabels
+  pub chooses-none : r ≡ Nothing → Chosen noLabels
   unfolding marksFor
   chooses-none is = record { says = λ k path es n v h. ap (marksFor m (d - 1) k (contextIn scope path) (stateOf w es n v)) (sym is) ∙ chosen-at m d k (contextIn scope path) (stateOf w es n v) i }
 
-  pub chooses-one : {b q j : ℕ} {a : Labels} → d ≡ suc b → length m ≤ 65535 → Siblings m d Arm first end → r .at ≡ At q → Small j q → (StandsAs m b ExpressionKind j → MarksAt m w out fill scope b j a) → Chosen a
+  pub chooses-one : {b q j : ℕ} {a : Labels} → d ≡ suc b → length m ≤ 65535 → Siblings m d Arm first end → r ≡ At q → Small j q → (StandsAs m b ExpressionKind j → MarksAt m w out fill scope b j a) → Chosen a
   unfolding marksFor armStands
-  chooses-one {b} {q} above short s is small told =
+  chooses-one {b} {q} above short arms is small told =
       let below : d - 1 ≡ b = omega arith in
-      let stands : StandsAs m b ExpressionKind q = rw below at (subst (armStands m (d - 1)) is (arm-stands s i)) in
+      let stands : StandsAs m b ExpressionKind q = rw below at (subst (armStands m (d - 1)) is (arm-stands arms i)) in
       let t = operand-marks m w out fill scope b q short stands small told in
       record {
         says = λ k path es n v h.
@@ -105,27 +102,27 @@ module _ (m w out : List ℕ) (fill : ℕ) (scope : Scope) {d b p : ℕ} (o : Se
       go (refused r q) = refl
       go (done x) = refl
 
-  module _ {q : ℕ} {s : Labels} (a : Evaluated) (small : Small q (p + 3)) (read : StandsAs m b ExpressionKind q → MarksAt m w out fill scope b q s) (told : StandsAs m b ExpressionKind q → Tells m w out fill scope (evaluated a) (λ k c st. evaluate k c st (expressionAt m b q))) where
+  module _ {q : ℕ} {s : Labels} {a : Outcome Labelled} (small : Small q (p + 3)) (read : StandsAs m b ExpressionKind q → MarksAt m w out fill scope b q s) (told : StandsAs m b ExpressionKind q → Tells m w out fill scope a (λ k c st. evaluate k c st (expressionAt m b q))) where
     -- the scrutinee's marks, and those that follow
-    then-marks : {z : Labels} → Gives m w out fill scope z (λ k c st. s ∪ afterScrutinee (evaluated a) (chosenHere k c st)) → MarksAt m w out fill scope d p z
+    then-marks : {z : Labels} → Gives m w out fill scope z (λ k c st. s ∪ afterScrutinee a (chosenHere k c st)) → MarksAt m w out fill scope d p z
     then-marks t =
         let marks = operand-marks m w out fill scope b (p + 3) short (o .scrutinee) small read in
-        let value = operand-told m w out fill scope b (p + 3) short (o .scrutinee) small told in
+        let value = operand-at (λ n. Tells m w out fill scope a (λ k c st. evaluate k c st (expressionAt m b n))) short (o .scrutinee) small told in
         record {
           says = λ k path es n v h.
               let c = contextIn scope path in
               let st = stateOf w es n v in
-              t .says k path es n v h ∙ ap (λ (u : Labels). u ∪ afterScrutinee (evaluated a) (chosenHere k c st)) (marks .says k path es n v h) ∙ selector-means k c st (value .says k path es n v h);
+              t .says k path es n v h ∙ ap (λ (u : Labels). u ∪ afterScrutinee a (chosenHere k c st)) (marks .says k path es n v h) ∙ selector-means k c st (value .says k path es n v h);
         }
 
-    pub scrutinee-refused : {why : Refusal} → a ≡ Refused why → MarksAt m w out fill scope d p s
-    unfolding evaluated afterScrutinee
+    pub scrutinee-refused : {why : Refusal} → a ≡ refusedBy why → MarksAt m w out fill scope d p s
+    unfolding afterScrutinee
     scrutinee-refused is = then-marks (record { says = λ k path es n v h. rw is (sym (union-none-after s)) })
 
-    pub arm-read : (x : Labelled) {f e u : ℕ} {y z : Labels} → (b ≡ 0 → ⊥) → a ≡ Yields x → f ≡ endOf m (p + 3) → e ≡ endOf m p → Small u e
+    pub arm-read : (x : Labelled) {f e u : ℕ} {y z : Labels} → (b ≡ 0 → ⊥) → a ≡ done x → f ≡ endOf m (p + 3) → e ≡ endOf m p → Small u e
         → ((n : ℕ) → n ≡ suc (b - 1) → Siblings m n Arm f u → Gives m w out fill scope y (λ k c st. chosen (armMarks k c st (armsAt m n (fieldsIn m f u))) (x .value) noLabels)) → z ≡ s ∪ y
         → MarksAt m w out fill scope d p z
-    unfolding evaluated afterScrutinee
+    unfolding afterScrutinee
     arm-read x {f} {e} {u} {y} deep is first-is end-is near arms joined =
         let same : u ≡ endOf m p = near .1 (omega (arith, siblings-within (o .arms) (o .some))) ∙ end-is in
         let here : Gives m w out fill scope y (λ k c st. chosenHere k c st (x .value)) =

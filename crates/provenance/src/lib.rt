@@ -3,6 +3,7 @@ ghost use mathlib.Core.Path.{_≡_};
 ghost use mathlib.Core.List.{List, [], _∷_};
 ghost use Prim.Native.Nat.{ℕ, suc, _+_, _≤_, _<_};
 ghost use lib.ListN.{length};
+ghost use Rattle.labels.specs.declared.Labels.{Labels};
 ghost use Rattle.labels.specs.Sets.{noLabels};
 ghost use Rattle.wire.specs.Bytes.{byte, fieldsIn};
 ghost use Rattle.rules.specs.Patterns.{chosen};
@@ -14,13 +15,15 @@ ghost use Rattle.places.specs.At.{expressionAt, armsAt, StandsAs, Siblings};
 ghost use Rattle.places.specs.Parts.{OperationAt, SelectorAt};
 ghost use Rattle.cells.specs.Scopes.{scopeOf};
 ghost use Rattle.cells.specs.Memory.{cellsOf, classesOf, baseFor};
-ghost use Rattle.evaluator.specs.Answers.{evaluated};
+ghost use Rattle.evaluator.specs.Answers.{answered};
 ghost use Rattle.evaluator.specs.Known.{Sized};
 ghost use Rattle.provenance.specs.Parts.{heldPart};
 ghost use Rattle.provenance.specs.Given.{Gives};
 ghost use Rattle.provenance.specs.Notes.{askedOf, NotesAttribute, NotesTitled, NotesRun, NotesResource};
 use catalog::Place;
 use evaluator::Evaluated;
+use evaluator::Valued;
+use evaluator::value_of;
 use labels::Labels;
 use memory::Context;
 use memory::Scope;
@@ -134,14 +137,11 @@ fn variable_marks(m: &[u8], p: usize, work: &[u8], scope: Scope) -> Labels
 // ---- Operands that are skipped
 
 fn is_boolean(b: bool, e: Evaluated) -> bool
-    ensures { λ r. ⌜ r ≡ isBoolean b (evaluated e) ⌝ }
+    ensures { λ r. ⌜ ((k : Labels) → r ≡ isBoolean b (answered e k)) ⌝ }
 {
-    match e {
-        Evaluated::Refused(_) => false,
-        Evaluated::Value(x) => {
-            let value = x.value;
-            values::same_value(Value::Boolean(b), value)
-        }
+    match value_of(e) {
+        Valued::Refused(_) => false,
+        Valued::Value(value) => values::same_value(Value::Boolean(b), value),
     }
 }
 
@@ -162,7 +162,8 @@ fn skips_right(
     if op < 5 {
         return false;
     }
-    let a = evaluator::evaluate(m, below, place(p + 4), work, out, fill, scope);
+    let mut set = [0u64; 4];
+    let a = evaluator::evaluate(m, below, place(p + 4), work, out, fill, scope, &mut set);
     is_boolean(op != 5, a)
 }
 
@@ -204,8 +205,8 @@ fn chosen_marks(
     requires { ⌜ Sized (now m) (now work) (now out) fill end ⌝ }
     ensures { λ r. ⌜ ((d : ℕ) → d ≡ suc inner → Siblings (now (m .entry)) d Arm first end → Gives (now (m .entry)) (now (work .entry)) (now (out .entry)) fill scope r (λ k c st. chosen (armMarks k c st (armsAt (now (m .entry)) d (fieldsIn (now (m .entry)) first end))) x noLabels)) ⌝ }
 {
-    let matched = patterns::try_patterns(m, first, end, x);
-    let at = matched.at;
+    let mut tried = [0u64; 4];
+    let at = patterns::try_patterns(m, first, end, x, &mut tried);
     match at {
         Choice::Nothing => Labels::EMPTY,
         Choice::At(q) => marks_read(m, inner, place(q), work, out, fill, scope),
@@ -229,11 +230,11 @@ fn selector_marks(
     }
     let scrutinee = place(p + 3);
     let marks = marks_read(m, below, scrutinee, work, out, fill, scope);
-    let a = evaluator::evaluate(m, below, scrutinee, work, out, fill, scope);
-    match a {
-        Evaluated::Refused(_) => marks,
-        Evaluated::Value(x) => {
-            let value = x.value;
+    let mut set = [0u64; 4];
+    let a = evaluator::evaluate(m, below, scrutinee, work, out, fill, scope, &mut set);
+    match value_of(a) {
+        Valued::Refused(_) => marks,
+        Valued::Value(value) => {
             let first = wire::end_of(m, p + 3);
             let end = place(wire::end_of(m, p));
             let chosen = chosen_marks(m, below - 1, first, end, value, work, out, fill, scope);
@@ -300,12 +301,13 @@ fn attribute_part(
 {
     let scope = here.scope;
     let at = place(q + 5);
-    let e = evaluator::evaluate(m, inner, at, work, out, fill, scope);
-    match e {
-        Evaluated::Refused(_) => NO_PART,
-        Evaluated::Value(x) => {
+    let mut own = [0u64; 4];
+    let e = evaluator::evaluate(m, inner, at, work, out, fill, scope, &mut own);
+    match value_of(e) {
+        Valued::Refused(_) => NO_PART,
+        Valued::Value(_) => {
             let path = here.path;
-            let value = x.labels;
+            let value = Labels::in_words(&own);
             let marks = marks_read(m, inner, at, work, out, fill, scope);
             let label = asked_label(work);
             part_held(set, path, memory::trail(work), marks, value, label)
@@ -364,10 +366,15 @@ fn resource_note(
         return Note::Kept;
     }
     let scope = here.scope;
-    let t = evaluator::evaluate(m, depth - 1, place(p + 5), work, out, fill, scope);
-    match t {
-        Evaluated::Refused(_) => Note::Kept,
-        Evaluated::Value(x) => titled_note(m, depth - 2, p, x, work, out, fill, here),
+    let mut set = [0u64; 4];
+    let t = evaluator::evaluate(m, depth - 1, place(p + 5), work, out, fill, scope, &mut set);
+    match value_of(t) {
+        Valued::Refused(_) => Note::Kept,
+        Valued::Value(value) => {
+            let labels = Labels::in_words(&set);
+            let x = Labelled { value, labels };
+            titled_note(m, depth - 2, p, x, work, out, fill, here)
+        }
     }
 }
 

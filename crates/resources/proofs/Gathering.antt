@@ -16,7 +16,7 @@ use Rattle.values.specs.declared.Refusal.{Refusal}
 use Rattle.wire.specs.Bytes.{pick, two, endOf}
 use Rattle.wire.specs.Runs.{over}
 use Rattle.wire.proofs.Laws.{over-length}
-use Rattle.rules.specs.Outcome.{Outcome, under}
+use Rattle.rules.specs.Outcome.{Outcome, done, under}
 use Rattle.rules.specs.State.{Attribute, Entry, State, Context, Known}
 use Rattle.rules.specs.Evaluate.{evaluate}
 use Rattle.rules.specs.Catalog.{attributeBytes}
@@ -30,11 +30,9 @@ use Rattle.catalog.specs.Making.{stored, attribute, addAttribute, Holding}
 use Rattle.catalog.proofs.Growing.{holding-none, holding-more, attribute-grown, front-kept, rest-back, written-kept}
 use Rattle.catalog.proofs.Stores.{part-lent, part-back}
 use Rattle.memory.specs.declared.Scope.{Scope}
-use Rattle.evaluator.specs.declared.Evaluated.{Evaluated}
-use Rattle.evaluator.specs.declared.Evaluated.the-variants.{Value as Yields, Refused as NotEvaluated}
-use Rattle.evaluator.specs.Answers.{evaluated}
+use Rattle.evaluator.specs.Answers.{refusedBy}
 use Rattle.evaluator.specs.Known.{Ready, Tells, Sized}
-use Rattle.evaluator.proofs.Expressions.{Small, operand-told}
+use Rattle.evaluator.proofs.Expressions.{Small, operand-at}
 use Rattle.attributes.proofs.Evaluating.{Rest, rest-begins, rest-on, rest-stops, rest-ends}
 use Rattle.resources.specs.declared.Filled.{Filled}
 use Rattle.resources.specs.declared.Filled.the-variants.{Done, Refused}
@@ -70,17 +68,15 @@ appended out fill size name x outer own {u} {v} {n} {rest′} within e f g small
 
 -- ---- The ways of `add_attribute`
 
-module _ (m w out : List ℕ) (fill size : ℕ) (scope : Scope) (d q : ℕ) (outer own : Labels) (short : length m ≤ 65535) {t : ℕ} (small : Small t (q + 5)) (e : Evaluated) (told : StandsAs m d ExpressionKind t → Tells m w out fill scope (evaluated e) (λ k c st. evaluate k c st (expressionAt m d t))) where
-  told-there : {o : Outcome Labelled} → evaluated e ≡ o → StandsAs m d ExpressionKind (q + 5) → Tells m w out fill scope o (λ k c st. evaluate k c st (expressionAt m d (q + 5)))
-  told-there is s = subst (λ (a : Outcome Labelled). Tells m w out fill scope a (λ k c st. evaluate k c st (expressionAt m d (q + 5)))) is (operand-told m w out fill scope d (q + 5) short s small told)
+module _ (m w out : List ℕ) (fill size : ℕ) (scope : Scope) (d q : ℕ) (outer own : Labels) (short : length m ≤ 65535) {t : ℕ} (small : Small t (q + 5)) {o : Outcome Labelled} (told : StandsAs m d ExpressionKind t → Tells m w out fill scope o (λ k c st. evaluate k c st (expressionAt m d t))) where
+  told-there : {o′ : Outcome Labelled} → o ≡ o′ → StandsAs m d ExpressionKind (q + 5) → Tells m w out fill scope o′ (λ k c st. evaluate k c st (expressionAt m d (q + 5)))
+  told-there is s = subst (λ (a : Outcome Labelled). Tells m w out fill scope a (λ k c st. evaluate k c st (expressionAt m d (q + 5)))) is (operand-at (λ n. Tells m w out fill scope o (λ k c st. evaluate k c st (expressionAt m d n))) short s small told)
 
-  pub attribute-stops : {why : Refusal} → e ≡ NotEvaluated why → Added m w out out fill size scope d q outer own (Refused why)
-  unfolding evaluated
-  attribute-stops is = notAdded refl (told-there (ap evaluated is))
+  pub attribute-stops : {why : Refusal} → o ≡ refusedBy why → Added m w out out fill size scope d q outer own (Refused why)
+  attribute-stops is = notAdded refl (told-there is)
 
-  pub attribute-goes-on : (x : Labelled) {n name : ℕ} {out′ : List ℕ} → e ≡ Yields x → name ≡ two m (q + 3) → Appended out out′ fill size n (attribute name (underBoth outer own x)) → Added m w out out′ fill size scope d q outer own (Done n)
-  unfolding evaluated
-  attribute-goes-on x {n} {name} {out′} is named h = added x (subst (λ (k : ℕ). Appended out out′ fill size n (attribute k (underBoth outer own x))) named h) (told-there (ap evaluated is))
+  pub attribute-goes-on : (x : Labelled) {n name : ℕ} {out′ : List ℕ} → o ≡ done x → name ≡ two m (q + 3) → Appended out out′ fill size n (attribute name (underBoth outer own x)) → Added m w out out′ fill size scope d q outer own (Done n)
+  attribute-goes-on x {n} {name} {out′} is named h = added x (subst (λ (k : ℕ). Appended out out′ fill size n (attribute k (underBoth outer own x))) named h) (told-there is)
 
 -- ---- The ways of `gather`
 

@@ -33,11 +33,9 @@ use Rattle.memory.specs.declared.Context.{Context as Here}
 use Rattle.memory.specs.Contexts.{contextOf}
 use Rattle.catalog.specs.Layout.{entryAttributes}
 use Rattle.catalog.proofs.Growing.{written-kept}
-use Rattle.evaluator.specs.declared.Evaluated.{Evaluated}
-use Rattle.evaluator.specs.declared.Evaluated.the-variants.{Value as Yields, Refused as NotEvaluated}
-use Rattle.evaluator.specs.Answers.{refusedBy, evaluated}
+use Rattle.evaluator.specs.Answers.{refusedBy}
 use Rattle.evaluator.specs.Known.{Ready, Tells}
-use Rattle.evaluator.proofs.Expressions.{Small, operand-told}
+use Rattle.evaluator.proofs.Expressions.{Small, operand-at}
 use Rattle.resources.specs.declared.Filled.{Filled}
 use Rattle.resources.specs.declared.Filled.the-variants.{Done, Refused}
 use Rattle.resources.specs.Attributes.{Kept, Gathered, notGathered, gathered}
@@ -145,28 +143,28 @@ module _ (m w out : List ℕ) (fill room : ℕ) (here : Here) (d p : ℕ) (built
     says = λ s by b k declare es n h. absurd (omega (arith, level s, level (resource-opens s (level s) by .title .stands)));
   }
 
-  module _ {b : ℕ} (deep : d ≡ suc b) (short : length m ≤ 65535) {q : ℕ} (small : Small q (p + 5)) (e : Evaluated) (told : StandsAs m b ExpressionKind q → Tells m w out fill (here .scope) (evaluated e) (λ k c st. evaluate k c st (expressionAt m b q))) where
+  module _ {b : ℕ} (deep : d ≡ suc b) (short : length m ≤ 65535) {q : ℕ} (small : Small q (p + 5)) {u : Outcome Labelled} (told : StandsAs m b ExpressionKind q → Tells m w out fill (here .scope) u (λ k c st. evaluate k c st (expressionAt m b q))) where
     pub resource-run : (s : Stands m d p) (by : byte m p ≡ 0x25) (k : Known) (declare : Declare) (es : List Entry) (n : ℕ) → Ready m w out fill k es
-        → (evaluated e >>= λ x. titledRun m b p x k (contextOf here) (stateOf w es n room))
+        → (u >>= λ x. titledRun m b p x k (contextOf here) (stateOf w es n room))
         ≡ run k declare (statementAt m d p) (contextOf here) (stateOf w es n room)
     unfolding run
     resource-run s by k declare es n h =
         let o = resource-opens s deep by in
         let st = stateOf w es n room in
         ap₂ (λ (u : Outcome Labelled) (l : ℕ). u >>= λ x. at l (stringIn (x .value)) >>= λ t. evaluateAll k (contextOf here) (stateOf w es n room) (attributesAt m b (fieldsIn m (endOf m (p + 5)) (endOf m p))) >>= λ gs. addResource k p (two m (p + 3)) t (x .labels) (marksFor k (contextOf here) (stateOf w es n room) (attributesAt m b (fieldsIn m (endOf m (p + 5)) (endOf m p)))) gs (contextOf here) (stateOf w es n room))
-        (operand-told m w out fill (here .scope) b (p + 5) short (o .title) small told .says k (here .path) es n room h) (sym (expression-place m b (p + 5)))
+        (operand-at (λ l. Tells m w out fill (here .scope) u (λ k c st. evaluate k c st (expressionAt m b l))) short (o .title) small told .says k (here .path) es n room h) (sym (expression-place m b (p + 5)))
         ∙ ap (λ (z : _). run k declare z (contextOf here) (stateOf w es n room)) (sym (o .tree))
 
-    pub resource-stops : {why : Refusal} → e ≡ NotEvaluated why → Runs m w out out fill room here d p built (Refused why)
-    unfolding evaluated _>>=_
+    pub resource-stops : {why : Refusal} → u ≡ refusedBy why → Runs m w out out fill room here d p built (Refused why)
+    unfolding _>>=_
     resource-stops {why} is = record {
       kept = kept-all out fill;
       within = within-refused fill room {why = why} refl;
       says = λ s by b k declare es n h. refusedSo {why = why} (sym (rw is at (resource-run s by k declare es n h)));
     }
 
-    pub resource-goes-on : (x : Labelled) {out′ : List ℕ} {r : Filled} {inner : ℕ} → e ≡ Yields x → b ≡ suc inner → RunsTitled m w out out′ fill room here inner p x built r → Runs m w out out′ fill room here d p built r
-    unfolding evaluated _>>=_
+    pub resource-goes-on : (x : Labelled) {out′ : List ℕ} {r : Filled} {inner : ℕ} → u ≡ done x → b ≡ suc inner → RunsTitled m w out out′ fill room here inner p x built r → Runs m w out out′ fill room here d p built r
+    unfolding _>>=_
     resource-goes-on x {out′} {r} {inner} is above titled = record {
       kept = titled .kept;
       within = titled .within;

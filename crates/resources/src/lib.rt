@@ -13,7 +13,8 @@ ghost use Rattle.evaluator.specs.Known.{Sized};
 ghost use Rattle.resources.specs.Attributes.{underBoth, Kept, Appended, Added, Gathered};
 ghost use Rattle.resources.specs.Entries.{Within, Entered, Checks, RunsTitled, Runs};
 use attributes::Span;
-use evaluator::Evaluated;
+use evaluator::Valued;
+use evaluator::value_of;
 use labels::Labels;
 use memory::Context;
 use memory::Scope;
@@ -64,11 +65,14 @@ fn add_attribute(
     requires { ⌜ (Sized (now m) (now work) (now out) fill q) × (size ≤ 4294967296) ⌝ }
     ensures { λ r. ⌜ Added (now (m .entry)) (now (work .entry)) (now (out .entry)) (now (out .exit)) fill size scope inner q outer own r ⌝ }
 {
-    let e = evaluator::evaluate(m, inner, place(q + 5), work, out, fill, scope);
-    match e {
-        Evaluated::Refused(refusal) => Filled::Refused(refusal),
-        Evaluated::Value(x) => {
+    let mut set = [0u64; 4];
+    let e = evaluator::evaluate(m, inner, place(q + 5), work, out, fill, scope, &mut set);
+    match value_of(e) {
+        Valued::Refused(refusal) => Filled::Refused(refusal),
+        Valued::Value(value) => {
+            let labels = Labels::in_words(&set);
             let name = wire::two_at(m, q + 3);
+            let x = Labelled { value, labels };
             Filled::Done(append(out, fill, size, name, x, outer, own))
         }
     }
@@ -216,10 +220,13 @@ pub fn add_resource(
         return Filled::Refused(Refusal::at(Reason::Malformed, p));
     }
     let scope = here.scope;
-    let t = evaluator::evaluate(m, depth - 1, place(p + 5), work, out, fill, scope);
-    match t {
-        Evaluated::Refused(refusal) => Filled::Refused(refusal),
-        Evaluated::Value(x) => {
+    let mut set = [0u64; 4];
+    let t = evaluator::evaluate(m, depth - 1, place(p + 5), work, out, fill, scope, &mut set);
+    match value_of(t) {
+        Valued::Refused(refusal) => Filled::Refused(refusal),
+        Valued::Value(value) => {
+            let labels = Labels::in_words(&set);
+            let x = Labelled { value, labels };
             add_titled(m, depth - 2, p, x, work, out, fill, room, here, built_in)
         }
     }

@@ -11,7 +11,7 @@ use Rattle.values.specs.declared.Refusal.{Refusal}
 use Rattle.values.specs.Refusals.{refusalAt}
 use Rattle.values.specs.declared.Reason.the-variants.{AssignedAgain, CellLimit}
 use Rattle.wire.specs.Bytes.{byte, two}
-use Rattle.rules.specs.Outcome.{Outcome, _>>=_, under}
+use Rattle.rules.specs.Outcome.{Outcome, done, _>>=_, under}
 use Rattle.rules.specs.Tree as tree
 use Rattle.rules.specs.State.{Entry, State, Known}
 use Rattle.rules.specs.State as state
@@ -27,9 +27,7 @@ use Rattle.cells.specs.declared.Stored.{Stored}
 use Rattle.cells.specs.declared.Stored.the-variants.{Done as Held, HasValue, NoRoom}
 use Rattle.memory.specs.declared.Context.{Context as Here}
 use Rattle.memory.specs.Contexts.{contextOf}
-use Rattle.evaluator.specs.declared.Evaluated.{Evaluated}
-use Rattle.evaluator.specs.declared.Evaluated.the-variants.{Value as Yields, Refused as Fails}
-use Rattle.evaluator.specs.Answers.{evaluated}
+use Rattle.evaluator.specs.Answers.{refusedBy}
 use Rattle.evaluator.specs.Known.{Ready, Tells}
 use Rattle.branches.proofs.Standing.{has-level, has-header}
 use Rattle.statements.specs.declared.Ran.{Ran}
@@ -73,24 +71,24 @@ assignment-here s tag = assignment-opens (s .stands) (has-level s) tag
 pub value-place : {m : List ℕ} {d p : ℕ} → StandsAs m d Statement p → byte m p ≡ 0x21 → length m ≤ 65535 → p + 5 ≤ 65535
 value-place s tag l = omega (arith, has-header (assignment-here s tag .value))
 
-module _ {m w out : List ℕ} {d p fill : ℕ} (here : Here) (s : StandsAs m d Statement p) (tag : byte m p ≡ 0x21) (e : Evaluated) (told : StandsAs m (d - 1) Expression (p + 5) → Tells m w out fill (here .scope) (evaluated e) (λ k c st. evaluate k c st (expressionAt m (d - 1) (p + 5)))) where
-  assign-run : {o : Outcome Labelled} (k : Known) (declare : Declare) (es : List Entry) (n r : ℕ) → evaluated e ≡ o → Ready m w out fill k es → (o >>= λ x. store (contextOf here) p (two m (p + 3)) x (stateOf w es n r)) ≡ run k declare (statementAt m d p) (contextOf here) (stateOf w es n r)
+module _ {m w out : List ℕ} {d p fill : ℕ} (here : Here) (s : StandsAs m d Statement p) (tag : byte m p ≡ 0x21) {o : Outcome Labelled} (told : StandsAs m (d - 1) Expression (p + 5) → Tells m w out fill (here .scope) o (λ k c st. evaluate k c st (expressionAt m (d - 1) (p + 5)))) where
+  assign-run : {o′ : Outcome Labelled} → o ≡ o′ → (k : Known) (declare : Declare) (es : List Entry) (n r : ℕ) → Ready m w out fill k es → (o′ >>= λ x. store (contextOf here) p (two m (p + 3)) x (stateOf w es n r)) ≡ run k declare (statementAt m d p) (contextOf here) (stateOf w es n r)
   unfolding run
-  assign-run k declare es n r h ready =
+  assign-run h k declare es n r ready =
       let st = stateOf w es n r in
       let at = assignment-here s tag in
       ap (λ (o : Outcome Labelled). o >>= λ x. store (contextOf here) p (two m (p + 3)) x st) (sym h ∙ told (at .value) .says k (here .path) es n r ready) ∙ ap (λ (t : tree.Statement). run k declare t (contextOf here) st) (sym (at .tree))
 
-  pub assign-refused : (why : Refusal) → e ≡ Fails why → Runs m w w out fill here (Refused why) (statementAt m d p)
-  unfolding ranAs evaluated _>>=_
+  pub assign-refused : (why : Refusal) → o ≡ refusedBy why → Runs m w w out fill here (Refused why) (statementAt m d p)
+  unfolding ranAs _>>=_
   assign-refused why h = record {
-    says = λ k declare es n r ready. assign-run k declare es n r (ap evaluated h) ready;
+    says = λ k declare es n r ready. assign-run h k declare es n r ready;
     keeps = keeps-same w;
   }
 
-  pub assign-stored : {w′ : List ℕ} {name : ℕ} (answer : Ran) (x : Labelled) → e ≡ Yields x → name ≡ two m (p + 3) → Does w w′ here (ranAs answer) (λ c. store c p name x) → Runs m w w′ out fill here answer (statementAt m d p)
-  unfolding evaluated _>>=_
+  pub assign-stored : {w′ : List ℕ} {name : ℕ} (answer : Ran) (x : Labelled) → o ≡ done x → name ≡ two m (p + 3) → Does w w′ here (ranAs answer) (λ c. store c p name x) → Runs m w w′ out fill here answer (statementAt m d p)
+  unfolding _>>=_
   assign-stored answer x h l i = record {
-    says = λ k declare es n r ready. i .says es n r ∙ ap (λ (q : ℕ). store (contextOf here) p q x (stateOf w es n r)) l ∙ assign-run k declare es n r (ap evaluated h) ready;
+    says = λ k declare es n r ready. i .says es n r ∙ ap (λ (q : ℕ). store (contextOf here) p q x (stateOf w es n r)) l ∙ assign-run h k declare es n r ready;
     keeps = i .keeps;
   }

@@ -4,6 +4,7 @@ use mathlib.Core.Path.{_≡_, refl, sym, ap, ap₂, _∙_, subst}
 use mathlib.Core.List.{List, [], _∷_}
 use Rattle.labels.specs.declared.Labels.{Labels}
 use Rattle.labels.specs.Sets.{_∪_}
+use Rattle.labels.specs.Words.{labelsIn}
 use Rattle.values.specs.declared.Labelled.{Labelled}
 use Rattle.values.specs.declared.Value.{Value}
 use Rattle.values.specs.declared.Refusal.{Refusal}
@@ -20,7 +21,6 @@ use Rattle.places.specs.At.{constantAt, expressionAt, statementAt, blockAt, bra
 use Rattle.places.proofs.Statements.{ChoiceAt, choice-opens}
 use Rattle.patterns.specs.declared.Choice.{Choice}
 use Rattle.patterns.specs.declared.Choice.the-variants.{At, Nothing}
-use Rattle.patterns.specs.declared.Matched.{Matched}
 use Rattle.patterns.specs.Tried.{patternsAt, Matches}
 use Rattle.patterns.proofs.Follows.{mapped-first, every-follows}
 use Rattle.cells.specs.Layout.{trailOf}
@@ -28,9 +28,6 @@ use Rattle.cells.specs.Memory.{stateOf}
 use Rattle.memory.specs.declared.Context.{Context as Here}
 use Rattle.memory.specs.Contexts.{contextOf}
 use Rattle.evaluator.specs.Answers.{refusedBy}
-use Rattle.evaluator.specs.declared.Evaluated.{Evaluated}
-use Rattle.evaluator.specs.declared.Evaluated.the-variants.{Value as Yields, Refused as Fails}
-use Rattle.evaluator.specs.Answers.{evaluated}
 use Rattle.evaluator.specs.Known.{Ready, Tells}
 use Rattle.branches.specs.Texts.{textOf}
 use Rattle.branches.proofs.Standing.{has-level, branch-block}
@@ -121,20 +118,20 @@ blocks-at m d (q ∷ qs) =
 blocks-tried : (m : List ℕ) (d : ℕ) (qs : List ℕ) (x : Value) → tried (blocksIn (branchesAt m d qs)) x ≡ tried (patternsAt m qs) x
 blocks-tried m d qs x = ap (λ (ps : Patterns Block). tried ps x) (blocks-at m d qs) ∙ tried-mapped (blockFor m (d - 1)) (patternsAt m qs) x
 
-module _ {m : List ℕ} {f e : ℕ} {x : Value} {r : Matched} (d : ℕ) (i : Matches m f e x r) where
-  block-chosen : blockFor m (d - 1) (r .at) ≡ chosenBlock (branchesAt m d (fieldsIn m f e)) x
+module _ {m : List ℕ} {f e : ℕ} {x : Value} {s s′ : List ℕ} {r : Choice} (d : ℕ) (i : Matches m f e x s s′ r) where
+  block-chosen : blockFor m (d - 1) r ≡ chosenBlock (branchesAt m d (fieldsIn m f e)) x
   unfolding blockFor
   block-chosen =
       ap (blockFor m (d - 1)) (i .at) ∙ sym (chosen-mapped (blockFor m (d - 1)) (patternsAt m (fieldsIn m f e)) x Nothing)
       ∙ ap (λ (ps : Patterns Block). chosen ps x end) (sym (blocks-at m d (fieldsIn m f e)))
 
-  labels-tried : r .labels ≡ triedLabels (blocksIn (branchesAt m d (fieldsIn m f e))) x
+  labels-tried : labelsIn s′ ≡ labelsIn s ∪ triedLabels (blocksIn (branchesAt m d (fieldsIn m f e))) x
   unfolding triedLabels
-  labels-tried = i .labels ∙ ap labelsOf (sym (blocks-tried m d (fieldsIn m f e) x))
+  labels-tried = i .labels .labels ∙ ap (λ (vs : List Constant). labelsIn s ∪ labelsOf vs) (sym (blocks-tried m d (fieldsIn m f e) x))
 
-  block-stands : Siblings m d BranchKind f e → choiceStands m (d - 1) f e (r .at)
+  block-stands : Siblings m d BranchKind f e → choiceStands m (d - 1) f e r
   unfolding choiceStands
-  block-stands s = rw (i .at) (chosen-holds (choiceStands m (d - 1) f e) (every-follows (λ q y. choiceStands m (d - 1) q e y) here later s) x tt)
+  block-stands arms = rw (i .at) (chosen-holds (choiceStands m (d - 1) f e) (every-follows (λ q y. choiceStands m (d - 1) q e y) here later arms) x tt)
     where
       here : (q : ℕ) → q < e → StandsAs m d BranchKind q → choiceStands m (d - 1) q e (At (endOf m (q + 3)))
       here q l h = (branch-block h refl, blockHere l refl)
@@ -148,44 +145,48 @@ pub case-after : {m w w′ : List ℕ} {d p f e : ℕ} {here : Here} {answer : S
 unfolding afterText afterCase
 case-after set s tag found ends i = rw (choice-text s refl tag found ends) at i
 
-module _ (m : List ℕ) (d p : ℕ) {f e : ℕ} (w : List ℕ) (here : Here) (x : Labelled) (found : f ≡ endOf m (p + 3)) (ends : e ≡ endOf m p) where
-  module _ {w′ : List ℕ} {r : Matched} {own set : Labels} (entered : Ran) (matches : Matches m f e (x .value) r) (both : own ≡ x .labels ∪ r .labels) (joined : set ≡ (here .path ∪ trailOf w) ∪ own) (enter : Decides m w w′ here (ranAs entered) (afterCase p (branchesAt m d (fieldsIn m f e)) set)) where
-    same-set : (es : List Entry) (n i : ℕ) → set ≡ withPathAndTrail (contextOf here) (stateOf w es n i) (x .labels ∪ triedLabels (blocksIn (branchesAt m d (fieldsIn m f e))) (x .value))
+-- a value whose labels are in the set s
+abbrev ownIn : Value → List ℕ → Labelled
+ownIn v s = record { value = v; labels = labelsIn s }
+
+module _ (m : List ℕ) (d p : ℕ) {f e : ℕ} (w : List ℕ) (here : Here) (v : Value) (s : List ℕ) (found : f ≡ endOf m (p + 3)) (ends : e ≡ endOf m p) where
+  module _ {w′ s′ : List ℕ} {r : Choice} {own set : Labels} (entered : Ran) (matches : Matches m f e v s s′ r) (read : own ≡ labelsIn s′) (joined : set ≡ (here .path ∪ trailOf w) ∪ own) (enter : Decides m w w′ here (ranAs entered) (afterCase p (branchesAt m d (fieldsIn m f e)) set)) where
+    same-set : (es : List Entry) (n i : ℕ) → set ≡ withPathAndTrail (contextOf here) (stateOf w es n i) (labelsIn s ∪ triedLabels (blocksIn (branchesAt m d (fieldsIn m f e))) v)
     unfolding withPathAndTrail stateOf
-    same-set es n i = joined ∙ ap (λ (k : Labels). (here .path ∪ trailOf w) ∪ k) (both ∙ ap (λ (k : Labels). x .labels ∪ k) (labels-tried d matches))
+    same-set es n i = joined ∙ ap (λ (k : Labels). (here .path ∪ trailOf w) ∪ k) (read ∙ labels-tried d matches)
 
     -- what follows the marks and the trail
     abbrev after : Choice → Ran → State → Outcome (Passed Block)
     after y o st = ranAs o st >>= λ st′. done (passed (blockFor m (d - 1) y) set st′)
 
-    case-decided : (es : List Entry) (n i : ℕ) → after (r .at) entered (stateOf w′ es n i) ≡ decideCase p (branchesOf m d p) x (contextOf here) (stateOf w es n i)
+    case-decided : (es : List Entry) (n i : ℕ) → after r entered (stateOf w′ es n i) ≡ decideCase p (branchesOf m d p) (ownIn v s) (contextOf here) (stateOf w es n i)
     unfolding decideCase
     case-decided es n i =
         ap₂ (λ (o : Outcome State) (b : Block). o >>= λ st′. done (passed b set st′)) (enter .says es n i) (block-chosen d matches)
-        ∙ ap (λ (k : Labels). afterCase p (branchesAt m d (fieldsIn m f e)) k (contextOf here) (stateOf w es n i) >>= λ st′. done (passed (chosenBlock (branchesAt m d (fieldsIn m f e)) (x .value)) k st′)) (same-set es n i)
-        ∙ ap₂ (λ (a b : ℕ). decideCase p (branchesAt m d (fieldsIn m a b)) x (contextOf here) (stateOf w es n i)) found ends
+        ∙ ap (λ (k : Labels). afterCase p (branchesAt m d (fieldsIn m f e)) k (contextOf here) (stateOf w es n i) >>= λ st′. done (passed (chosenBlock (branchesAt m d (fieldsIn m f e)) v) k st′)) (same-set es n i)
+        ∙ ap₂ (λ (a b : ℕ). decideCase p (branchesAt m d (fieldsIn m a b)) (ownIn v s) (contextOf here) (stateOf w es n i)) found ends
 
-    pub case-stopped : (why : Refusal) → entered ≡ Stopped why → Decides m w w′ here (caseAs m (d - 1) (Refused why)) (decideCase p (branchesOf m d p) x) × blockStands m (d - 1) p (Refused why)
+    pub case-stopped : (why : Refusal) → entered ≡ Stopped why → Decides m w w′ here (caseAs m (d - 1) (Refused why)) (decideCase p (branchesOf m d p) (ownIn v s)) × blockStands m (d - 1) p (Refused why)
     unfolding caseAs ranAs _>>=_ blockStands
     case-stopped why h = (
       record {
-        says = λ es n i. sym (ap (λ (o : Ran). after (r .at) o (stateOf w′ es n i)) h) ∙ case-decided es n i;
+        says = λ es n i. sym (ap (λ (o : Ran). after r o (stateOf w′ es n i)) h) ∙ case-decided es n i;
         keeps = enter .keeps;
       },
       tt,
     )
 
-    pub case-entered : Siblings m d BranchKind f e → (q : ℕ) → entered ≡ Entered → r .at ≡ At q → Decides m w w′ here (caseAs m (d - 1) (Branch q set)) (decideCase p (branchesOf m d p) x) × blockStands m (d - 1) p (Branch q set)
+    pub case-entered : Siblings m d BranchKind f e → (q : ℕ) → entered ≡ Entered → r ≡ At q → Decides m w w′ here (caseAs m (d - 1) (Branch q set)) (decideCase p (branchesOf m d p) (ownIn v s)) × blockStands m (d - 1) p (Branch q set)
     unfolding caseAs ranAs _>>=_ blockStands blockFor choiceStands
-    case-entered s q h g = (
+    case-entered arms q h g = (
       record {
         says = λ es n i. sym (ap₂ (λ (y : Choice) (o : Ran). after y o (stateOf w′ es n i)) g h) ∙ case-decided es n i;
         keeps = enter .keeps;
       },
-      rw (sym found, sym ends) (subst (choiceStands m (d - 1) f e) g (block-stands d matches s)),
+      rw (sym found, sym ends) (subst (choiceStands m (d - 1) f e) g (block-stands d matches arms)),
     )
 
-    pub case-unmatched : entered ≡ Entered → r .at ≡ Nothing → Decides m w w′ here (caseAs m (d - 1) (NoBlock set)) (decideCase p (branchesOf m d p) x) × blockStands m (d - 1) p (NoBlock set)
+    pub case-unmatched : entered ≡ Entered → r ≡ Nothing → Decides m w w′ here (caseAs m (d - 1) (NoBlock set)) (decideCase p (branchesOf m d p) (ownIn v s)) × blockStands m (d - 1) p (NoBlock set)
     unfolding caseAs ranAs _>>=_ blockStands blockFor
     case-unmatched h g = (
       record {
@@ -230,27 +231,27 @@ module _ (m : List ℕ) (d p : ℕ) {f e : ℕ} (w : List ℕ) (here : Here) (x 
 pub choice-here : {m : List ℕ} {d p : ℕ} → StandsAs m d StatementKind p → byte m p ≡ 0x23 → ChoiceAt m d (d - 1) p
 choice-here s tag = choice-opens (s .stands) (has-level s) tag
 
-module _ {m w out : List ℕ} {d p fill : ℕ} (here : Here) (s : StandsAs m d StatementKind p) (tag : byte m p ≡ 0x23) (e : Evaluated) (told : StandsAs m (d - 1) ExpressionKind (p + 3) → Tells m w out fill (here .scope) (evaluated e) (λ k c st. evaluate k c st (expressionAt m (d - 1) (p + 3)))) where
-  test-run : {o : Outcome Labelled} (k : Known) (es : List Entry) (n r : ℕ) → evaluated e ≡ o → Ready m w out fill k es → (o >>= λ x. tryCase p (branchesOf m (d - 1) p) x k (contextOf here) (stateOf w es n r)) ≡ testCaseAt m (d - 1) p k (contextOf here) (stateOf w es n r)
+module _ {m w out : List ℕ} {d p fill : ℕ} (here : Here) (s : StandsAs m d StatementKind p) (tag : byte m p ≡ 0x23) {o : Outcome Labelled} (told : StandsAs m (d - 1) ExpressionKind (p + 3) → Tells m w out fill (here .scope) o (λ k c st. evaluate k c st (expressionAt m (d - 1) (p + 3)))) where
+  test-run : {o′ : Outcome Labelled} → o ≡ o′ → (k : Known) (es : List Entry) (n r : ℕ) → Ready m w out fill k es → (o′ >>= λ x. tryCase p (branchesOf m (d - 1) p) x k (contextOf here) (stateOf w es n r)) ≡ testCaseAt m (d - 1) p k (contextOf here) (stateOf w es n r)
   unfolding testCaseAt testCase
-  test-run k es n r h ready =
+  test-run h k es n r ready =
       ap (λ (o : Outcome Labelled). o >>= λ x. tryCase p (branchesOf m (d - 1) p) x k (contextOf here) (stateOf w es n r)) (sym h ∙ told (choice-here s tag .scrutinee) .says k (here .path) es n r ready)
 
-  pub test-refused : (why : Refusal) → e ≡ Fails why → Tests m w w out fill here (caseAs m (d - 1 - 1) (Refused why)) (testCaseAt m (d - 1) p) × blockStands m (d - 1 - 1) p (Refused why)
-  unfolding caseAs evaluated _>>=_ blockStands
+  pub test-refused : (why : Refusal) → o ≡ refusedBy why → Tests m w w out fill here (caseAs m (d - 1 - 1) (Refused why)) (testCaseAt m (d - 1) p) × blockStands m (d - 1 - 1) p (Refused why)
+  unfolding caseAs _>>=_ blockStands
   test-refused why h = (
     record {
-      says = λ k es n r ready. test-run k es n r (ap evaluated h) ready;
+      says = λ k es n r ready. test-run h k es n r ready;
       keeps = preserves-same w;
     },
     tt,
   )
 
-  pub test-decided : {w′ : List ℕ} (answer : TestedCase) (x : Labelled) → e ≡ Yields x → Comes m w w′ here (caseAs m (d - 1 - 1) answer) (tryCase p (branchesOf m (d - 1) p) x) × blockStands m (d - 1 - 1) p answer → Tests m w w′ out fill here (caseAs m (d - 1 - 1) answer) (testCaseAt m (d - 1) p) × blockStands m (d - 1 - 1) p answer
-  unfolding evaluated _>>=_
+  pub test-decided : {w′ : List ℕ} (answer : TestedCase) (x : Labelled) → o ≡ done x → Comes m w w′ here (caseAs m (d - 1 - 1) answer) (tryCase p (branchesOf m (d - 1) p) x) × blockStands m (d - 1 - 1) p answer → Tests m w w′ out fill here (caseAs m (d - 1 - 1) answer) (testCaseAt m (d - 1) p) × blockStands m (d - 1 - 1) p answer
+  unfolding _>>=_
   test-decided answer x h i = (
     record {
-      says = λ k es n r ready. i .0 .says k (ready .known .struck) es n r ∙ test-run k es n r (ap evaluated h) ready;
+      says = λ k es n r ready. i .0 .says k (ready .known .struck) es n r ∙ test-run h k es n r ready;
       keeps = i .0 .keeps;
     },
     i .1,

@@ -30,10 +30,8 @@ use Rattle.cells.specs.Layout.{trailOf}
 use Rattle.cells.specs.Memory.{stateOf}
 use Rattle.memory.specs.declared.Context.{Context as Here}
 use Rattle.memory.specs.Contexts.{contextOf}
-use Rattle.evaluator.specs.declared.Evaluated.{Evaluated}
-use Rattle.evaluator.specs.declared.Evaluated.the-variants.{Value as Yields, Refused as Fails}
 use Rattle.evaluator.proofs.Operators.{not-boolean}
-use Rattle.evaluator.specs.Answers.{evaluated}
+use Rattle.evaluator.specs.Answers.{refusedBy}
 use Rattle.evaluator.specs.Known.{Ready, Tells}
 use Rattle.branches.specs.Texts.{textOf, both}
 use Rattle.branches.proofs.Standing.{has-level, has-header}
@@ -120,22 +118,22 @@ conditional-here s tag = conditional-opens (s .stands) (has-level s) tag
 pub condition-place : {m : List ℕ} {d p : ℕ} → StandsAs m d StatementKind p → length m ≤ 65535 → p + 3 ≤ 65535
 condition-place s l = omega (arith, has-header s)
 
-module _ {m w out : List ℕ} {d p fill : ℕ} (here : Here) (s : StandsAs m d StatementKind p) (tag : byte m p ≡ 0x22) (e : Evaluated) (told : StandsAs m (d - 1) ExpressionKind (p + 3) → Tells m w out fill (here .scope) (evaluated e) (λ k c st. evaluate k c st (expressionAt m (d - 1) (p + 3)))) where
-  test-run : {o : Outcome Labelled} (k : Known) (es : List Entry) (n r : ℕ) → evaluated e ≡ o → Ready m w out fill k es → (o >>= λ x. decideIf p (p + 3) (blockAt m (d - 1) (endOf m (p + 3))) (blockAt m (d - 1) (endOf m (endOf m (p + 3)))) x (contextOf here) (stateOf w es n r)) ≡ testIfAt m (d - 1) p k (contextOf here) (stateOf w es n r)
+module _ {m w out : List ℕ} {d p fill : ℕ} (here : Here) (s : StandsAs m d StatementKind p) (tag : byte m p ≡ 0x22) {o : Outcome Labelled} (told : StandsAs m (d - 1) ExpressionKind (p + 3) → Tells m w out fill (here .scope) o (λ k c st. evaluate k c st (expressionAt m (d - 1) (p + 3)))) where
+  test-run : {o′ : Outcome Labelled} → o ≡ o′ → (k : Known) (es : List Entry) (n r : ℕ) → Ready m w out fill k es → (o′ >>= λ x. decideIf p (p + 3) (blockAt m (d - 1) (endOf m (p + 3))) (blockAt m (d - 1) (endOf m (endOf m (p + 3)))) x (contextOf here) (stateOf w es n r)) ≡ testIfAt m (d - 1) p k (contextOf here) (stateOf w es n r)
   unfolding testIfAt testIf
-  test-run k es n r h ready =
+  test-run h k es n r ready =
       ap₂ (λ (o : Outcome Labelled) (l : ℕ). o >>= λ x. decideIf p l (blockAt m (d - 1) (endOf m (p + 3))) (blockAt m (d - 1) (endOf m (endOf m (p + 3)))) x (contextOf here) (stateOf w es n r)) (sym h ∙ told (conditional-here s tag .condition) .says k (here .path) es n r ready) (sym (expression-place m (d - 1) (p + 3)))
 
-  pub test-refused : (why : Refusal) → e ≡ Fails why → Tests m w w out fill here (testedAs (Refused why)) (testIfAt m (d - 1) p)
-  unfolding testedAs evaluated _>>=_
+  pub test-refused : (why : Refusal) → o ≡ refusedBy why → Tests m w w out fill here (testedAs (Refused why)) (testIfAt m (d - 1) p)
+  unfolding testedAs _>>=_
   test-refused why h = record {
-    says = λ k es n r ready. test-run k es n r (ap evaluated h) ready;
+    says = λ k es n r ready. test-run h k es n r ready;
     keeps = preserves-same w;
   }
 
-  pub test-decided : {w′ : List ℕ} (answer : Tested) (x : Labelled) → e ≡ Yields x → Decides m w w′ here (testedAs answer) (decideIf p (p + 3) (blockAt m (d - 1) (endOf m (p + 3))) (blockAt m (d - 1) (endOf m (endOf m (p + 3)))) x) → Tests m w w′ out fill here (testedAs answer) (testIfAt m (d - 1) p)
-  unfolding evaluated _>>=_
+  pub test-decided : {w′ : List ℕ} (answer : Tested) (x : Labelled) → o ≡ done x → Decides m w w′ here (testedAs answer) (decideIf p (p + 3) (blockAt m (d - 1) (endOf m (p + 3))) (blockAt m (d - 1) (endOf m (endOf m (p + 3)))) x) → Tests m w w′ out fill here (testedAs answer) (testIfAt m (d - 1) p)
+  unfolding _>>=_
   test-decided answer x h i = record {
-    says = λ k es n r ready. i .says es n r ∙ test-run k es n r (ap evaluated h) ready;
+    says = λ k es n r ready. i .says es n r ∙ test-run h k es n r ready;
     keeps = i .keeps;
   }

@@ -3,6 +3,7 @@ ghost use mathlib.Core.Path.{_≡_};
 ghost use Prim.Native.Nat.{_+_, _-_, _≤_, _<_};
 ghost use lib.ListN.{length};
 ghost use Rattle.labels.specs.Sets.{_∪_};
+ghost use Rattle.labels.specs.Words.{labelsIn};
 ghost use Rattle.wire.specs.Bytes.{byte, two, endOf};
 ghost use Rattle.rules.specs.State.{State};
 ghost use Rattle.rules.specs.Run as rules;
@@ -17,8 +18,9 @@ ghost use Rattle.statements.specs.Cases.{branchesOf, decideCase, tryCase
 ghost use Rattle.statements.specs.Tests.{afterText, decideIf, testIfAt, testedAs, Testable, Comes, Decides, Tests};
 ghost use Rattle.statements.specs.Answers.{ranAs, Does, Runs};
 use cells::Stored;
-use evaluator::Evaluated;
+use evaluator::Valued;
 use evaluator::evaluate;
+use evaluator::value_of;
 use labels::Labels;
 use memory::Context;
 use patterns::Choice;
@@ -131,12 +133,14 @@ pub fn assign(
     ensures { λ r. ⌜ Runs (now (m .entry)) (now (work .entry)) (now (work .exit)) (now (out .entry)) fill here r (statementAt (now (m .entry)) depth p) ⌝ }
 {
     let scope = here.scope;
-    let e = evaluate(m, depth - 1, p + 5, work, out, fill, scope);
-    match e {
-        Evaluated::Refused(refusal) => Ran::Refused(refusal),
-        Evaluated::Value(x) => {
+    let mut set = [0u64; 4];
+    let e = evaluate(m, depth - 1, p + 5, work, out, fill, scope, &mut set);
+    match value_of(e) {
+        Valued::Refused(refusal) => Ran::Refused(refusal),
+        Valued::Value(value) => {
+            let labels = Labels::in_words(&set);
             let name = wire::two_at(m, p + 3);
-            store(work, p, here, name, x)
+            store(work, p, here, name, Labelled { value, labels })
         }
     }
 }
@@ -176,45 +180,44 @@ pub fn test_if(
     ensures { λ r. ⌜ Tests (now (m .entry)) (now (work .entry)) (now (work .exit)) (now (out .entry)) fill here (testedAs r) (testIfAt (now (m .entry)) (depth - 1) p) ⌝ }
 {
     let scope = here.scope;
-    let e = evaluate(m, depth - 1, p + 3, work, out, fill, scope);
-    match e {
-        Evaluated::Refused(refusal) => Tested::Refused(refusal),
-        Evaluated::Value(x) => decide_if(m, depth, p, work, here, x),
+    let mut set = [0u64; 4];
+    let e = evaluate(m, depth - 1, p + 3, work, out, fill, scope, &mut set);
+    match value_of(e) {
+        Valued::Refused(refusal) => Tested::Refused(refusal),
+        Valued::Value(value) => {
+            let labels = Labels::in_words(&set);
+            decide_if(m, depth, p, work, here, Labelled { value, labels })
+        }
     }
 }
 
 // ---- The test of a case
 
-// The case at p, whose value is x.
+// The case at p, of whose value the labels are in the set that is lent.
 fn decide_case(
     m: &[u8],
     depth: u8,
     p: usize,
     work: &mut [u8],
     here: Context,
-    x: Labelled,
+    value: Value,
+    own: &mut [u64; 4],
 ) -> TestedCase
-    requires { ⌜ Testable (now m) (now work) depth p × (byte (now m) p ≡ 0x23) ⌝ }
-    ensures { λ r. ⌜ Decides (now (m .entry)) (now (work .entry)) (now (work .exit)) here (caseAs (now (m .entry)) (depth - 1 - 1) r) (decideCase p (branchesOf (now (m .entry)) (depth - 1) p) x) × blockStands (now (m .entry)) (depth - 1 - 1) p r ⌝ }
+    requires { ⌜ (Testable (now m) (now work) depth p × (byte (now m) p ≡ 0x23)) × (length (now own) ≡ 4) ⌝ }
+    ensures { λ r. ⌜ Decides (now (m .entry)) (now (work .entry)) (now (work .exit)) here (caseAs (now (m .entry)) (depth - 1 - 1) r) (decideCase p (branchesOf (now (m .entry)) (depth - 1) p) (record { value = value; labels = labelsIn (now (own .entry)) })) × blockStands (now (m .entry)) (depth - 1 - 1) p r ⌝ }
 {
-    let value = x.value;
-    let own = x.labels;
     let from = wire::end_of(m, p + 3);
     let end = wire::end_of(m, p);
-    let matched = patterns::try_patterns(m, from, end, value);
-    let tried = matched.labels;
+    let at = patterns::try_patterns(m, from, end, value, own);
     let path = here.path;
-    let set = condition_set(work, own.union(tried), path);
+    let set = condition_set(work, Labels::in_words(own), path);
     let entered = enter_condition(m, depth, p, work, here, set);
     match entered {
         Ran::Refused(refusal) => TestedCase::Refused(refusal),
-        Ran::Done => {
-            let at = matched.at;
-            match at {
-                Choice::At(block) => TestedCase::Branch { block, set },
-                Choice::Nothing => TestedCase::Nothing { set },
-            }
-        }
+        Ran::Done => match at {
+            Choice::At(block) => TestedCase::Branch { block, set },
+            Choice::Nothing => TestedCase::Nothing { set },
+        },
     }
 }
 
@@ -225,18 +228,18 @@ fn try_case(
     p: usize,
     work: &mut [u8],
     here: Context,
-    x: Labelled,
+    value: Value,
+    own: &mut [u64; 4],
 ) -> TestedCase
-    requires { ⌜ Testable (now m) (now work) depth p × (byte (now m) p ≡ 0x23) ⌝ }
-    ensures { λ r. ⌜ Comes (now (m .entry)) (now (work .entry)) (now (work .exit)) here (caseAs (now (m .entry)) (depth - 1 - 1) r) (tryCase p (branchesOf (now (m .entry)) (depth - 1) p) x) × blockStands (now (m .entry)) (depth - 1 - 1) p r ⌝ }
+    requires { ⌜ (Testable (now m) (now work) depth p × (byte (now m) p ≡ 0x23)) × (length (now own) ≡ 4) ⌝ }
+    ensures { λ r. ⌜ Comes (now (m .entry)) (now (work .entry)) (now (work .exit)) here (caseAs (now (m .entry)) (depth - 1 - 1) r) (tryCase p (branchesOf (now (m .entry)) (depth - 1) p) (record { value = value; labels = labelsIn (now (own .entry)) })) × blockStands (now (m .entry)) (depth - 1 - 1) p r ⌝ }
 {
-    let value = x.value;
     let from = wire::end_of(m, p + 3);
     let end = wire::end_of(m, p);
     let struck = patterns::struck_pattern(m, from, end, value, work);
     match struck {
         Choice::At(q) => TestedCase::Refused(Refusal::at(Reason::Malformed, q)),
-        Choice::Nothing => decide_case(m, depth, p, work, here, x),
+        Choice::Nothing => decide_case(m, depth, p, work, here, value, own),
     }
 }
 
@@ -254,9 +257,10 @@ pub fn test_case(
     ensures { λ r. ⌜ Tests (now (m .entry)) (now (work .entry)) (now (work .exit)) (now (out .entry)) fill here (caseAs (now (m .entry)) (depth - 1 - 1) r) (testCaseAt (now (m .entry)) (depth - 1) p) × blockStands (now (m .entry)) (depth - 1 - 1) p r ⌝ }
 {
     let scope = here.scope;
-    let e = evaluate(m, depth - 1, p + 3, work, out, fill, scope);
-    match e {
-        Evaluated::Refused(refusal) => TestedCase::Refused(refusal),
-        Evaluated::Value(x) => try_case(m, depth, p, work, here, x),
+    let mut set = [0u64; 4];
+    let e = evaluate(m, depth - 1, p + 3, work, out, fill, scope, &mut set);
+    match value_of(e) {
+        Valued::Refused(refusal) => TestedCase::Refused(refusal),
+        Valued::Value(value) => try_case(m, depth, p, work, here, value, &mut set),
     }
 }

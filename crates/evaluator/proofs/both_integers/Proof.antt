@@ -30,11 +30,11 @@ returns-2 c = right-unlike _ _ _ _ _ (c .before .before .before .x .given .1) (�
 is-greater-requires : tie.Need-is-greater-requires
 is-greater-requires c κs = tt
 
-plain-value-requires : tie.Need-plain-value-requires
-plain-value-requires c κs = tt
+answer-requires : tie.Need-answer-requires
+answer-requires c κs = tt
 
 returns-3 : tie.Need-returns-3
-returns-3 c = both-greater _ _ _ _ _ (c .before .before .before .before .before .before .before .x .given .1) (c .before .before .before .before .y .given .1) (toZ-ofZ w64 _ (record { sfits = c .before .before .before .before .before .before .known-told .given .0 .1 })) (toZ-ofZ w64 _ (record { sfits = c .before .before .before .known-told2 .given .0 .1 })) (c .before .before .if1 .taken) (c .before .is-greater .ensures) (c .plain-value .ensures)
+returns-3 c = both-greater _ _ _ _ _ (c .before .before .before .before .before .before .before .x .given .1) (c .before .before .before .before .y .given .1) (toZ-ofZ w64 _ (record { sfits = c .before .before .before .before .before .before .known-told .given .0 .1 })) (toZ-ofZ w64 _ (record { sfits = c .before .before .before .known-told2 .given .0 .1 })) (c .before .before .if1 .taken) (c .before .is-greater .ensures) (c .answer .ensures)
 
 compute-requires : tie.Need-compute-requires
 compute-requires c κs = search needs
@@ -56,7 +56,7 @@ both-integers-spec =
     at-requires-2
     returns-2
     is-greater-requires
-    plain-value-requires
+    answer-requires
     returns-3
     compute-requires
     computed-at-requires

@@ -13,11 +13,11 @@ returns c = combines-integers _ _ _ _ _ (c .before .if1 .taken) (c .both-integer
 same-value-requires : tie.Need-same-value-requires
 same-value-requires c κs = tt
 
-plain-value-requires : tie.Need-plain-value-requires
-plain-value-requires c κs = tt
+answer-requires : tie.Need-answer-requires
+answer-requires c κs = tt
 
 returns-2 : tie.Need-returns-2
-returns-2 c = combines-equal _ _ _ _ _ (c .before .before .if2 .taken) (c .before .same-value .ensures) (c .plain-value .ensures)
+returns-2 c = combines-equal _ _ _ _ _ (c .before .before .if2 .taken) (c .before .same-value .ensures) (c .answer .ensures)
 
 right-boolean-requires : tie.Need-right-boolean-requires
 right-boolean-requires c κs = search needs
@@ -32,7 +32,7 @@ combine-spec =
     both-integers-requires
     returns
     same-value-requires
-    plain-value-requires
+    answer-requires
     returns-2
     right-boolean-requires
     returns-3)

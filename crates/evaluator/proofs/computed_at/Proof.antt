@@ -10,8 +10,8 @@ use Rattle.evaluator.proofs.computed_at.Tie as tie
 enum-known-c : tie.Need-enum-known-c
 enum-known-c c = c .match .keys1
 
-plain-value-requires : tie.Need-plain-value-requires
-plain-value-requires c κs = tt
+answer-requires : tie.Need-answer-requires
+answer-requires c κs = tt
 
 enum-told : tie.Need-enum-told
 enum-told c = c .match .keys2
@@ -26,7 +26,7 @@ at-requires-2 : tie.Need-at-requires-2
 at-requires-2 c κs = search needs
 
 returns : tie.Need-returns
-returns c = computed-whole _ (c .before .before .c .given .1) (toZ-ofZ w64 _ (record { sfits = c .before .known-told .given .0 .1 })) (c .plain-value .ensures)
+returns c = computed-whole _ (c .before .before .c .given .1) (toZ-ofZ w64 _ (record { sfits = c .before .known-told .given .0 .1 })) (c .answer .ensures)
 
 returns-2 : tie.Need-returns-2
 returns-2 c = computed-large _ (c .before .enum-told .given .1) (refusal-is (c .at .ensures))
@@ -39,7 +39,7 @@ computed-at-spec =
     tie.close
     (tie.spec
     enum-known-c
-    plain-value-requires
+    answer-requires
     enum-told
     at-requires
     enum-told-2

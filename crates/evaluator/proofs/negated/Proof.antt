@@ -16,12 +16,12 @@ at-requires c κs = search needs
 returns : tie.Need-returns
 returns c = negates-unlike _ _ (λ e. ⊎-elim (λ p. omega arith) (λ p. omega arith) (c .before .match .keys2)) (refusal-is (c .at .ensures))
 
-plain-value-requires : tie.Need-plain-value-requires
-plain-value-requires c κs = tt
+answer-requires : tie.Need-answer-requires
+answer-requires c κs = tt
 
 returns-2 : tie.Need-returns-2
-returns-2 c = negates _ _ (c .before .before .x .given .1) (c .plain-value .ensures)
+returns-2 c = negates _ _ (c .before .before .x .given .1) (c .answer .ensures)
 
 pub negated-spec : {M : Type 1} → statement M
 negated-spec =
-    tie.close (tie.spec enum-known-x at-requires returns plain-value-requires returns-2)
+    tie.close (tie.spec enum-known-x at-requires returns answer-requires returns-2)

@@ -1,14 +1,18 @@
--- `read_up`: the loop keeps this: the marks joined so far, joined to what the scopes from here on give, is what all give. It ends since `left` falls.
-use Rattle.evaluator.proofs.Outcomes.{refusal-is}
-use Rattle.evaluator.proofs.Reading.{beyond, read-here, pass-empty, pass-none, read-end, read-on, read-out, read-begin}
+-- `read_up`: the loop keeps this: with the set as it is, what the scopes from here on give is what all give with the set as it was. It ends since `left` falls.
+use Rattle.evaluator.proofs.Outcomes.{refusal-told}
+use Rattle.evaluator.proofs.Reading.{beyond, read-here, pass-empty, pass-none, read-end, read-on, read-out}
+use Rattle.evaluator.specs.Known.{variableIn}
 use Rattle.cells.specs.Memory.{cellsOf, classesOf, baseFor}
 use Rattle.cells.specs.Scopes.{scopeOf}
 use Rattle.cells.proofs.Ways.{in-slots}
 use Rattle.rules.specs.Evaluate.{readIn}
 use Rattle.rules.specs.State.{upward}
 use Rattle.rules.specs.Outcome.{joining}
-use Rattle.labels.specs.Sets.{noLabels}
-use mathlib.Core.Path.{_≡_, _∙_}
+use Rattle.labels.specs.Words.{labelsIn, Grows}
+use Rattle.labels.proofs.Words.{grows-none, grows-joined, grows-on}
+use Prim.Native.Nat.{ℕ}
+use mathlib.Core.List.{List}
+use mathlib.Core.Path.{_≡_, refl, sym, ap, _∙_, subst}
 use mathlib.Core.Logic.{⊎-elim}
 use denote.Ref.{now}
 use native.Mathlib.Omega.{arith}
@@ -16,47 +20,53 @@ use Rattle.evaluator.proofs.read_up.Statement.{statement}
 use Rattle.evaluator.proofs.read_up.Tie as tie
 
 abbrev Inv-loop : tie.InvT-loop
-Inv-loop work p scope name tries marks₀ at₀ left₀ marks at left = joining marks (readIn p (cellsOf work) name (upward left (classesOf work) (baseFor (scope .«base_is_node»)) (scopeOf at))) ≡ readIn p (cellsOf work) name (upward tries (classesOf work) (baseFor (scope .«base_is_node»)) (scopeOf (scope .number)))
+Inv-loop work p variable set₀ name at₀ left₀ set at left = Grows set₀ set × (joining (labelsIn set) (readIn p (cellsOf work) name (upward left (classesOf work) (baseFor (variable .scope .«base_is_node»)) (scopeOf at))) ≡ joining (labelsIn set₀) (variableIn work p variable))
 
 abbrev μ-loop : tie.MeasureT-loop
-μ-loop work p scope name tries marks₀ at₀ left₀ marks at left = left
+μ-loop work p variable set₀ name at₀ left₀ set at left = left
 
 loop-holds : tie.Need-loop-holds Inv-loop μ-loop
-unfolding noLabels
-loop-holds c = read-begin _ _ _ _ _ _ _
+unfolding variableIn
+loop-holds c = (grows-none (c .before .pre .1), refl)
 
 slot-for-requires : tie.Need-slot-for-requires Inv-loop μ-loop
-slot-for-requires c κs = c .before .before .before .pre .0
+slot-for-requires c κs = c .before .before .before .pre .0 .0
 
 enum-known-i : tie.Need-enum-known-i Inv-loop μ-loop
 enum-known-i c = c .match .keys1
 
 mark-at-requires : tie.Need-mark-at-requires Inv-loop μ-loop
-mark-at-requires c κs = (in-slots _ _ _ _ _ (c .before .before .before .slot-for .ensures) (c .before .i .given .1), c .before .before .before .before .before .before .before .pre .0)
+mark-at-requires c κs = (in-slots _ _ _ _ _ (c .before .before .before .before .slot-for .ensures) (c .before .before .i .given .1), c .before .before .before .before .before .before .before .before .pre .0 .0)
 
-union-requires : tie.Need-union-requires Inv-loop μ-loop
-union-requires c κs = tt
+join-requires : tie.Need-join-requires Inv-loop μ-loop
+join-requires c κs = c .before .before .before .before .before .before .before .loop .inv .0 .size
 
 has-value-requires : tie.Need-has-value-requires Inv-loop μ-loop
-has-value-requires c κs = mark-at-requires (c .before .before) κs
+has-value-requires c κs = (in-slots _ _ _ _ _ (c .before .before .before .before .before .before .slot-for .ensures) (c .before .before .before .before .i .given .1), c .before .before .before .before .before .before .before .before .before .before .pre .0 .0)
 
 labels-at-requires : tie.Need-labels-at-requires Inv-loop μ-loop
-labels-at-requires c κs = mark-at-requires (c .before .before .before .before) κs
+labels-at-requires c κs = (in-slots _ _ _ _ _ (c .before .before .before .before .before .before .before .before .before .slot-for .ensures) (c .before .before .before .before .before .before .before .i .given .1), c .before .before .before .before .before .before .before .before .before .before .before .before .before .pre .0 .0)
 
-union-requires-2 : tie.Need-union-requires-2 Inv-loop μ-loop
-union-requires-2 c κs = tt
+join-requires-2 : tie.Need-join-requires-2 Inv-loop μ-loop
+join-requires-2 c κs = c .before .before .before .before .join .ensures .size
 
 value-at-requires : tie.Need-value-at-requires Inv-loop μ-loop
-value-at-requires c κs = mark-at-requires (c .before .before .before .before .before .before) κs
+value-at-requires c κs = (in-slots _ _ _ _ _ (c .before .before .before .before .before .before .before .before .before .before .before .slot-for .ensures) (c .before .before .before .before .before .before .before .before .before .i .given .1), c .before .before .before .before .before .before .before .before .before .before .before .before .before .before .before .pre .0 .0)
+
+answer-requires : tie.Need-answer-requires Inv-loop μ-loop
+answer-requires c κs = tt
 
 returns : tie.Need-returns Inv-loop μ-loop
-returns c = read-here _ _ _ _ _ _ _ (c .before .before .before .before .before .before .before .before .before .before .before .before .loop .inv) (c .before .before .before .before .before .before .before .before .before .before .before .loop-test .taken) (c .before .before .before .before .before .before .before .before .before .before .slot-for .ensures) _ (c .before .before .before .before .before .before .before .before .i .given .1) (c .before .before .before .before .before .before .mark-at .ensures) (c .before .before .before .before .before .union .ensures) (c .before .before .before .before .has-value .ensures) (c .before .before .before .if1 .taken) (c .before .before .labels-at .ensures) (c .before .union2 .ensures) (c .value-at .ensures)
+returns c = record {
+  grows = grows-on (c .before .before .before .before .before .before .before .before .before .before .before .before .before .before .before .loop .inv .0) (grows-on (grows-joined (c .before .before .before .before .before .before .before .join .ensures)) (grows-joined (c .before .before .join2 .ensures)));
+  says = read-here _ _ _ _ _ _ _ (c .before .before .before .before .before .before .before .before .before .before .before .before .before .before .before .loop .inv .1) (c .before .before .before .before .before .before .before .before .before .before .before .before .before .before .loop-test .taken) (c .before .before .before .before .before .before .before .before .before .before .before .before .before .slot-for .ensures) _ (c .before .before .before .before .before .before .before .before .before .before .before .i .given .1) (c .before .before .before .before .before .before .before .before .mark-at .ensures) (c .before .before .before .before .before .before .before .join .ensures .labels) (c .before .before .before .before .before .before .has-value .ensures) _ (c .before .before .before .before .before .if1 .taken) (c .before .before .before .labels-at .ensures) (c .before .before .join2 .ensures .labels) (c .before .value-at .ensures) (c .answer .ensures);
+}
 
 enum-told : tie.Need-enum-told Inv-loop μ-loop
 enum-told c = c .match .keys2
 
 parent-of-requires : tie.Need-parent-of-requires Inv-loop μ-loop
-parent-of-requires c κs = c .before .before .before .before .before .pre .0
+parent-of-requires c κs = c .before .before .before .before .before .pre .0 .0
 
 enum-known-q : tie.Need-enum-known-q Inv-loop μ-loop
 enum-known-q c = c .match2 .keys1
@@ -68,20 +78,26 @@ enum-told-2 c = c .match2 .keys2
 passed : (c : tie.At-match-came Inv-loop μ-loop)
     → let start = c .before .before .before .before .before in
     let loop = c .before .before .before .loop in
-    let base = baseFor (start .args .scope .«base_is_node») in
+    let base = baseFor (start .args .variable .scope .«base_is_node») in
     let work = now (start .args .work) in
-    joining (c .match .marks) (beyond (start .args .p) (cellsOf work) (start .args .name) (classesOf work) base (loop .left) (scopeOf (loop .at))) ≡ readIn (start .args .p) (cellsOf work) (start .args .name) (upward (start .args .tries) (classesOf work) base (scopeOf (start .args .scope .number)))
+    joining (labelsIn (c .match .set)) (beyond (start .args .p) (cellsOf work) (start .args .variable .name) (classesOf work) base (loop .left) (scopeOf (loop .at))) ≡ joining (labelsIn (now (start .args .set))) (variableIn work (start .args .p) (start .args .variable))
 passed c =
-    let so-far = c .before .before .before .loop .inv in
+    let so-far = c .before .before .before .loop .inv .1 in
     let more = c .before .before .loop-test .taken in
     let found = c .before .slot-for .ensures in
-    ⊎-elim (λ w. pass-empty _ _ _ _ _ _ _ so-far more found _ (w .1 .given .1) (w .3 .ensures) (w .7 ∙ w .4 .ensures) (w .5 .ensures) (w .6 .left)) (λ w. pass-none _ _ _ _ _ _ _ so-far more found (w .1 .given .1) (w .2)) (c .match .came)
+    ⊎-elim (λ w. pass-empty _ _ _ _ _ _ _ so-far more found _ (w .1 .given .1) (w .4 .ensures) (ap labelsIn (w .8) ∙ w .5 .ensures .labels) (w .6 .ensures) (w .7 .left)) (λ w. pass-none _ _ _ _ _ _ _ so-far more found (w .1 .given .1) (ap labelsIn (w .2))) (c .match .came)
+
+grown : (c : tie.At-match-came Inv-loop μ-loop) → Grows (now (c .before .before .before .before .before .args .set)) (c .match .set)
+grown c =
+    let start = now (c .before .before .before .before .before .args .set) in
+    let so-far = c .before .before .before .loop .inv .0 in
+    ⊎-elim (λ w. subst (λ (s : List ℕ). Grows start s) (sym (w .8)) (grows-on so-far (grows-joined (w .5 .ensures)))) (λ w. subst (λ (s : List ℕ). Grows start s) (sym (w .2)) so-far) (c .match .came)
 
 at-requires : tie.Need-at-requires Inv-loop μ-loop
-at-requires c κs = c .before .before .before .before .before .before .before .before .pre .1
+at-requires c κs = c .before .before .before .before .before .before .before .before .pre .0 .1
 
 returns-2 : tie.Need-returns-2 Inv-loop μ-loop
-returns-2 c = read-end _ _ _ _ _ _ _ _ (passed (c .before .before .before .before)) (c .before .before .before .parent-of .ensures) (c .before .enum-told2 .given .1) (refusal-is (c .at .ensures))
+returns-2 c = record { grows = grown (c .before .before .before .before); says = read-end _ _ _ _ _ _ _ _ (passed (c .before .before .before .before)) (c .before .before .before .parent-of .ensures) (c .before .enum-told2 .given .1) (refusal-told _ (c .at .ensures)) }
 
 sub-left : tie.Need-sub-left Inv-loop μ-loop
 sub-left c = omega (arith, c .before .before .before .before .before .before .loop-test .taken)
@@ -90,13 +106,13 @@ loop-less : tie.Need-loop-less Inv-loop μ-loop
 loop-less c = omega (arith, c .before .before .before .before .before .before .loop-test .taken)
 
 loop-again : tie.Need-loop-again Inv-loop μ-loop
-loop-again c = read-on _ _ _ _ _ _ _ _ (passed (c .before .before .before .before)) (c .before .before .before .parent-of .ensures) (c .before .q .given .1)
+loop-again c = (grown (c .before .before .before .before), read-on _ _ _ _ _ _ _ _ (passed (c .before .before .before .before)) (c .before .before .before .parent-of .ensures) (c .before .q .given .1))
 
 at-requires-2 : tie.Need-at-requires-2 Inv-loop μ-loop
-at-requires-2 c κs = c .before .before .before .pre .1
+at-requires-2 c κs = c .before .before .before .pre .0 .1
 
 returns-3 : tie.Need-returns-3 Inv-loop μ-loop
-returns-3 c = read-out _ _ _ _ _ _ _ _ (c .before .before .loop .inv) (omega (arith, c .before .loop-test .left)) (refusal-is (c .at2 .ensures))
+returns-3 c = record { grows = c .before .before .loop .inv .0; says = read-out _ _ _ _ _ _ _ _ (c .before .before .loop .inv .1) (omega (arith, c .before .loop-test .left)) (refusal-told _ (c .at2 .ensures)) }
 
 pub read-up-spec : {M : Type 1} → statement M
 read-up-spec =
@@ -108,11 +124,12 @@ read-up-spec =
     slot-for-requires
     enum-known-i
     mark-at-requires
-    union-requires
+    join-requires
     has-value-requires
     labels-at-requires
-    union-requires-2
+    join-requires-2
     value-at-requires
+    answer-requires
     returns
     enum-told
     parent-of-requires

@@ -16,12 +16,12 @@ at-requires c κs = search needs
 returns : tie.Need-returns
 returns c = boolean-unlike _ _ (λ e. ⊎-elim (λ p. omega arith) (λ p. omega arith) (c .before .match .keys2)) (refusal-is (c .at .ensures))
 
-plain-value-requires : tie.Need-plain-value-requires
-plain-value-requires c κs = tt
+answer-requires : tie.Need-answer-requires
+answer-requires c κs = tt
 
 returns-2 : tie.Need-returns-2
-returns-2 c = boolean-right _ _ (c .before .before .match .keys1) (c .plain-value .ensures)
+returns-2 c = boolean-right _ _ (c .before .before .match .keys1) (c .answer .ensures)
 
 pub right-boolean-spec : {M : Type 1} → statement M
 right-boolean-spec =
-    tie.close (tie.spec enum-told at-requires returns plain-value-requires returns-2)
+    tie.close (tie.spec enum-told at-requires returns answer-requires returns-2)

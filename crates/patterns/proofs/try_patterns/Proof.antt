@@ -1,24 +1,19 @@
 -- `try_patterns`: at the loop's head, what was tried and the patterns left give the whole.
-use mathlib.Core.Path.{_≡_, refl, _∙_}
 use Prim.Native.Nat.{_-_}
 use native.Mathlib.Omega.{arith}
-use lib.ListN.{length}
-use Rattle.labels.specs.Sets.{noLabels}
-use Rattle.patterns.specs.Words.{labelsIn}
 use Rattle.patterns.proofs.Trying.{none-tried}
 use Rattle.patterns.proofs.Ways.{TriedTo, at-end, at-default, at-equal, at-other}
 use Rattle.patterns.proofs.try_patterns.Statement.{statement}
 use Rattle.patterns.proofs.try_patterns.Tie as tie
 
 abbrev Inv-loop : tie.InvT-loop
-Inv-loop m from end x tried₀ default₀ q₀ tried default q = TriedTo m from end x (labelsIn tried) default q × (length tried ≡ 4)
+Inv-loop m from end x set₀ default₀ q₀ set default q = TriedTo m from end x set₀ set default q
 
 abbrev μ-loop : tie.MeasureT-loop
-μ-loop m from end x tried₀ default₀ q₀ tried default q = end - q
+μ-loop m from end x set₀ default₀ q₀ set default q = end - q
 
 loop-holds : tie.Need-loop-holds Inv-loop μ-loop
-unfolding noLabels
-loop-holds c = (none-tried _ _ _ _, refl)
+loop-holds c = none-tried _ _ _ _ _ (c .before .pre .1)
 
 add-pattern : tie.Need-add-pattern Inv-loop μ-loop
 add-pattern c = omega arith
@@ -39,7 +34,7 @@ loop-less : tie.Need-loop-less Inv-loop μ-loop
 loop-less c = omega arith
 
 loop-again : tie.Need-loop-again Inv-loop μ-loop
-loop-again c = (at-default _ _ _ _ _ _ _ (c .before .before .before .before .before .before .loop .inv .0) (c .before .before .before .before .before .loop-test .taken) (c .before .before .before .before .byte-at .ensures) (c .before .before .before .if1 .taken) (c .before .before .end-of .ensures) (c .before .first-default .ensures) (c .end-of2 .ensures), c .before .before .before .before .before .before .loop .inv .1)
+loop-again c = at-default _ _ _ _ _ _ _ _ (c .before .before .before .before .before .before .loop .inv) (c .before .before .before .before .before .loop-test .taken) (c .before .before .before .before .byte-at .ensures) (c .before .before .before .if1 .taken) (c .before .before .end-of .ensures) (c .before .first-default .ensures) (c .end-of2 .ensures)
 
 add-byte-at : tie.Need-add-byte-at Inv-loop μ-loop
 add-byte-at c = omega arith
@@ -48,7 +43,7 @@ byte-at-requires-2 : tie.Need-byte-at-requires-2 Inv-loop μ-loop
 byte-at-requires-2 c κs = tt
 
 join-label-requires : tie.Need-join-label-requires Inv-loop μ-loop
-join-label-requires c κs = c .before .before .before .before .before .loop .inv .1
+join-label-requires c κs = c .before .before .before .before .before .loop .inv .size
 
 equals-constant-requires : tie.Need-equals-constant-requires Inv-loop μ-loop
 equals-constant-requires c κs = (c .before .before .before .before .byte-at .ensures, omega arith)
@@ -56,11 +51,8 @@ equals-constant-requires c κs = (c .before .before .before .before .byte-at .en
 end-of-requires-3 : tie.Need-end-of-requires-3 Inv-loop μ-loop
 end-of-requires-3 c κs = omega arith
 
-labels-of-requires : tie.Need-labels-of-requires Inv-loop μ-loop
-labels-of-requires c κs = tt
-
 returns : tie.Need-returns Inv-loop μ-loop
-returns c = at-equal _ _ _ _ _ _ _ (c .before .before .before .before .before .before .before .before .before .before .before .loop .inv .0) (c .before .before .before .before .before .before .before .before .before .before .loop-test .taken) (c .before .before .before .before .before .before .before .before .before .byte-at .ensures) (c .before .before .before .before .before .before .before .before .if1 .left) (c .before .before .before .before .before .before .byte-at2 .ensures) (c .before .before .before .before .before .join-label .ensures .labels) (c .before .before .before .before .equals-constant .ensures) (c .before .before .before .if2 .taken) (c .before .before .end-of3 .ensures) (c .labels-of .ensures)
+returns c = at-equal _ _ _ _ _ _ _ _ (c .before .before .before .before .before .before .before .before .before .loop .inv) (c .before .before .before .before .before .before .before .before .loop-test .taken) (c .before .before .before .before .before .before .before .byte-at .ensures) (c .before .before .before .before .before .before .if1 .left) (c .before .before .before .before .byte-at2 .ensures) (c .before .before .before .join-label .ensures) (c .before .before .equals-constant .ensures) (c .before .if2 .taken) (c .end-of3 .ensures)
 
 end-of-requires-4 : tie.Need-end-of-requires-4 Inv-loop μ-loop
 end-of-requires-4 c κs = omega arith
@@ -69,13 +61,10 @@ loop-less-2 : tie.Need-loop-less-2 Inv-loop μ-loop
 loop-less-2 c = omega arith
 
 loop-again-2 : tie.Need-loop-again-2 Inv-loop μ-loop
-loop-again-2 c = (at-other _ _ _ _ _ _ _ (c .before .before .before .before .before .before .before .before .before .loop .inv .0) (c .before .before .before .before .before .before .before .before .loop-test .taken) (c .before .before .before .before .before .before .before .byte-at .ensures) (c .before .before .before .before .before .before .if1 .left) (c .before .before .before .before .byte-at2 .ensures) (c .before .before .before .join-label .ensures .labels) (c .before .before .equals-constant .ensures) (c .before .if2 .left) (c .end-of4 .ensures), c .before .before .before .join-label .ensures .size ∙ c .before .before .before .before .before .before .before .before .before .loop .inv .1)
-
-labels-of-requires-2 : tie.Need-labels-of-requires-2 Inv-loop μ-loop
-labels-of-requires-2 c κs = tt
+loop-again-2 c = at-other _ _ _ _ _ _ _ _ (c .before .before .before .before .before .before .before .before .before .loop .inv) (c .before .before .before .before .before .before .before .before .loop-test .taken) (c .before .before .before .before .before .before .before .byte-at .ensures) (c .before .before .before .before .before .before .if1 .left) (c .before .before .before .before .byte-at2 .ensures) (c .before .before .before .join-label .ensures) (c .before .before .equals-constant .ensures) (c .before .if2 .left) (c .end-of4 .ensures)
 
 returns-2 : tie.Need-returns-2 Inv-loop μ-loop
-returns-2 c = at-end _ _ _ _ _ _ _ (c .before .before .before .loop .inv .0) (c .before .before .loop-test .left) (c .labels-of2 .ensures)
+returns-2 c = at-end _ _ _ _ _ _ _ _ (c .before .loop .inv) (c .loop-test .left)
 
 pub try-patterns-spec : {M : Type 1} → statement M
 try-patterns-spec =
@@ -96,10 +85,8 @@ try-patterns-spec =
     join-label-requires
     equals-constant-requires
     end-of-requires-3
-    labels-of-requires
     returns
     end-of-requires-4
     loop-less-2
     loop-again-2
-    labels-of-requires-2
     returns-2)

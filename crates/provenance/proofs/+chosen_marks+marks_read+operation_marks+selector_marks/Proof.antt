@@ -68,6 +68,7 @@ pub +chosen-marks+marks-read+operation-marks+selector-marks-spec : {M : Type 1} 
     (λ c κs. tt)
     (selector-marks-answers.marks-read-requires t)
     (selector-marks-answers.evaluate-requires t)
+    (λ c κs. tt)
     (λ c. c .match .keys1)
     (λ c. c .match .keys2)
     (selector-marks-answers.add-end-of t)

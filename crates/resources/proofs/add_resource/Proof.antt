@@ -1,8 +1,11 @@
 -- `add_resource`: the title is refused, or what follows it runs.
-use mathlib.Core.Path.{ap}
-use Rattle.resources.specs.declared.Filled.the-variants.{Refused}
-use Prim.Native.Nat.{_-_}
+use mathlib.Core.Path.{refl, ap}
 use native.Mathlib.Omega.{arith}
+use Rattle.labels.specs.Sets.{noLabels}
+use Rattle.evaluator.proofs.Expressions.{resized}
+use Rattle.evaluator.proofs.Fresh.{fresh-refusal, fresh-value}
+use Prim.Native.Nat.{_-_}
+use Rattle.resources.specs.declared.Filled.the-variants.{Refused}
 use Rattle.resources.proofs.Whole.{resource-flat, resource-stops, resource-goes-on}
 use borrow.Author.Needs.{needs}
 use Rattle.resources.proofs.add_resource.Statement.{statement}
@@ -24,13 +27,19 @@ place-requires : tie.Need-place-requires
 place-requires c κs = search needs
 
 evaluate-requires : tie.Need-evaluate-requires
-evaluate-requires c κs = search needs
+evaluate-requires c κs = (resized (c .before .before .before .before .before .before .before .before .pre .0) (c .before .before .place .ensures .0), refl)
 
-enum-known-t : tie.Need-enum-known-t
-enum-known-t c = search needs
+value-of-requires : tie.Need-value-of-requires
+value-of-requires c κs = tt
 
-enum-known-t-2 : tie.Need-enum-known-t-2
-enum-known-t-2 c = search needs
+enum-known-refusal : tie.Need-enum-known-refusal
+enum-known-refusal c = c .match .keys1
+
+enum-known-value : tie.Need-enum-known-value
+enum-known-value c = c .match .keys2
+
+in-words-requires : tie.Need-in-words-requires
+in-words-requires c κs = search needs
 
 add-titled-requires : tie.Need-add-titled-requires
 add-titled-requires c κs = search needs
@@ -39,13 +48,15 @@ same-length : tie.Need-same-length
 same-length c = search needs
 
 returns-2 : tie.Need-returns-2
-returns-2 c = resource-stops _ _ _ _ _ _ _ _ _ {b = c .before .before .before .before .before .before .before .before .before .before .before .args .depth - 1} (omega (arith, c .before .before .before .before .before .before .before .if1 .left)) (c .before .before .before .before .before .before .before .before .before .before .before .pre .0 .manifest) (c .before .before .before .before .before .place .ensures) _ (c .before .before .before .evaluate .ensures) (c .before .t .given .1)
+unfolding noLabels
+returns-2 c = resource-stops _ _ _ _ _ _ _ _ _ {b = c .before .before .before .before .before .before .before .before .before .before .before .before .before .args .depth - 1} (omega (arith, c .before .before .before .before .before .before .before .before .before .if1 .left)) (c .before .before .before .before .before .before .before .before .before .before .before .before .before .pre .0 .manifest) (c .before .before .before .before .before .before .before .place .ensures) (λ s. fresh-refusal refl (c .before .before .before .before .evaluate .ensures .1 s) (c .before .before .before .value-of .ensures) (c .before .refusal .given .1)) refl
 
 same-length-2 : tie.Need-same-length-2
 same-length-2 c = search needs
 
 returns-3 : tie.Need-returns-3
-returns-3 c = resource-goes-on _ _ _ _ _ _ _ _ _ {b = c .before .before .before .before .before .before .before .before .before .before .before .before .before .before .before .args .depth - 1} (omega (arith, c .before .before .before .before .before .before .before .before .before .before .before .if1 .left)) (c .before .before .before .before .before .before .before .before .before .before .before .before .before .before .before .pre .0 .manifest) (c .before .before .before .before .before .before .before .before .before .place .ensures) _ (c .before .before .before .before .before .before .before .evaluate .ensures) _ {inner = c .before .before .before .before .before .before .before .before .before .before .before .before .before .before .before .args .depth - 2} (c .before .before .before .before .before .t2 .given .1) (omega (arith, c .before .before .before .before .before .before .before .before .before .before .before .if1 .left)) (c .before .before .add-titled .ensures)
+unfolding noLabels
+returns-3 c = resource-goes-on _ _ _ _ _ _ _ _ _ {b = c .before .before .before .before .before .before .before .before .before .before .before .before .before .before .before .before .before .before .before .args .depth - 1} (omega (arith, c .before .before .before .before .before .before .before .before .before .before .before .before .before .before .before .if1 .left)) (c .before .before .before .before .before .before .before .before .before .before .before .before .before .before .before .before .before .before .before .pre .0 .manifest) (c .before .before .before .before .before .before .before .before .before .before .before .before .before .place .ensures) (λ s. fresh-value refl (c .before .before .before .before .before .before .before .before .before .before .evaluate .ensures .1 s) (c .before .before .before .before .before .before .before .before .before .value-of .ensures) (c .before .before .before .before .before .before .before .value .given .1) (c .before .before .before .before .in-words .ensures)) _ {inner = c .before .before .before .before .before .before .before .before .before .before .before .before .before .before .before .before .before .before .before .args .depth - 2} refl (omega (arith, c .before .before .before .before .before .before .before .before .before .before .before .before .before .before .before .if1 .left)) (c .before .before .add-titled .ensures)
 
 pub add-resource-spec : {M : Type 1} → statement M
 add-resource-spec =
@@ -57,8 +68,10 @@ add-resource-spec =
     add-place
     place-requires
     evaluate-requires
-    enum-known-t
-    enum-known-t-2
+    value-of-requires
+    enum-known-refusal
+    enum-known-value
+    in-words-requires
     add-titled-requires
     same-length
     returns-2

@@ -1,3 +1,7 @@
+-- `assign`: the expression refuses, or its value is stored.
+use Rattle.evaluator.proofs.Fresh.{fresh-refusal, fresh-value}
+use Rattle.labels.specs.Sets.{noLabels}
+use mathlib.Core.Path.{refl}
 use native.Mathlib.Omega.{arith}
 use Rattle.branches.proofs.Standing.{has-level}
 use Rattle.evaluator.proofs.Expressions.{resized}
@@ -5,11 +9,6 @@ use Rattle.statements.proofs.Assigning.{value-place, assign-refused, as
 use borrow.Author.Needs.{needs}
 use Rattle.statements.proofs.assign.Statement.{statement}
 use Rattle.statements.proofs.assign.Tie as tie
-use Rattle.statements.proofs.assign.Reads as reads
-use Rattle.statements.proofs.assign.Lts as lts
-use Rattle.evaluator.proofs.evaluate.Reads as evaluate-reads
-use Rattle.statements.proofs.store.Reads as store-reads
-use Rattle.wire.proofs.two_at.Reads as two-at-reads
 
 sub-evaluate : tie.Need-sub-evaluate
 sub-evaluate c = omega (arith, has-level (c .before .before .before .before .pre .0 .1))
@@ -18,13 +17,19 @@ add-evaluate : tie.Need-add-evaluate
 add-evaluate c = search needs
 
 evaluate-requires : tie.Need-evaluate-requires
-evaluate-requires c κs = let pre = c .before .before .before .before .before .pre in resized (pre .0 .0) (value-place (pre .0 .1) (pre .1 .0) (pre .0 .0 .manifest))
+evaluate-requires c κs = let pre = c .before .before .before .before .before .before .pre in (resized (pre .0 .0) (value-place (pre .0 .1) (pre .1 .0) (pre .0 .0 .manifest)), refl)
 
-enum-known-e : tie.Need-enum-known-e
-enum-known-e c = search needs
+value-of-requires : tie.Need-value-of-requires
+value-of-requires c κs = tt
 
-enum-known-e-2 : tie.Need-enum-known-e-2
-enum-known-e-2 c = search needs
+enum-known-refusal : tie.Need-enum-known-refusal
+enum-known-refusal c = c .match .keys1
+
+enum-known-value : tie.Need-enum-known-value
+enum-known-value c = c .match .keys2
+
+in-words-requires : tie.Need-in-words-requires
+in-words-requires c κs = search needs
 
 add-two-at : tie.Need-add-two-at
 add-two-at c = search needs
@@ -39,13 +44,15 @@ same-length : tie.Need-same-length
 same-length c = search needs
 
 returns : tie.Need-returns
-returns c = let pre = c .before .before .before .before .before .before .before .before .before .pre in assign-refused _ (pre .0 .1) (pre .1 .0) _ (c .before .before .before .evaluate .ensures) _ (c .before .e .given .1)
+unfolding noLabels
+returns c = let pre = c .before .before .before .before .before .before .before .before .before .before .before .pre in assign-refused _ (pre .0 .1) (pre .1 .0) (λ s. fresh-refusal refl (c .before .before .before .before .evaluate .ensures .1 s) (c .before .before .before .value-of .ensures) (c .before .refusal .given .1)) _ refl
 
 same-length-2 : tie.Need-same-length-2
 same-length-2 c = search needs
 
 returns-2 : tie.Need-returns-2
-returns-2 c = let pre = c .before .before .before .before .before .before .before .before .before .before .before .before .before .before .pre in assign-stored _ (pre .0 .1) (pre .1 .0) _ (c .before .before .before .before .before .before .before .before .evaluate .ensures) _ _ (c .before .before .before .before .before .before .e2 .given .1) (c .before .before .before .before .two-at .ensures) (c .before .before .store .ensures)
+unfolding noLabels
+returns-2 c = let pre = c .before .before .before .before .before .before .before .before .before .before .before .before .before .before .before .before .before .before .pre in assign-stored _ (pre .0 .1) (pre .1 .0) (λ s. fresh-value refl (c .before .before .before .before .before .before .before .before .before .before .before .evaluate .ensures .1 s) (c .before .before .before .before .before .before .before .before .before .before .value-of .ensures) (c .before .before .before .before .before .before .before .before .value .given .1) (c .before .before .before .before .before .in-words .ensures)) _ _ refl (c .before .before .before .before .two-at .ensures) (c .before .before .store .ensures)
 
 pub assign-spec : {M : Type 1} → statement M
 assign-spec =
@@ -54,8 +61,10 @@ assign-spec =
     sub-evaluate
     add-evaluate
     evaluate-requires
-    enum-known-e
-    enum-known-e-2
+    value-of-requires
+    enum-known-refusal
+    enum-known-value
+    in-words-requires
     add-two-at
     two-at-requires
     store-requires

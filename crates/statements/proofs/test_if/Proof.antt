@@ -1,6 +1,11 @@
+-- `test_if`: the condition refuses, or its value decides.
+use Rattle.evaluator.proofs.Fresh.{fresh-refusal, fresh-value}
+use Rattle.labels.specs.Sets.{noLabels}
+use mathlib.Core.Path.{refl}
 use native.Mathlib.Omega.{arith}
 use Rattle.branches.proofs.Standing.{has-level}
-use Rattle.statements.proofs.Conditions.{test-refused, test-decided}
+use Rattle.evaluator.proofs.Expressions.{resized}
+use Rattle.statements.proofs.Conditions.{condition-place, test-refused, test-decided}
 use borrow.Author.Needs.{needs}
 use Rattle.statements.proofs.test_if.Statement.{statement}
 use Rattle.statements.proofs.test_if.Tie as tie
@@ -12,13 +17,19 @@ add-evaluate : tie.Need-add-evaluate
 add-evaluate c = search needs
 
 evaluate-requires : tie.Need-evaluate-requires
-evaluate-requires c κs = search needs
+evaluate-requires c κs = let pre = c .before .before .before .before .before .before .pre in (resized (pre .0 .0) (condition-place (pre .0 .1 .stands) (pre .0 .0 .manifest)), refl)
 
-enum-known-e : tie.Need-enum-known-e
-enum-known-e c = search needs
+value-of-requires : tie.Need-value-of-requires
+value-of-requires c κs = tt
 
-enum-known-e-2 : tie.Need-enum-known-e-2
-enum-known-e-2 c = search needs
+enum-known-refusal : tie.Need-enum-known-refusal
+enum-known-refusal c = c .match .keys1
+
+enum-known-value : tie.Need-enum-known-value
+enum-known-value c = c .match .keys2
+
+in-words-requires : tie.Need-in-words-requires
+in-words-requires c κs = search needs
 
 decide-if-requires : tie.Need-decide-if-requires
 decide-if-requires c κs = search needs
@@ -27,13 +38,15 @@ same-length : tie.Need-same-length
 same-length c = search needs
 
 returns : tie.Need-returns
-returns c = test-refused _ (c .before .before .before .before .before .before .before .before .before .pre .0 .1 .stands) (c .before .before .before .before .before .before .before .before .before .pre .1) _ (c .before .before .before .evaluate .ensures) _ (c .before .e .given .1)
+unfolding noLabels
+returns c = let pre = c .before .before .before .before .before .before .before .before .before .before .before .pre in test-refused _ (pre .0 .1 .stands) (pre .1) (λ s. fresh-refusal refl (c .before .before .before .before .evaluate .ensures .1 s) (c .before .before .before .value-of .ensures) (c .before .refusal .given .1)) _ refl
 
 same-length-2 : tie.Need-same-length-2
 same-length-2 c = search needs
 
 returns-2 : tie.Need-returns-2
-returns-2 c = test-decided _ (c .before .before .before .before .before .before .before .before .before .before .before .before .before .pre .0 .1 .stands) (c .before .before .before .before .before .before .before .before .before .before .before .before .before .pre .1) _ (c .before .before .before .before .before .before .before .evaluate .ensures) _ _ (c .before .before .before .before .before .e2 .given .1) (c .before .before .decide-if .ensures)
+unfolding noLabels
+returns-2 c = let pre = c .before .before .before .before .before .before .before .before .before .before .before .before .before .before .before .before .before .pre in test-decided _ (pre .0 .1 .stands) (pre .1) (λ s. fresh-value refl (c .before .before .before .before .before .before .before .before .before .before .evaluate .ensures .1 s) (c .before .before .before .before .before .before .before .before .before .value-of .ensures) (c .before .before .before .before .before .before .before .value .given .1) (c .before .before .before .before .in-words .ensures)) _ _ refl (c .before .before .decide-if .ensures)
 
 pub test-if-spec : {M : Type 1} → statement M
 test-if-spec =
@@ -42,8 +55,10 @@ test-if-spec =
     sub-evaluate
     add-evaluate
     evaluate-requires
-    enum-known-e
-    enum-known-e-2
+    value-of-requires
+    enum-known-refusal
+    enum-known-value
+    in-words-requires
     decide-if-requires
     same-length
     returns

@@ -16,7 +16,7 @@ end-of-requires-2 : tie.Need-end-of-requires-2
 end-of-requires-2 c κs = search needs
 
 struck-pattern-requires : tie.Need-struck-pattern-requires
-struck-pattern-requires c κs = let pre = c .before .before .before .before .before .pre in (omega (arith, c .before .end-of2 .ensures, pre .0 .stands .stands .ends, pre .0 .manifest), pre .0 .memory)
+struck-pattern-requires c κs = let pre = c .before .before .before .before .before .pre in (omega (arith, c .before .end-of2 .ensures, pre .0 .0 .stands .stands .ends, pre .0 .0 .manifest), pre .0 .0 .memory)
 
 enum-known-struck : tie.Need-enum-known-struck
 enum-known-struck c = search needs
@@ -28,7 +28,7 @@ enum-told : tie.Need-enum-told
 enum-told c = search needs
 
 decide-case-requires : tie.Need-decide-case-requires
-decide-case-requires c κs = search needs
+decide-case-requires c κs = c .before .before .before .before .before .before .before .before .before .before .pre
 
 same-length : tie.Need-same-length
 same-length c = search needs
@@ -40,7 +40,7 @@ same-length-2 : tie.Need-same-length-2
 same-length-2 c = search needs
 
 returns-2 : tie.Need-returns-2
-returns-2 c = case-tried _ _ _ _ _ _ (c .before .before .before .before .before .before .before .before .before .end-of .ensures) (c .before .before .before .before .before .before .before .before .end-of2 .ensures) (c .before .before .before .before .before .before .struck-pattern .ensures .0) _ (c .before .before .before .before .enum-told .given .1) (c .before .before .decide-case .ensures)
+returns-2 c = case-tried _ _ _ _ _ _ (c .before .before .before .before .before .before .before .before .before .before .end-of .ensures) (c .before .before .before .before .before .before .before .before .before .end-of2 .ensures) (c .before .before .before .before .before .before .before .struck-pattern .ensures .0) _ (c .before .before .before .before .before .enum-told .given .1) (c .before .before .decide-case .ensures)
 
 pub try-case-spec : {M : Type 1} → statement M
 try-case-spec =

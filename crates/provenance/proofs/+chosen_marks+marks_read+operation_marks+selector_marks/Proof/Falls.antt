@@ -15,6 +15,7 @@ use Rattle.provenance.proofs.selector_marks.Reads as selector-marks
 use Rattle.provenance.proofs.selector_marks.Kinds as selector-marks-kinds
 use Rattle.provenance.proofs.+chosen_marks+marks_read+operation_marks+selector_marks.Lts-selector_marks as selector-marks-lts
 use Rattle.evaluator.proofs.evaluate.Reads as evaluate-reads
+use Rattle.evaluator.proofs.value_of.Reads as value-of-reads
 use Rattle.labels.proofs.Labels.union.Reads as union-reads
 use Rattle.patterns.proofs.try_patterns.Reads as try-patterns-reads
 use Rattle.provenance.proofs.skips_right.Reads as skips-right-reads
@@ -73,4 +74,4 @@ operation-marks-calls t = (place-reads.Asked, place-reads.Learnt, marks-read-bel
 
 -- what selector_marks knows of its callees
 abbrev pub selector-marks-calls : ℕ → selector-marks-lts.Claims
-selector-marks-calls t = (place-reads.Asked, place-reads.Learnt, marks-read-below t, marks-read.Post, evaluate-reads.Asked, evaluate-reads.Learnt, end-of-reads.Asked, end-of-reads.Learnt, chosen-marks-below t, chosen-marks.Post, union-reads.Asked, union-reads.Learnt)
+selector-marks-calls t = (place-reads.Asked, place-reads.Learnt, marks-read-below t, marks-read.Post, evaluate-reads.Asked, evaluate-reads.Learnt, value-of-reads.Asked, value-of-reads.Learnt, end-of-reads.Asked, end-of-reads.Learnt, chosen-marks-below t, chosen-marks.Post, union-reads.Asked, union-reads.Learnt)
