@@ -99,6 +99,7 @@ fn rows() -> Vec<Row> {
     rows.extend(worst());
     rows.extend(slowest());
     rows.extend(growth());
+    rows.extend(joins());
     rows.extend(benchmark_texts::rows().into_iter().map(|(name, cases)| Row {
         name,
         jobs: cases.into_iter().map(Job::Text).collect(),
@@ -300,19 +301,53 @@ fn growth() -> Vec<Row> {
     entries.into_iter().chain(cells).chain(nested).collect()
 }
 
-/// Runs a type's body 64 times: in four runs of each of four runs of a body with four declarations.
-fn fan(mut items: Vec<Field>, body: Vec<Field>) -> Manifest {
-    let four = |name: &str| {
-        (0..4)
+/// A million joins of sets, 4,000 in each of 250 runs of a body: into the marks that stand in memory, and in the evaluation of an expression.
+fn joins() -> Vec<Row> {
+    let million = |name: &str, body: Vec<Field>| {
+        one(
+            &format!("a million joins, {name}"),
+            ordinary(fan_of([10, 5, 5], vec![], body)),
+        )
+    };
+    vec![
+        million("into marks: 8 conditions over 500 names", conditions(8, 500)),
+        million(
+            "by evaluation: an expression of 4,000 constants",
+            vec![assign("x", balanced(4000, &boolean(7, true)))],
+        ),
+    ]
+}
+
+/// Conditions whose branches, which are not taken, assign the same names.
+fn conditions(count: usize, names: usize) -> Vec<Field> {
+    let assignments = || {
+        (0..names)
+            .map(|at| assign(numbered(at), boolean(1, true)))
+            .collect::<Vec<Field>>()
+    };
+    (0..count)
+        .map(|at| if_else(boolean(2 + at as u8, false), assignments(), vec![]))
+        .collect()
+}
+
+/// Runs a type's body 64 times.
+fn fan(items: Vec<Field>, body: Vec<Field>) -> Manifest {
+    fan_of([4, 4, 4], items, body)
+}
+
+/// Runs a type's body as often as the product tells: in so many runs of each of so many runs of a body with so many declarations.
+fn fan_of([inner, middle, outer]: [usize; 3], mut items: Vec<Field>, body: Vec<Field>) -> Manifest {
+    let times = |count: usize, name: &str| {
+        (0..count)
             .map(|_| defined(name, text(1, "x"), vec![]))
             .collect::<Vec<Field>>()
     };
     items.extend([
         type_definition("body", vec![], body),
-        type_definition("four", vec![], four("body")),
-        type_definition("sixteen", vec![], four("four")),
+        type_definition("inner", vec![], times(inner, "body")),
+        type_definition("middle", vec![], times(middle, "inner")),
     ]);
-    items.extend(four("sixteen"));
+    items.extend(times(outer, "middle"));
     Manifest::new(items)
 }
 
