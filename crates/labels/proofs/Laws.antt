@@ -260,7 +260,7 @@ union-none-after a = λ i. record { w0 = or-zero-r (a .w0) i; w1 = or-zero-r (a 
 
 -- ---- bytes
 
-pub low-length : (k v : ℕ) → length (lowBytes k v) ≡ k
+low-length : (k v : ℕ) → length (lowBytes k v) ≡ k
 unfolding lowBytes
 low-length zero v = refl
 low-length (suc k) v = ap suc (low-length k (v / 256))

@@ -2,11 +2,10 @@
 use mathlib.Core.Path.{_≡_, refl, sym, ap, _∙_, subst}
 use mathlib.Core.Bool.{Bool, true, false}
 use mathlib.Core.List.{List, [], append-nil}
-use Prim.Native.Nat.{ℕ, zero, suc, _+_, _-_, _^_, _≤_, _<_}
+use Prim.Native.Nat.{ℕ, zero, suc, _+_, _-_, _≤_, _<_}
 use native.Mathlib.Omega.{arith}
 use borrow.Author.Tests.{ltb-true, ltb-false}
 use borrow.Rule.Slice.PartMut.{midOf}
-use lib.Bits.{bitOr}
 use lib.Dec.{ltb}
 use lib.ListN.{length, getD, drop, replicate, length-drop, List·getD-eq-default}
 use lib.Seq.{getD-drop, take-all}
@@ -15,9 +14,9 @@ use Rattle.wire.specs.Runs.{bytesAt, over, zeros}
 use Rattle.wire.proofs.Laws.{byte-in, run-in, run-back, run-outside, byte-inside, byte-outside, over-whole, zeros-length, zeros-byte}
 use Rattle.labels.specs.declared.Labels.{Labels}
 use Rattle.labels.specs.Sets.{noLabels, _∪_, Words64}
-use Rattle.labels.specs.Bytes.{lowBytes, numberAt, labelBytes, labelsFrom, setAt}
+use Rattle.labels.specs.Bytes.{numberAt, labelBytes, labelsFrom, setAt}
 use Rattle.labels.specs.Words.{JoinsAt}
-use Rattle.labels.proofs.Laws.{words-union, low-length, label-length, label-back, label-stored}
+use Rattle.labels.proofs.Laws.{label-length, label-back}
 
 same-number : (m m′ : List ℕ) (p k : ℕ) → ((j : ℕ) → j < p + k → getD m j 0 ≡ getD m′ j 0) → numberAt m p k ≡ numberAt m′ p k
 unfolding numberAt
@@ -108,29 +107,8 @@ short-stored m p s {whole} made stored =
     let bytes : whole ≡ labelBytes s = made ∙ over-whole (replicate 32 0) (labelBytes s) (label-length s) in
     rw bytes at stored
 
--- ---- The way of `join_within`
-
--- a word stored before another
-word-outside : (m : List ℕ) (p v q : ℕ) → p + 8 ≤ q → {m′ : List ℕ} → m′ ≡ over m p (lowBytes 8 v) → numberAt m′ q 8 ≡ numberAt m q 8
-word-outside m p v q apart {m′} stored =
-    let start : q ≡ q + 0 = omega arith in
-    let from : (w : List ℕ) → numberAt w q 8 ≡ numberAt (drop q w) 0 8 = λ w. ap (λ (k : ℕ). numberAt w k 8) start ∙ number-from w q 0 8 in
-    let away : (j : ℕ) → byte (over m p (lowBytes 8 v)) (q + j) ≡ byte m (q + j) = λ j. byte-outside m p (lowBytes 8 v) (q + j) (λ a b. omega (arith, low-length 8 v)) in
-    from m′ ∙ same-number (drop q m′) (drop q m) 0 8 (λ j h. getD-drop q m′ j 0 ∙ ap (λ (w : List ℕ). byte w (q + j)) stored ∙ away j ∙ sym (getD-drop q m j 0)) ∙ sym (from m)
-
-pub set-joined : (m : List ℕ) (p : ℕ) (s : Labels) → Words64 s → {m1 m2 m3 m4 : List ℕ} → m1 ≡ over m p (lowBytes 8 (bitOr (s .w0) (numberAt m p 8))) → numberAt m p 8 < 2 ^ 64
-    → m2 ≡ over m1 (p + 8) (lowBytes 8 (bitOr (s .w1) (numberAt m1 (p + 8) 8))) → numberAt m1 (p + 8) 8 < 2 ^ 64
-    → m3 ≡ over m2 (p + 16) (lowBytes 8 (bitOr (s .w2) (numberAt m2 (p + 16) 8))) → numberAt m2 (p + 16) 8 < 2 ^ 64
-    → m4 ≡ over m3 (p + 24) (lowBytes 8 (bitOr (s .w3) (numberAt m3 (p + 24) 8))) → numberAt m3 (p + 24) 8 < 2 ^ 64
-    → JoinsAt m m4 p s
-unfolding _∪_
-set-joined m p s fits {m1} {m2} {m3} {m4} e1 l1 e2 l2 e3 l3 e4 l4 =
-    let first : (q : ℕ) → p + 8 ≤ q → numberAt m1 q 8 ≡ numberAt m q 8 = λ q h. word-outside m p (bitOr (s .w0) (numberAt m p 8)) q h e1 in
-    let second : (q : ℕ) → p + 8 + 8 ≤ q → numberAt m2 q 8 ≡ numberAt m q 8 = λ q h. word-outside m1 (p + 8) (bitOr (s .w1) (numberAt m1 (p + 8) 8)) q h e2 ∙ first q (omega arith) in
-    let third : (q : ℕ) → p + 16 + 8 ≤ q → numberAt m3 q 8 ≡ numberAt m q 8 = λ q h. word-outside m2 (p + 16) (bitOr (s .w2) (numberAt m2 (p + 16) 8)) q h e3 ∙ second q (omega arith) in
-    let old : Labels = record { w0 = numberAt m p 8; w1 = numberAt m1 (p + 8) 8; w2 = numberAt m2 (p + 16) 8; w3 = numberAt m3 (p + 24) 8 } in
-    let words : old ≡ setAt m p = words-read m p refl (first (p + 8) (omega arith)) (second (p + 16) (omega arith)) (third (p + 24) (omega arith)) in
-    record {
-      stored = label-stored (s ∪ old) m p e1 e2 e3 e4 ∙ ap (λ (k : Labels). over m p (labelBytes (s ∪ k))) words;
-      words = subst (λ (k : Labels). Words64 (s ∪ k)) words (words-union s old fits (record { small0 = l1; small1 = l2; small2 = l3; small3 = l4 }));
-    }
+-- join_within
+pub set-joined : (m : List ℕ) (p : ℕ) (s : Labels) {old new : Labels} {m′ : List ℕ} → old ≡ setAt m p → new ≡ s ∪ old → Words64 new → m′ ≡ over m p (labelBytes new) → JoinsAt m m′ p s
+set-joined m p s {new = new} {m′} read joined fits stored =
+    let is : new ≡ s ∪ setAt m p = joined ∙ ap (λ (k : Labels). s ∪ k) read in
+    record { stored = stored ∙ ap (λ (k : Labels). over m p (labelBytes k)) is; words = subst Words64 is fits }

@@ -1,7 +1,6 @@
 // A set of labels 0 to 255, held in four words by value.
 ghost use mathlib.Core.Path.{_≡_};
-ghost use Prim.Native.Nat.{_+_, _^_, _≤_, _<_};
-ghost use lib.Bits.{bitOr};
+ghost use Prim.Native.Nat.{_+_, _≤_};
 ghost use lib.ListN.{length};
 ghost use Rattle.wire.specs.Runs.{over};
 ghost use Rattle.labels.specs.Sets.{oneLabel, _∪_, wordOf, has};
@@ -216,10 +215,8 @@ pub fn join_within(bytes: &mut [u8], at: usize, more: Labels)
     requires { ⌜ at + 32 ≤ length (now bytes) ⌝ }
     ensures { λ _. ⌜ JoinsAt (now (bytes .entry)) (now (bytes .exit)) at more ⌝ }
 {
-    join_word(bytes, at, more.w0);
-    join_word(bytes, at + 8, more.w1);
-    join_word(bytes, at + 16, more.w2);
-    join_word(bytes, at + 24, more.w3);
+    let old = Labels::read_within(bytes, at);
+    more.union(old).write_within(bytes, at);
 }
 
 // What is there of the bytes, and zeros; called from two places for the same reason as `write_short`.
@@ -252,15 +249,6 @@ fn put_word(out: &mut [u8], at: usize, word: u64)
         left /= 256;
         i += 1;
     }
-}
-
-// Joins a word to the one in the 8 bytes from `at` on.
-fn join_word(bytes: &mut [u8], at: usize, word: u64)
-    requires { ⌜ at + 8 ≤ length (now bytes) ⌝ }
-    ensures { λ _. ⌜ (now (bytes .exit) ≡ over (now (bytes .entry)) at (lowBytes 8 (bitOr word (numberAt (now (bytes .entry)) at 8)))) × (numberAt (now (bytes .entry)) at 8 < 2 ^ 64) ⌝ }
-{
-    let old = read_word(bytes, at);
-    put_word(bytes, at, word | old);
 }
 
 // Goes down from the highest byte, which comes last.

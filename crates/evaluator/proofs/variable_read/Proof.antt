@@ -1,5 +1,4 @@
 -- `variable_read`: no such class, or the variable sought.
-use native.Mathlib.Omega.{arith}
 use Rattle.labels.proofs.Words.{grows-none}
 use Rattle.evaluator.proofs.Leaves.{told-joined}
 use Rattle.evaluator.proofs.Reading.{sought-unknown, sought-read}

@@ -1,53 +1,28 @@
--- `join_within`: each of the four words is joined where it stands.
-use borrow.Author.Needs.{needs}
+-- `join_within`: the set read, joined and stored.
 use native.Mathlib.Omega.{arith}
 use Rattle.labels.proofs.Places.{set-joined}
+use borrow.Author.Needs.{needs}
 use Rattle.labels.proofs.join_within.Statement.{statement}
 use Rattle.labels.proofs.join_within.Tie as tie
 
-join-word-requires : tie.Need-join-word-requires
-join-word-requires c κs = search needs
+read-within-requires : tie.Need-read-within-requires
+read-within-requires c κs = search needs
 
-add-join-word : tie.Need-add-join-word
-add-join-word c = search needs
+union-requires : tie.Need-union-requires
+union-requires c κs = search needs
 
-join-word-requires-2 : tie.Need-join-word-requires-2
-join-word-requires-2 c κs = search needs
-
-add-join-word-2 : tie.Need-add-join-word-2
-add-join-word-2 c = search needs
-
-join-word-requires-3 : tie.Need-join-word-requires-3
-join-word-requires-3 c κs = search needs
-
-add-join-word-3 : tie.Need-add-join-word-3
-add-join-word-3 c = search needs
-
-join-word-requires-4 : tie.Need-join-word-requires-4
-join-word-requires-4 c κs = search needs
+write-within-requires : tie.Need-write-within-requires
+write-within-requires c κs = search needs
 
 same-length : tie.Need-same-length
 same-length c = search needs
 
 returns : tie.Need-returns
 returns c =
-    let start = c .before .before .before .before .before .before .before .before .before .before .before .before .before .before .before .before .before in
-    let one = c .before .before .before .before .before .before .before .before .before .before .before .before .before .before .join-word .ensures in
-    let two = c .before .before .before .before .before .before .before .before .before .before .join-word2 .ensures in
-    let three = c .before .before .before .before .before .before .join-word3 .ensures in
-    let four = c .before .before .join-word4 .ensures in
-    set-joined _ _ (start .args .more) (record { small0 = omega arith; small1 = omega arith; small2 = omega arith; small3 = omega arith }) (one .0) (one .1) (two .0) (two .1) (three .0) (three .1) (four .0) (four .1)
+    let union = c .before .before .before .before .union in
+    set-joined _ _ _ (c .before .before .before .before .before .read-within .ensures) (union .ensures) (record { small0 = omega (arith, union .ok); small1 = omega (arith, union .ok); small2 = omega (arith, union .ok); small3 = omega (arith, union .ok) }) (c .before .before .write-within .ensures)
 
 pub join-within-spec : {M : Type 1} → statement M
 join-within-spec =
     tie.close
-    (tie.spec
-    join-word-requires
-    add-join-word
-    join-word-requires-2
-    add-join-word-2
-    join-word-requires-3
-    add-join-word-3
-    join-word-requires-4
-    same-length
-    returns)
+    (tie.spec read-within-requires union-requires write-within-requires same-length returns)
