@@ -305,14 +305,14 @@ fn growth() -> Vec<Row> {
 fn joins() -> Vec<Row> {
     let million = |name: &str, body: Vec<Field>| {
         one(
-            &format!("a million joins, {name}"),
+            &format!("a million joins: {name}"),
             ordinary(fan_of([10, 5, 5], vec![], body)),
         )
     };
     vec![
-        million("into marks: 8 conditions over 500 names", conditions(8, 500)),
+        million("8 conditions over 500 names", conditions(8, 500)),
         million(
-            "by evaluation: an expression of 4,000 constants",
+            "an expression of 4,000 constants",
             vec![assign("x", balanced(4000, &boolean(7, true)))],
         ),
     ]
