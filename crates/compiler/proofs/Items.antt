@@ -19,6 +19,7 @@ use Rattle.rules.specs.State.{Entry, State, Context, Known, takeStep}
 use Rattle.rules.specs.Run.{statementPlace, run, runBlock, declaration, runAtTop, topContext, nodeContext, gatherDefinitions, runItems}
 use Rattle.rules.specs.Fields.{readEach, readField}
 use Rattle.rules.specs.Read.{itemsFrom, manifestOf}
+use Rattle.rules.specs.Types.{Types}
 use Rattle.rules.specs.Compile.{isBuiltIn, knownWith, itemsFor, roomIn, start, runManifest, onto, entriesInOrder}
 use Rattle.rules.specs.declared.Kind.the-variants.{Statement as StatementKind, Item as ItemKind}
 use Rattle.rules.specs.declared.Verdict.the-variants.{Sound}
@@ -266,7 +267,7 @@ blank-noted b = record {
   note = b .words noteWord (omega arith) (omega arith);
 }
 
-pub prepared-able : {m w out : List ℕ} (s : Constant → Bool) → Prepares m w s → Able m w out 0
+pub prepared-able : {types : Types} {m w out : List ℕ} (s : Constant → Bool) → Prepares types m w s → Able m w out 0
 prepared-able s p = record { set = p .set; fine = p .fine; filled = omega arith }
 
 -- ---- run_prepared
@@ -277,24 +278,24 @@ gathered-able {m} {w} {w₁} {out} able x told = go (rw told at x)
     go : GathersTo m w w₁ (itemPlaces m) [] Gathers.Done → Able m w₁ out 0
     go (knownSo only says) = record { set = only .set; fine = only .fine (able .fine); filled = able .filled }
 
-module _ (m device w out : List ℕ) (left : ℕ) (sound : check m ≡ Sound) (s : Constant → Bool) (ask : Question) (ready : Prepares m w s) (noted : Noted w ask []) where
+module _ (types : Types) (m device w out : List ℕ) (left : ℕ) (sound : check m ≡ Sound) (s : Constant → Bool) (ask : Question) (ready : Prepares types m w s) (noted : Noted w ask []) where
   abbrev knowing : List Definition → Known
-  knowing ds = knownWith s (manifestOf m .strings) ds
+  knowing ds = knownWith s types (manifestOf m .strings) ds
 
   -- what the definition gathers
   abbrev gathering : Outcome (List Definition)
-  gathering = gatherDefinitions (isBuiltIn (manifestOf m .strings)) [] (itemsAt m (itemPlaces m))
+  gathering = gatherDefinitions (isBuiltIn types (manifestOf m .strings)) [] (itemsAt m (itemPlaces m))
 
   -- and what it does then
   abbrev running-with : List Definition → Outcome State
   running-with ds = runItems (knowing ds) (itemsFor (manifestOf m .strings) device (manifestOf m .items)) (start left (length out))
 
-  run-follows : runManifest s (manifestOf m) device left (length out) ≡ (gathering >>= running-with)
+  run-follows : runManifest s types (manifestOf m) device left (length out) ≡ (gathering >>= running-with)
   unfolding runManifest itemPlaces
-  run-follows = ap (λ (is : List Item). gatherDefinitions (isBuiltIn (manifestOf m .strings)) [] is >>= running-with) (manifest-opens m sound .items)
+  run-follows = ap (λ (is : List Item). gatherDefinitions (isBuiltIn types (manifestOf m .strings)) [] is >>= running-with) (manifest-opens m sound .items)
 
   -- a name is taken
-  pub gathering-refused : (w′ : List ℕ) {g : Gathered} {why : Refusal} → GathersTo m w w′ (itemPlaces m) [] g → g ≡ Gathers.Refused why → RunsManifest s ask m device w′ out out left left (Refused why)
+  pub gathering-refused : (w′ : List ℕ) {g : Gathered} {why : Refusal} → GathersTo m w w′ (itemPlaces m) [] g → g ≡ Gathers.Refused why → RunsManifest types s ask m device w′ out out left left (Refused why)
   unfolding knownWith _>>=_
   gathering-refused w′ {why = why} x told = record { steps = omega arith; ends = specs.refusedSo (run-follows ∙ go (rw told at x)) }
     where
@@ -326,11 +327,11 @@ module _ (m device w out : List ℕ) (left : ℕ) (sound : check m ≡ Sound) (s
     first-state : stateWith w₁ out 0 left [] ≡ start left (length out)
     first-state = let all : roomIn (length out) - 0 ≡ roomIn (length out) = omega arith in ap (stateOf w₁ [] left) all ∙ known-then .only .state [] left (roomIn (length out)) ∙ ready .state left (length out)
 
-    whole-run : {n : Found} → n ≡ foundOf (nodeFor m device) → runManifest s (manifestOf m) device left (length out) ≡ runPlaces m (chosenOf n) (itemPlaces m) (knowing (known-then .definitions)) (stateWith w₁ out 0 left [])
+    whole-run : {n : Found} → n ≡ foundOf (nodeFor m device) → runManifest s types (manifestOf m) device left (length out) ≡ runPlaces m (chosenOf n) (itemPlaces m) (knowing (known-then .definitions)) (stateWith w₁ out 0 left [])
     unfolding runPlaces
     whole-run e = run-follows ∙ bind-done running-with (known-then .gathered) ∙ rw (items-for m device sound, items-read m (running m (nodeFor m device) (itemPlaces m)), e, chosen-found (nodeFor m device), first-state) refl
 
-    pub manifest-runs : (w′ out′ : List ℕ) {left′ : ℕ} {n : Found} {a : Filled} → n ≡ foundOf (nodeFor m device) → RunsTo m w₁ w′ out out′ 0 left left′ (chosenOf n) (itemPlaces m) [] a → RunsManifest s ask m device w′ out out′ left left′ a
+    pub manifest-runs : (w′ out′ : List ℕ) {left′ : ℕ} {n : Found} {a : Filled} → n ≡ foundOf (nodeFor m device) → RunsTo m w₁ w′ out out′ 0 left left′ (chosenOf n) (itemPlaces m) [] a → RunsManifest types s ask m device w′ out out′ left left′ a
     manifest-runs w′ out′ {left′} {n} e y = record { steps = y .steps; ends = go (y .able) (whole-run e) (y .says (knowing (known-then .definitions)) ask [] first-stage) }
       where
         go : {k : Known} {a : Filled} {o o′ : Outcome State} → AbleAfter m w′ out′ a → o′ ≡ o → ItemsEnd m w′ out′ left′ (chosenOf n) [] k ask o a → RunEnds w′ out′ left′ ask o′ a

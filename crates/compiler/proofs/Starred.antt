@@ -7,6 +7,7 @@ use lib.ListN.{length}
 use Rattle.values.specs.declared.Answer.{Answer}
 use Rattle.values.specs.Numbers.{said}
 use Rattle.wire.specs.Runs.{zeros}
+use Rattle.rules.specs.Types.{theEight}
 use Rattle.rules.specs.Compile.{Effect, memoryOf, compile}
 use Rattle.rules.proofs.Computing.{Seen, seen}
 use Rattle.rules.proofs.Cases.{expects, gives, Each, noRow, also, Holds, table-holds}
@@ -17,20 +18,20 @@ use Rattle.compiler.specs.Compiled.{Leaves}
 -- what every call on a row's manifest, device and limit answers and leaves, if the bytes lent are as long as the row says: the answer and the
 -- output that the row expects, byte for byte, and a memory of zeros
 pub record Meets (r : Row) : Type 0 where
-  pub call : {out out′ work work′ : List ℕ} {a : Answer} → length out ≡ r .output → length work ≡ r .memory → Leaves (r .manifest) (r .device) (r .limit) out out′ work work′ a
+  pub call : {out out′ work work′ : List ℕ} {a : Answer} → length out ≡ r .output → length work ≡ r .memory → Leaves theEight (r .manifest) (r .device) (r .limit) out out′ work work′ a
       → (said a ≡ expects r .answer) × (out′ ≡ expects r .output) × (work′ ≡ zeros (r .memory))
 
-seen-answer : (m device : List ℕ) (limit output memory : ℕ) → said (compile m device limit output memory .answer) ≡ seen m device limit output memory .answer
+seen-answer : (m device : List ℕ) (limit output memory : ℕ) → said (compile theEight m device limit output memory .answer) ≡ seen theEight m device limit output memory .answer
 unfolding seen
 seen-answer m device limit output memory = refl
 
-seen-output : (m device : List ℕ) (limit output memory : ℕ) → compile m device limit output memory .outputAfter ≡ seen m device limit output memory .output
+seen-output : (m device : List ℕ) (limit output memory : ℕ) → compile theEight m device limit output memory .outputAfter ≡ seen theEight m device limit output memory .output
 unfolding seen
 seen-output m device limit output memory = refl
 
-module _ (r : Row) (holds : Holds r) {out out′ work work′ : List ℕ} {a : Answer} (o : length out ≡ r .output) (w : length work ≡ r .memory) (c : Leaves (r .manifest) (r .device) (r .limit) out out′ work work′ a) where
-  effect : record { answer = a; outputAfter = out′; memoryAfter = work′ } ≡ compile (r .manifest) (r .device) (r .limit) (r .output) (r .memory)
-  effect = c .effect ∙ λ i. compile (r .manifest) (r .device) (r .limit) (o i) (w i)
+module _ (r : Row) (holds : Holds r) {out out′ work work′ : List ℕ} {a : Answer} (o : length out ≡ r .output) (w : length work ≡ r .memory) (c : Leaves theEight (r .manifest) (r .device) (r .limit) out out′ work work′ a) where
+  effect : record { answer = a; outputAfter = out′; memoryAfter = work′ } ≡ compile theEight (r .manifest) (r .device) (r .limit) (r .output) (r .memory)
+  effect = c .effect ∙ λ i. compile theEight (r .manifest) (r .device) (r .limit) (o i) (w i)
 
   answered : said a ≡ expects r .answer
   unfolding gives

@@ -1,4 +1,4 @@
--- One law for each way through `run_checked` and `compile`. Assumes nothing.
+-- One law for each way through `run_checked`, `compile_chosen`, `compile` and `compile_with_types`. Assumes nothing.
 use Prim.Native.Nat.{ℕ, _-_, _<_, _≤_}
 use mathlib.Core.Path.{_≡_, refl, sym, ap, _∙_}
 use mathlib.Core.List.{List, _++_}
@@ -16,6 +16,7 @@ use Rattle.rules.specs.Outcome.{Outcome, refused, done, _>>=_, refuseIf}
 use Rattle.rules.specs.State.{State}
 use Rattle.rules.specs.Read.{manifestOf}
 use Rattle.rules.specs.Catalog.{catalogBytes}
+use Rattle.rules.specs.Types.{Types, checkTypes}
 use Rattle.rules.specs.Compile.{noneStruckOut, roomIn, runManifest, checked, finalState, entriesInOrder, Compiled, compiledFrom, compiled, answerOf, outputOf, memoryOf, compile}
 use Rattle.rules.specs.declared.Verdict.{Verdict}
 use Rattle.rules.specs.declared.Verdict.the-variants.{Sound, Fault}
@@ -33,27 +34,32 @@ use Rattle.compiler.specs.Running.{RunEnds, refusedSo, doneSo}
 
 -- ---- The final state, by what is found before the run
 
-module _ (m device : List ℕ) (limit output memory : ℕ) where
-  pub short-memory : memory < 65536 → finalState m device limit output memory ≡ refused MemoryTooShort 0
+module _ (types : Types) (m device : List ℕ) (limit output memory : ℕ) where
+  pub short-memory : memory < 65536 → finalState types m device limit output memory ≡ refused MemoryTooShort 0
   unfolding refuseIf _>>=_
-  short-memory h = before-the-run m device limit output memory ∙ rw (lt-ltb memory 65536 h) refl
+  short-memory h = before-the-run types m device limit output memory ∙ rw (lt-ltb memory 65536 h) refl
 
-  pub fault-first : {v : Verdict} {r : Reason} {p : ℕ} → 65536 ≤ memory → v ≡ before m → v ≡ Fault r p → finalState m device limit output memory ≡ refused r p
+  pub fault-of-types : {v : Verdict} {r : Reason} {p : ℕ} → 65536 ≤ memory → v ≡ checkTypes types → v ≡ Fault r p → finalState types m device limit output memory ≡ refused r p
   unfolding refuseIf _>>=_ checked
-  fault-first h e f = before-the-run m device limit output memory ∙ rw (le-ltb memory 65536 h, sym e, f) refl
+  fault-of-types h e f = before-the-run types m device limit output memory ∙ rw (le-ltb memory 65536 h, sym e, f) refl
 
-  pub sound-first : 65536 ≤ memory → before m ≡ Sound → finalState m device limit output memory ≡ runManifest noneStruckOut (manifestOf m) device limit output
-  unfolding refuseIf _>>=_ checked
-  sound-first h e = before-the-run m device limit output memory ∙ rw (le-ltb memory 65536 h, e) refl
+  module _ (h : 65536 ≤ memory) (types-sound : checkTypes types ≡ Sound) where
+    pub fault-first : {v : Verdict} {r : Reason} {p : ℕ} → v ≡ before m → v ≡ Fault r p → finalState types m device limit output memory ≡ refused r p
+    unfolding refuseIf _>>=_ checked
+    fault-first e f = before-the-run types m device limit output memory ∙ rw (le-ltb memory 65536 h, types-sound, sym e, f) refl
+
+    pub sound-first : before m ≡ Sound → finalState types m device limit output memory ≡ runManifest noneStruckOut types (manifestOf m) device limit output
+    unfolding refuseIf _>>=_ checked
+    sound-first e = before-the-run types m device limit output memory ∙ rw (le-ltb memory 65536 h, types-sound, e) refl
 
 -- ---- All outcomes
 
-module _ (m device : List ℕ) (limit : ℕ) (out work : List ℕ) where
-  compiled-refused : {r : Reason} {p : ℕ} → finalState m device limit (length out) (length work) ≡ refused r p → compiled m device limit (length out) (length work) ≡ refused r p
+module _ (types : Types) (m device : List ℕ) (limit : ℕ) (out work : List ℕ) where
+  compiled-refused : {r : Reason} {p : ℕ} → finalState types m device limit (length out) (length work) ≡ refused r p → compiled types m device limit (length out) (length work) ≡ refused r p
   unfolding compiled _>>=_
   compiled-refused e = rw e refl
 
-  compiled-done : {st : State} → finalState m device limit (length out) (length work) ≡ done st → compiled m device limit (length out) (length work) ≡ done (compiledFrom limit st)
+  compiled-done : {st : State} → finalState types m device limit (length out) (length work) ≡ done st → compiled types m device limit (length out) (length work) ≡ done (compiledFrom limit st)
   unfolding compiled _>>=_
   compiled-done e = rw e refl
 
@@ -63,18 +69,18 @@ module _ (m device : List ℕ) (limit : ℕ) (out work : List ℕ) where
     zero-memory = cleared ∙ ap (λ (n : ℕ). replicate n 0) mem
 
     -- the three parts make the whole
-    all-three : {o : Outcome Compiled} {a : Answer} → compiled m device limit (length out) (length work) ≡ o → a ≡ answerOf o → out′ ≡ outputOf (length out) o → Leaves m device limit out out′ work work′ a
+    all-three : {o : Outcome Compiled} {a : Answer} → compiled types m device limit (length out) (length work) ≡ o → a ≡ answerOf o → out′ ≡ outputOf (length out) o → Leaves types m device limit out out′ work work′ a
     unfolding compile
     all-three {o} {a} e answer output =
-        let answer′ : a ≡ answerOf (compiled m device limit (length out) (length work)) = answer ∙ ap answerOf (sym e) in
-        let output′ : out′ ≡ outputOf (length out) (compiled m device limit (length out) (length work)) = output ∙ ap (outputOf (length out)) (sym e) in
+        let answer′ : a ≡ answerOf (compiled types m device limit (length out) (length work)) = answer ∙ ap answerOf (sym e) in
+        let output′ : out′ ≡ outputOf (length out) (compiled types m device limit (length out) (length work)) = output ∙ ap (outputOf (length out)) (sym e) in
         record { effect = λ i. record { answer = answer′ i; outputAfter = output′ i; memoryAfter = zero-memory i } }
 
-    pub refuses : {why : Refusal} {a : Answer} → finalState m device limit (length out) (length work) ≡ refusedBy why → a ≡ Refused (why .reason) (why .place) → out′ ≡ clearedFrom 0 out₁ → Leaves m device limit out out′ work work′ a
+    pub refuses : {why : Refusal} {a : Answer} → finalState types m device limit (length out) (length work) ≡ refusedBy why → a ≡ Refused (why .reason) (why .place) → out′ ≡ clearedFrom 0 out₁ → Leaves types m device limit out out′ work work′ a
     unfolding answerOf outputOf
     refuses e told zero = all-three (compiled-refused e) told (zero ∙ cleared-all out₁ ∙ ap (λ (n : ℕ). replicate n 0) o)
 
-    pub accepts : {st : State} {f left : ℕ} → finalState m device limit (length out) (length work) ≡ done st → st .stepsLeft ≡ left → Written out₁ f (entriesInOrder st) → f ≤ length out₁ → out′ ≡ clearedFrom f out₁ → Leaves m device limit out out′ work work′ (Catalog f (limit - left))
+    pub accepts : {st : State} {f left : ℕ} → finalState types m device limit (length out) (length work) ≡ done st → st .stepsLeft ≡ left → Written out₁ f (entriesInOrder st) → f ≤ length out₁ → out′ ≡ clearedFrom f out₁ → Leaves types m device limit out out′ work work′ (Catalog f (limit - left))
     unfolding answerOf outputOf compiledFrom
     accepts {st} {f} {left} e steps written within rest =
         let bytes : List ℕ = catalogBytes (entriesInOrder st) in

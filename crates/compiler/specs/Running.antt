@@ -11,6 +11,7 @@ use Rattle.rules.specs.Outcome.{Outcome, done}
 use Rattle.rules.specs.State.{Entry, State, Known}
 use Rattle.rules.specs.Run.{runItems}
 use Rattle.rules.specs.Read.{manifestOf}
+use Rattle.rules.specs.Types.{Types}
 use Rattle.rules.specs.Compile.{roomIn, runManifest, entriesInOrder}
 use Rattle.places.specs.At.{itemsAt}
 use Rattle.syntax.specs.declared.Found.{Found}
@@ -60,6 +61,6 @@ pub data RunEnds (w out : List ℕ) (left : ℕ) (ask : Question) (o : Outcome S
   refusedSo : {why : Refusal} → o ≡ refusedBy why → RunEnds w out left ask o (Refused why)
   doneSo : {f : ℕ} (st : State) → o ≡ done st → st .stepsLeft ≡ left → Written out f (entriesInOrder st) → f ≤ roomIn (length out) → wordOf w noteWord ≡ noteFor ask (st .entries) → RunEnds w out left ask o (Done f)
 
-pub record RunsManifest (struckOut : Constant → Bool) (ask : Question) (m device w′ out out′ : List ℕ) (left left′ : ℕ) (answer : Filled) : Type 0 where
+pub record RunsManifest (types : Types) (struckOut : Constant → Bool) (ask : Question) (m device w′ out out′ : List ℕ) (left left′ : ℕ) (answer : Filled) : Type 0 where
   pub steps : left′ ≤ left
-  pub ends : RunEnds w′ out′ left′ ask (runManifest struckOut (manifestOf m) device left (length out)) answer
+  pub ends : RunEnds w′ out′ left′ ask (runManifest struckOut types (manifestOf m) device left (length out)) answer

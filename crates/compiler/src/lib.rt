@@ -6,7 +6,9 @@ ghost use lib.ListN.{length};
 ghost use Rattle.wire.specs.Runs.{zeros};
 ghost use Rattle.values.specs.declared.Answer.the-variants.{Refused};
 ghost use Rattle.rules.specs.Check.{check};
+ghost use Rattle.rules.specs.Types.{Types, theEight, lent, checkTypes};
 ghost use Rattle.rules.specs.declared.Verdict.the-variants.{Sound};
+ghost use Rattle.type_list.specs.Listed.{chosen};
 ghost use Rattle.syntax.specs.Before.{before};
 ghost use Rattle.syntax.specs.Nodes.{itemPlaces};
 ghost use Rattle.catalog.specs.Making.{clearedFrom};
@@ -104,7 +106,7 @@ pub fn run_prepared(
     left: &mut u16,
 ) -> Filled
     requires { ⌜ ((check (now m) ≡ Sound) × (length (now m) ≤ 65535)) × Able (now m) (now work) (now out) 0 ⌝ }
-    ensures { λ r. ⌜ ((s : Constant → Bool) (ask : Question) → Prepares (now (m .entry)) (now (work .entry)) s → Noted (now (work .entry)) ask [] → RunsManifest s ask (now (m .entry)) (now (device .entry)) (now (work .exit)) (now (out .entry)) (now (out .exit)) (now (left .entry)) (now (left .exit)) r) ⌝ }
+    ensures { λ r. ⌜ ((types : Types) (s : Constant → Bool) (ask : Question) → Prepares types (now (m .entry)) (now (work .entry)) s → Noted (now (work .entry)) ask [] → RunsManifest types s ask (now (m .entry)) (now (device .entry)) (now (work .exit)) (now (out .entry)) (now (out .exit)) (now (left .entry)) (now (left .exit)) r) ⌝ }
 {
     let gathered = definitions::gather(m, work);
     match gathered {
@@ -116,11 +118,18 @@ pub fn run_prepared(
 }
 
 // A sound manifest, whatever the memory holds.
-fn run_manifest(m: &[u8], device: &[u8], out: &mut [u8], work: &mut [u8], left: &mut u16) -> Filled
-    requires { ⌜ ((check (now m) ≡ Sound) × (length (now m) ≤ 65535)) × (65536 ≤ length (now work)) ⌝ }
-    ensures { λ r. ⌜ RunsManifest noneStruckOut nothingAsked (now (m .entry)) (now (device .entry)) (now (work .exit)) (now (out .entry)) (now (out .exit)) (now (left .entry)) (now (left .exit)) r ⌝ }
+fn run_manifest(
+    types: &[u8],
+    m: &[u8],
+    device: &[u8],
+    out: &mut [u8],
+    work: &mut [u8],
+    left: &mut u16,
+) -> Filled
+    requires { ⌜ ((checkTypes (chosen (now types)) ≡ Sound) × ((check (now m) ≡ Sound) × (length (now m) ≤ 65535))) × (65536 ≤ length (now work)) ⌝ }
+    ensures { λ r. ⌜ RunsManifest (chosen (now (types .entry))) noneStruckOut nothingAsked (now (m .entry)) (now (device .entry)) (now (work .exit)) (now (out .entry)) (now (out .exit)) (now (left .entry)) (now (left .exit)) r ⌝ }
 {
-    definitions::prepare(m, work);
+    definitions::prepare(types, m, work);
     run_prepared(m, device, out, work, left)
 }
 
@@ -138,12 +147,19 @@ fn refuse(refusal: Refusal, out: &mut [u8], work: &mut [u8]) -> Answer
 }
 
 // A sound manifest, and the bytes lent cleared after it.
-fn run_checked(m: &[u8], device: &[u8], limit: u16, out: &mut [u8], work: &mut [u8]) -> Answer
-    requires { ⌜ (65536 ≤ length (now work)) × (before (now m) ≡ Sound) ⌝ }
-    ensures { λ r. ⌜ Leaves (now (m .entry)) (now (device .entry)) limit (now (out .entry)) (now (out .exit)) (now (work .entry)) (now (work .exit)) r ⌝ }
+fn run_checked(
+    types: &[u8],
+    m: &[u8],
+    device: &[u8],
+    limit: u16,
+    out: &mut [u8],
+    work: &mut [u8],
+) -> Answer
+    requires { ⌜ (65536 ≤ length (now work)) × ((checkTypes (chosen (now types)) ≡ Sound) × (before (now m) ≡ Sound)) ⌝ }
+    ensures { λ r. ⌜ Leaves (chosen (now (types .entry))) (now (m .entry)) (now (device .entry)) limit (now (out .entry)) (now (out .exit)) (now (work .entry)) (now (work .exit)) r ⌝ }
 {
     let mut left = limit;
-    let r = run_manifest(m, device, out, work, &mut left);
+    let r = run_manifest(types, m, device, out, work, &mut left);
     match r {
         Filled::Refused(refusal) => refuse(refusal, out, work),
         Filled::Done(filled) => {
@@ -157,7 +173,27 @@ fn run_checked(m: &[u8], device: &[u8], limit: u16, out: &mut [u8], work: &mut [
     }
 }
 
-// The catalog of a device, or the first refusal. Every byte of `out` and `work` is determined: the catalog and then zeros, or zeros throughout; the memory is zero.
+// Memory that is long enough, and types without fault: an empty list means the eight.
+fn compile_chosen(
+    types: &[u8],
+    manifest: &[u8],
+    device: &[u8],
+    limit: u16,
+    out: &mut [u8],
+    work: &mut [u8],
+) -> Answer
+    requires { ⌜ (65536 ≤ length (now work)) × (checkTypes (chosen (now types)) ≡ Sound) ⌝ }
+    ensures { λ r. ⌜ Compiles (chosen (now (types .entry))) (now (manifest .entry)) (now (device .entry)) limit (now (out .entry)) (now (out .exit)) (now (work .entry)) (now (work .exit)) r ⌝ }
+{
+    let v = syntax::check_all(manifest);
+    match v {
+        Verdict::Fault { reason, place } => refuse(Refusal::at(reason, place), out, work),
+        Verdict::Sound => run_checked(types, manifest, device, limit, out, work),
+    }
+}
+
+// The catalog of a device, or the first refusal; the eight types are built in. Every byte of `out` and `work` is determined: the catalog and then zeros, or zeros
+// throughout; the memory is zero.
 pub fn compile(
     manifest: &[u8],
     device: &[u8],
@@ -165,14 +201,31 @@ pub fn compile(
     out: &mut [u8],
     work: &mut [u8],
 ) -> Answer
-    ensures { λ r. ⌜ Compiles (now (manifest .entry)) (now (device .entry)) limit (now (out .entry)) (now (out .exit)) (now (work .entry)) (now (work .exit)) r ⌝ }
+    ensures { λ r. ⌜ Compiles theEight (now (manifest .entry)) (now (device .entry)) limit (now (out .entry)) (now (out .exit)) (now (work .entry)) (now (work .exit)) r ⌝ }
 {
     if work.len() < 65536 {
         return refuse(Refusal::at(Reason::MemoryTooShort, 0), out, work);
     }
-    let v = syntax::check_all(manifest);
+    compile_chosen(b"", manifest, device, limit, out, work)
+}
+
+// The same with a list of types, which replaces the eight.
+pub fn compile_with_types(
+    types: &[u8],
+    manifest: &[u8],
+    device: &[u8],
+    limit: u16,
+    out: &mut [u8],
+    work: &mut [u8],
+) -> Answer
+    ensures { λ r. ⌜ Compiles (lent (now (types .entry))) (now (manifest .entry)) (now (device .entry)) limit (now (out .entry)) (now (out .exit)) (now (work .entry)) (now (work .exit)) r ⌝ }
+{
+    if work.len() < 65536 {
+        return refuse(Refusal::at(Reason::MemoryTooShort, 0), out, work);
+    }
+    let v = type_list::check_types(types);
     match v {
         Verdict::Fault { reason, place } => refuse(Refusal::at(reason, place), out, work),
-        Verdict::Sound => run_checked(manifest, device, limit, out, work),
+        Verdict::Sound => compile_chosen(types, manifest, device, limit, out, work),
     }
 }

@@ -17,7 +17,7 @@ use Rattle.notation.specs.Convert.{stringsOf, entered, enteredAll, tableBehind}
 use Rattle.notation.proofs.WrittenNames.{Rising, noString, nextString}
 use Rattle.notation.proofs.StringTable.{Among, atFirst, later, table-has}
 use Rattle.interner.specs.Table.{strings, Kept}
-use Rattle.interner.proofs.Ascending.{before-both, not-itself, not-back}
+use Rattle.rules.proofs.Ascending.{before-both, not-itself, not-back}
 use Rattle.interner.proofs.Keeping.{strings-counted}
 use Rattle.tree_builder.specs.Shows.{numberIn}
 use Rattle.converter.specs.Entering.{Enterable, EnteredOne, EnteredBoth}

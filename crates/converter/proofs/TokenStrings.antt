@@ -8,6 +8,7 @@ use lib.ListN.{length, take, drop}
 use lib.Seq.{slice, take-add, drop-at, length-take-le}
 use borrow.Author.Tests.{eqb-true, eqb-false}
 use Prim.Native.Nat.{ℕ, _+_, _-_, _≤_, _<_}
+use Rattle.rules.specs.Types.{theEight}
 use Rattle.rules.specs.Bytes.{pick}
 use Rattle.syntax.specs.Strings.{isBuiltInText}
 use Rattle.lexer.specs.declared.Token as found
@@ -144,6 +145,6 @@ part-of a e t low high =
     let parts : a + (e - a) ≡ e = omega arith in
     sym (ap (λ (n : ℕ). drop a (take n t)) (sym parts) ∙ ap (drop a) (take-add a (e - a) t) ∙ drop-at (take a t) (take (e - a) (drop a t)) a (length-take-le a t high))
 
-pub tag-of : (a e : ℕ) (t : List ℕ) → a ≤ e → e ≤ length t → (b : Bool) → isBuiltInText (take (e - a) (drop a t)) ≡ b → pick b 0x25 0x27 ≡ resourceTag (slice a e t)
+pub tag-of : (a e : ℕ) (t : List ℕ) → a ≤ e → e ≤ length t → (b : Bool) → isBuiltInText theEight (take (e - a) (drop a t)) ≡ b → pick b 0x25 0x27 ≡ resourceTag (slice a e t)
 unfolding isBuiltInText resourceTag
 tag-of a e t low high b h = ap (λ (c : Bool). pick c 0x25 0x27) (sym h) ∙ ap resourceTag (part-of a e t low (omega arith))

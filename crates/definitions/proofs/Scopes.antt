@@ -10,6 +10,7 @@ use Rattle.rules.specs.Format.{forms, formIn, formOf}
 use Rattle.rules.specs.Check.{stringPlaces, check}
 use Rattle.rules.specs.Read.{manifestOf}
 use Rattle.rules.specs.Run.{definedName}
+use Rattle.rules.specs.Types.{Types}
 use Rattle.rules.specs.Compile.{isBuiltIn, knownWith, start, runManifest}
 use Rattle.rules.specs.Ranges.{Each, noneLeft, also}
 use Rattle.rules.specs.declared.Kind.the-variants.{Item as ItemKind}
@@ -54,8 +55,8 @@ manifest-small m c =
 
 -- every state that the run of a sound manifest passes is tidy (rules/proofs/Scopes.antt), so in it more than 1,026 scopes change no read and a body's
 -- scope is empty when it is entered; here for the state at its end
-pub manifest-tidy : (struckOut : Constant → Bool) (m device : List ℕ) (limit outputLength : ℕ) → check m ≡ Sound → All (Tidy everywhere) (runManifest struckOut (manifestOf m) device limit outputLength)
+pub manifest-tidy : (struckOut : Constant → Bool) (types : Types) (m device : List ℕ) (limit outputLength : ℕ) → check m ≡ Sound → All (Tidy everywhere) (runManifest struckOut types (manifestOf m) device limit outputLength)
 unfolding runManifest knownWith
-manifest-tidy struckOut m device limit outputLength c =
-    allBind (gathered-each (λ d. small-definition) (isBuiltIn (manifestOf m .strings)) (manifest-small m c) noneLeft) λ ds small.
-    items-tidy (knownWith struckOut (manifestOf m .strings) ds) small (items-for-each (manifestOf m .strings) device (manifest-small m c)) (start limit outputLength) (start-tidy limit outputLength)
+manifest-tidy struckOut types m device limit outputLength c =
+    allBind (gathered-each (λ d. small-definition) (isBuiltIn types (manifestOf m .strings)) (manifest-small m c) noneLeft) λ ds small.
+    items-tidy (knownWith struckOut types (manifestOf m .strings) ds) small (items-for-each (manifestOf m .strings) device (manifest-small m c)) (start limit outputLength) (start-tidy limit outputLength)

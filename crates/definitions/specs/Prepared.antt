@@ -8,6 +8,7 @@ use Rattle.wire.specs.Bytes.{pick, byte}
 use Rattle.rules.specs.Check.{text}
 use Rattle.rules.specs.Tree.{node, Constant}
 use Rattle.rules.specs.Read.{manifestOf}
+use Rattle.rules.specs.Types.{Types}
 use Rattle.rules.specs.Compile.{knownWith, roomIn, start}
 use Rattle.rules.specs.declared.Kind.the-variants.{Block}
 use Rattle.places.specs.At.{blockAt, itemAt, devicesAt, StandsAs}
@@ -19,20 +20,20 @@ use Rattle.declarations.specs.Standing.{NamesKnown, Set}
 use Rattle.memory.specs.Words.{wordOf}
 
 -- the string n, at q, is marked if it names a built-in type
-unfoldable pub markString : List ℕ → (n q : ℕ) → Names → Names
-markString m n q ns = pick (isBuiltInText (text m q)) (withBuiltIn n true ns) ns
+unfoldable pub markString : Types → List ℕ → (n q : ℕ) → Names → Names
+markString types m n q ns = pick (isBuiltInText types (text m q)) (withBuiltIn n true ns) ns
 
 -- so is each of the strings at the places given, which are numbered from n on
-unfoldable pub markStrings : List ℕ → (n : ℕ) → (places : List ℕ) → Names → Names
-markStrings m n [] ns = ns
-markStrings m n (q ∷ qs) ns = markStrings m (suc n) qs (markString m n q ns)
+unfoldable pub markStrings : Types → List ℕ → (n : ℕ) → (places : List ℕ) → Names → Names
+markStrings types m n [] ns = ns
+markStrings types m n (q ∷ qs) ns = markStrings types m (suc n) qs (markString types m n q ns)
 
 -- the memory w is as before the first item runs, and knows what is known but for definitions, with so many constants struck out
-pub record Prepares (m w : List ℕ) (struckOut : Constant → Bool) : Type 0 where
+pub record Prepares (types : Types) (m w : List ℕ) (struckOut : Constant → Bool) : Type 0 where
   pub set : Set m w
   pub fine : Fine w
-  pub known : KnownIn m w (knownWith struckOut (manifestOf m .strings) [])
-  pub title : titleOf w ≡ knownWith struckOut (manifestOf m .strings) [] .title
+  pub known : KnownIn m w (knownWith struckOut types (manifestOf m .strings) [])
+  pub title : titleOf w ≡ knownWith struckOut types (manifestOf m .strings) [] .title
   pub state : (limit output : ℕ) → stateOf w [] limit (roomIn output) ≡ start limit output
   pub index : NoIndex w
 

@@ -5,11 +5,13 @@ ghost use Prim.Native.Nat.{ℕ, _+_, _≤_, _<_};
 ghost use lib.ListN.{length};
 ghost use Rattle.wire.specs.Bytes.{byte, two};
 ghost use Rattle.rules.specs.Check.{stringPlaces, check};
+ghost use Rattle.rules.specs.Types.{checkTypes};
 ghost use Rattle.rules.specs.State.{Known};
 ghost use Rattle.rules.specs.Run.{isTaken};
 ghost use Rattle.rules.specs.declared.Verdict.the-variants.{Sound};
 ghost use Rattle.syntax.specs.Strings.{foundOf};
 ghost use Rattle.syntax.specs.Nodes.{nodeFor, itemPlaces};
+ghost use Rattle.type_list.specs.Listed.{chosen, Listed};
 ghost use Rattle.cells.specs.Memory.{Becomes};
 ghost use Rattle.evaluator.specs.Known.{KnownIn};
 ghost use Rattle.declarations.specs.Standing.{Set};
@@ -29,37 +31,48 @@ pub enum Gathered {
 // ---- Before the first item
 
 // Marks the string n, at q, if it names a built-in type.
-fn mark_string(m: &[u8], q: usize, work: &mut [u8], n: u16)
-    requires { ⌜ (65536 ≤ length (now work)) × (n < 1024) ⌝ }
-    ensures { λ _. ⌜ Becomes (now (work .entry)) (now (work .exit)) (λ st. st) (markString (now (m .entry)) n q) ⌝ }
+fn mark_string(types: &[u8], index: &[u8], count: u16, m: &[u8], q: usize, work: &mut [u8], n: u16)
+    requires { ⌜ Listed (now types) (now index) count × ((65536 ≤ length (now work)) × (n < 1024)) ⌝ }
+    ensures { λ _. ⌜ Becomes (now (work .entry)) (now (work .exit)) (λ st. st) (markString (chosen (now (types .entry))) (now (m .entry)) n q) ⌝ }
 {
-    if syntax::strings::is_built_in(m, q) {
+    let name = syntax::strings::text_of(m, q);
+    if type_list::is_type(types, index, count, name) {
         memory::set_built_in(work, n, true);
     }
 }
 
-// Marks the strings that name built-in types.
-fn mark_built_ins(m: &[u8], work: &mut [u8])
-    requires { ⌜ (65536 ≤ length (now work)) × (length (stringPlaces (now m)) ≤ 1024) ⌝ }
-    ensures { λ _. ⌜ Becomes (now (work .entry)) (now (work .exit)) (λ st. st) (markStrings (now (m .entry)) 0 (stringPlaces (now (m .entry)))) ⌝ }
+// Marks the strings that name built-in types: whether a type is one is looked up once, for each string.
+fn mark_built_ins(types: &[u8], index: &[u8], count: u16, m: &[u8], work: &mut [u8])
+    requires { ⌜ Listed (now types) (now index) count × ((65536 ≤ length (now work)) × (length (stringPlaces (now m)) ≤ 1024)) ⌝ }
+    ensures { λ _. ⌜ Becomes (now (work .entry)) (now (work .exit)) (λ st. st) (markStrings (chosen (now (types .entry))) (now (m .entry)) 0 (stringPlaces (now (m .entry)))) ⌝ }
 {
     let end = wire::end_of(m, 0);
     let mut n: u16 = 0;
     let mut q: usize = 3;
     while q < end {
-        mark_string(m, q, work, n);
+        mark_string(types, index, count, m, q, work, n);
         n += 1;
         q = wire::end_of(m, q);
     }
 }
 
-// The state before the first item and the names of a manifest, whatever the memory holds.
-pub fn prepare(m: &[u8], work: &mut [u8])
-    requires { ⌜ ((check (now m) ≡ Sound) × (length (now m) ≤ 65535)) × (65536 ≤ length (now work)) ⌝ }
-    ensures { λ _. ⌜ Prepares (now (m .entry)) (now (work .exit)) noneStruckOut × Blank (now (work .exit)) ⌝ }
+// The same, the list of types not being indexed yet.
+fn mark_types(types: &[u8], m: &[u8], work: &mut [u8])
+    requires { ⌜ (checkTypes (chosen (now types)) ≡ Sound) × ((65536 ≤ length (now work)) × (length (stringPlaces (now m)) ≤ 1024)) ⌝ }
+    ensures { λ _. ⌜ Becomes (now (work .entry)) (now (work .exit)) (λ st. st) (markStrings (chosen (now (types .entry))) (now (m .entry)) 0 (stringPlaces (now (m .entry)))) ⌝ }
+{
+    let mut index = [0u8; type_list::INDEX];
+    let count = type_list::index_types(types, &mut index);
+    mark_built_ins(types, &index, count, m, work);
+}
+
+// The state before the first item and the names of a manifest, whatever the memory holds. An empty list of types means the eight.
+pub fn prepare(types: &[u8], m: &[u8], work: &mut [u8])
+    requires { ⌜ ((checkTypes (chosen (now types)) ≡ Sound) × ((check (now m) ≡ Sound) × (length (now m) ≤ 65535))) × (65536 ≤ length (now work)) ⌝ }
+    ensures { λ _. ⌜ Prepares (chosen (now (types .entry))) (now (m .entry)) (now (work .exit)) noneStruckOut × Blank (now (work .exit)) ⌝ }
 {
     memory::begin(work);
-    mark_built_ins(m, work);
+    mark_types(types, m, work);
     let title = syntax::strings::title_number(m);
     match title {
         Found::At(n) => memory::set_title(work, n),

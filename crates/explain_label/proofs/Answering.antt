@@ -8,6 +8,7 @@ use lib.Dec.{ltb}
 use lib.ListN.{length, take, drop}
 use Rattle.values.specs.declared.Explanation.{Explanation}
 use Rattle.wire.specs.Bytes.{pick}
+use Rattle.rules.specs.Types.{theEight}
 use Rattle.rules.specs.Why.{Told, why}
 use Rattle.question.specs.declared.Lines.{Lines}
 use Rattle.question.specs.declared.Asked.{Asked}
@@ -32,12 +33,12 @@ line-whole {shown = shown} put short room is same =
 
 pub explained-given : (given : List ℕ) {m device type title attribute work work′ : List ℕ} {lines : Lines} {label : ℕ} {r : Explanation} → lines ≡ linesOf given → m ≡ drop (lines .label + 1) given → device ≡ take (lines .device) given
     → type ≡ lineBetween given (lines .device) (lines .kind) → title ≡ lineBetween given (lines .kind) (lines .title) → attribute ≡ lineBetween given (lines .title) (lines .attribute) → length work ≡ 65536
-    → Explains m device type title attribute label work work′ r → r ≡ explanationOf given label
+    → Explains theEight m device type title attribute label work work′ r → r ≡ explanationOf given label
 unfolding explanationOf
 explained-given given {label = label} is m-is device-is type-is title-is attribute-is size explains =
     let p = parts given in
     ap (λ (t : Told). t .answer) (explains .told)
-    ∙ (λ i. why ((m-is ∙ ap (λ (l : Lines). drop (l .label + 1) given) is ∙ p .manifest) i) ((device-is ∙ ap (λ (l : Lines). take (l .device) given) is ∙ p .device) i) ((type-is ∙ ap (λ (l : Lines). lineBetween given (l .device) (l .kind)) is ∙ p .kind) i) ((title-is ∙ ap (λ (l : Lines). lineBetween given (l .kind) (l .title)) is ∙ p .title) i) ((attribute-is ∙ ap (λ (l : Lines). lineBetween given (l .title) (l .attribute)) is ∙ p .attribute) i) label (size i) .answer)
+    ∙ (λ i. why theEight ((m-is ∙ ap (λ (l : Lines). drop (l .label + 1) given) is ∙ p .manifest) i) ((device-is ∙ ap (λ (l : Lines). take (l .device) given) is ∙ p .device) i) ((type-is ∙ ap (λ (l : Lines). lineBetween given (l .device) (l .kind)) is ∙ p .kind) i) ((title-is ∙ ap (λ (l : Lines). lineBetween given (l .kind) (l .title)) is ∙ p .title) i) ((attribute-is ∙ ap (λ (l : Lines). lineBetween given (l .title) (l .attribute)) is ∙ p .attribute) i) label (size i) .answer)
 
 -- ---- The answer
 

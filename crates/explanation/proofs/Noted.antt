@@ -20,6 +20,7 @@ use Rattle.rules.specs.Outcome.{Outcome, refused, done, _>>=_, orRefuse}
 use Rattle.rules.specs.Read.{manifestOf}
 use Rattle.rules.specs.State.{Attribute, SetParts, Entry, State}
 use Rattle.rules.specs.Evaluate.{firstWith, isEntry, isAttribute}
+use Rattle.rules.specs.Types.{Types}
 use Rattle.rules.specs.Compile.{stringNumber, finalState}
 use Rattle.rules.specs.EditRule.{IsBytes}
 use Rattle.rules.specs.Why.{setOf, firstPart, withoutLimits, comesToOne, lowestPlace, Found, foundIn, answerFor, explained, explanationOf}
@@ -171,37 +172,37 @@ module _ (label place : ℕ) where
   numbers-answer entries made (some t) (some n) none = rw (note-nothing entries) refl
   numbers-answer entries made (some t) (some n) (some a) = entry-answer t n a (firstWith (isEntry t n) entries) (found (isEntry t n) made) ∙ ap (λ (k : ℕ). noteAnswer k place) (sym (note-first t n a label entries))
 
-module _ (m device type title attribute : List ℕ) (label memory : ℕ) {st : State} (ended : finalState m device withoutLimits withoutLimits memory ≡ done st) where
+module _ (types : Types) (m device type title attribute : List ℕ) (label memory : ℕ) {st : State} (ended : finalState types m device withoutLimits withoutLimits memory ≡ done st) where
   abbrev pub questionHere : Question
   questionHere = questionFor (numbersOf (manifestOf m .strings) type title attribute) label
 
   made : Each PartsMakeSet (st .entries)
-  made = allGet (final-parts m device withoutLimits withoutLimits memory) ended
+  made = allGet (final-parts types m device withoutLimits withoutLimits memory) ended
 
   -- THE FIRST LAW: the note says what the definition answers
-  pub note-answers : explanationOf (explained m device type title attribute label memory) ≡ noteAnswer (noteFor questionHere (st .entries)) (lowestPlace m device label)
+  pub note-answers : explanationOf (explained types m device type title attribute label memory) ≡ noteAnswer (noteFor questionHere (st .entries)) (lowestPlace types m device label)
   unfolding explained foundIn numbersOf _>>=_
-  note-answers = rw ended (numbers-answer label (lowestPlace m device label) (st .entries) made (stringNumber type (manifestOf m .strings) 0) (stringNumber title (manifestOf m .strings) 0) (stringNumber attribute (manifestOf m .strings) 0))
+  note-answers = rw ended (numbers-answer label (lowestPlace types m device label) (st .entries) made (stringNumber type (manifestOf m .strings) 0) (stringNumber title (manifestOf m .strings) 0) (stringNumber attribute (manifestOf m .strings) 0))
 
   -- THE SECOND LAW: where the note names a part, the compile comes to a constant with the label
   module _ (bytes : IsBytes m) (small : label < 256) where
     comes-by : (t n a : ℕ) {e : Entry} (o : Option Attribute) → firstWith (isEntry t n) (st .entries) ≡ some e → firstWith (isAttribute a) (e .attributes) ≡ o → Perhaps (λ (at : Attribute). SameLabels (setOf (e .parts a)) (at .content .labels)) o
-        → (heldIn (questionFor (Known t n a) label) (e .parts a) o ≡ 0 → ⊥) → (heldIn (questionFor (Known t n a) label) (e .parts a) o ≡ 6 → ⊥) → comesToOne m device (labelledBelow label (length m)) ≡ true
+        → (heldIn (questionFor (Known t n a) label) (e .parts a) o ≡ 0 → ⊥) → (heldIn (questionFor (Known t n a) label) (e .parts a) o ≡ 6 → ⊥) → comesToOne types m device (labelledBelow label (length m)) ≡ true
     unfolding heldIn heldPart questionFor
     comes-by t n a none f g notThere some-note some-part = absurd (some-note refl)
-    comes-by t n a {e} (some at) f g (there union) some-note some-part = label-met m device label bytes small memory ended t n a f g (sym (union label) ∙ go (has (setOf (e .parts a)) label) refl)
+    comes-by t n a {e} (some at) f g (there union) some-note some-part = label-met types m device label bytes small memory ended t n a f g (sym (union label) ∙ go (has (setOf (e .parts a)) label) refl)
       where
         go : (b : Bool) → has (setOf (e .parts a)) label ≡ b → has (setOf (e .parts a)) label ≡ true
         go true is = is
         go false is = absurd (some-part (ap (λ (b : Bool). pick b (partNumber (firstPart (e .parts a) label)) 6) is))
 
     entry-comes : (t n a : ℕ) (o : Option Entry) → firstWith (isEntry t n) (st .entries) ≡ o → Perhaps PartsMakeSet o
-        → (note-found (questionFor (Known t n a) label) o ≡ 0 → ⊥) → (note-found (questionFor (Known t n a) label) o ≡ 6 → ⊥) → comesToOne m device (labelledBelow label (length m)) ≡ true
+        → (note-found (questionFor (Known t n a) label) o ≡ 0 → ⊥) → (note-found (questionFor (Known t n a) label) o ≡ 6 → ⊥) → comesToOne types m device (labelledBelow label (length m)) ≡ true
     unfolding note-found noteOf questionFor
     entry-comes t n a none f notThere some-note some-part = absurd (some-note refl)
     entry-comes t n a (some e) f (there parts) some-note some-part = comes-by t n a (firstWith (isAttribute a) (e .attributes)) f refl (parts .same a) some-note some-part
 
-    numbers-come : (x y z : Option ℕ) → (noteFor (questionFor (numbersFrom x y z) label) (st .entries) ≡ 0 → ⊥) → (noteFor (questionFor (numbersFrom x y z) label) (st .entries) ≡ 6 → ⊥) → comesToOne m device (labelledBelow label (length m)) ≡ true
+    numbers-come : (x y z : Option ℕ) → (noteFor (questionFor (numbersFrom x y z) label) (st .entries) ≡ 0 → ⊥) → (noteFor (questionFor (numbersFrom x y z) label) (st .entries) ≡ 6 → ⊥) → comesToOne types m device (labelledBelow label (length m)) ≡ true
     unfolding questionFor numbersFrom
     numbers-come none y z some-note some-part = absurd (some-note (note-nothing (st .entries)))
     numbers-come (some t) none z some-note some-part = absurd (some-note (note-nothing (st .entries)))
@@ -209,6 +210,6 @@ module _ (m device type title attribute : List ℕ) (label memory : ℕ) {st : S
     numbers-come (some t) (some n) (some a) some-note some-part =
         entry-comes t n a (firstWith (isEntry t n) (st .entries)) refl (found (isEntry t n) made) (λ e. some-note (note-first t n a label (st .entries) ∙ e)) (λ e. some-part (note-first t n a label (st .entries) ∙ e))
 
-    pub note-comes : (noteFor questionHere (st .entries) ≡ 0 → ⊥) → (noteFor questionHere (st .entries) ≡ 6 → ⊥) → comesToOne m device (labelledBelow label (length m)) ≡ true
+    pub note-comes : (noteFor questionHere (st .entries) ≡ 0 → ⊥) → (noteFor questionHere (st .entries) ≡ 6 → ⊥) → comesToOne types m device (labelledBelow label (length m)) ≡ true
     unfolding numbersOf
     note-comes = numbers-come (stringNumber type (manifestOf m .strings) 0) (stringNumber title (manifestOf m .strings) 0) (stringNumber attribute (manifestOf m .strings) 0)

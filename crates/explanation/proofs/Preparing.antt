@@ -9,6 +9,7 @@ use Rattle.wire.specs.Bytes.{byte, two}
 use Rattle.rules.specs.Tree.{Constant}
 use Rattle.rules.specs.State.{Entry}
 use Rattle.rules.specs.Evaluate.{findType, findClass}
+use Rattle.rules.specs.Types.{Types}
 use Rattle.rules.specs.Compile.{noneStruckOut, knownWith}
 use Rattle.rules.proofs.Strikes.{labelledBelow}
 use Rattle.cells.specs.Layout.{wordsAt}
@@ -52,7 +53,7 @@ then-stored a b = record {
 }
 
 -- all that is prepared stays, but for the constants that the words strike out
-pub prepared-stored : {m w w′ : List ℕ} {s : Constant → Bool} (s′ : Constant → Bool) → WordsStored w w′ → ((v : Constant) → s′ v ≡ struckIn w′ v) → Prepares m w s → Prepares m w′ s′
+pub prepared-stored : {types : Types} {m w w′ : List ℕ} {s : Constant → Bool} (s′ : Constant → Bool) → WordsStored w w′ → ((v : Constant) → s′ v ≡ struckIn w′ v) → Prepares types m w s → Prepares types m w′ s′
 unfolding knownWith namesOf
 prepared-stored {m} {w} {w′} {s} s′ stored strikes p = record {
   set = set-kept (stored .names) (stored .size) (summarized-same (λ k from to. stored .after k (omega arith))) (p .set);
@@ -69,7 +70,7 @@ prepared-stored {m} {w} {w′} {s} s′ stored strikes p = record {
 
 -- ---- The way of `prepare_struck`
 
-module _ {m w w₁ w₂ : List ℕ} {label end : ℕ} (ready : Prepares m w noneStruckOut × Blank w) (size : length w₁ ≡ length w) (first : WordSet w w₁ strikeLabel label) (size₂ : length w₂ ≡ length w₁) (second : WordSet w₁ w₂ strikeEnd end) where
+module _ {types : Types} {m w w₁ w₂ : List ℕ} {label end : ℕ} (ready : Prepares types m w noneStruckOut × Blank w) (size : length w₁ ≡ length w) (first : WordSet w w₁ strikeLabel label) (size₂ : length w₂ ≡ length w₁) (second : WordSet w₁ w₂ strikeEnd end) where
   struck-stored : WordsStored w w₂
   struck-stored = then-stored (one-stored (omega arith) size first) (one-stored (omega arith) size₂ second)
 
@@ -81,7 +82,7 @@ module _ {m w w₁ w₂ : List ℕ} {label end : ℕ} (ready : Prepares m w none
   still-zero : (i : ℕ) → 2 < i → i < 15 → wordOf w₂ i ≡ 0
   still-zero i l u = second .others i u (λ e. omega arith) ∙ first .others i u (λ e. omega arith) ∙ ready .1 .words i (omega arith) u
 
-  pub struck-prepared : Prepares m w₂ (labelledBelow label end) × Noted w₂ nothingAsked []
+  pub struck-prepared : Prepares types m w₂ (labelledBelow label end) × Noted w₂ nothingAsked []
   unfolding askedOf nothingAsked noteFor
   struck-prepared = (
     prepared-stored (labelledBelow label end) struck-stored strikes-below (ready .0),
@@ -98,8 +99,8 @@ module _ {m w w₁ w₂ : List ℕ} {label end : ℕ} (ready : Prepares m w none
 
 -- ---- The ways of `prepare_asking`
 
-module _ {m w : List ℕ} (ready : Prepares m w noneStruckOut × Blank w) where
-  pub nothing-asked : {numbers : Numbers} (label : ℕ) → numbers ≡ Unknown → Prepares m w noneStruckOut × Noted w (questionFor numbers label) []
+module _ {types : Types} {m w : List ℕ} (ready : Prepares types m w noneStruckOut × Blank w) where
+  pub nothing-asked : {numbers : Numbers} (label : ℕ) → numbers ≡ Unknown → Prepares types m w noneStruckOut × Noted w (questionFor numbers label) []
   unfolding questionFor
   nothing-asked label is = rw is (ready .0, blank-noted (ready .1))
 
@@ -111,7 +112,7 @@ module _ {m w : List ℕ} (ready : Prepares m w noneStruckOut × Blank w) where
     others-stay : (i : ℕ) → i < 15 → (i ≡ askedType → ⊥) → (i ≡ askedTitle → ⊥) → (i ≡ askedName → ⊥) → (i ≡ askedLabel → ⊥) → wordOf w₄ i ≡ wordOf w i
     others-stay i l a b c d = four .others i l d ∙ three .others i l c ∙ two .others i l b ∙ one .others i l a
 
-    pub question-asked : {numbers : Numbers} {kind : ℕ} → numbers ≡ Known kind title name → next ≡ kind + 1 → label < 256 → Prepares m w₄ noneStruckOut × Noted w₄ (questionFor numbers label) []
+    pub question-asked : {numbers : Numbers} {kind : ℕ} → numbers ≡ Known kind title name → next ≡ kind + 1 → label < 256 → Prepares types m w₄ noneStruckOut × Noted w₄ (questionFor numbers label) []
     unfolding questionFor askedOf noteFor noneStruckOut knownWith
     question-asked {kind = kind} is follows small =
         let number : next ≡ suc kind = omega arith in

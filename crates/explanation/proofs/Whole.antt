@@ -17,6 +17,7 @@ use Rattle.wire.specs.Runs.{zeros}
 use Rattle.rules.specs.Outcome.{Outcome, refused, done, _>>=_}
 use Rattle.rules.specs.State.{State}
 use Rattle.rules.specs.Read.{manifestOf}
+use Rattle.rules.specs.Types.{Types, checkTypes}
 use Rattle.rules.specs.Compile.{noneStruckOut, runManifest, finalState, memoryOf}
 use Rattle.rules.specs.EditRule.{IsBytes}
 use Rattle.rules.specs.Why.{withoutLimits, comesToOne, lowestPlace, explained, explanationOf, why}
@@ -41,42 +42,42 @@ use Rattle.explanation.proofs.Noted.{note-answers, note-comes}
 
 -- ---- The ways of `answer_noted`
 
-module _ (m device : List ℕ) (label : ℕ) (w : List ℕ) {note : ℕ} (read : note ≡ wordOf w noteWord) where
+module _ (types : Types) (m device : List ℕ) (label : ℕ) (w : List ℕ) {note : ℕ} (read : note ≡ wordOf w noteWord) where
   abbrev saidBy : ℕ → Explanation
-  saidBy n = noteAnswer n (lowestPlace m device label)
+  saidBy n = noteAnswer n (lowestPlace types m device label)
 
-  pub answers-none : {refusal : Refusal} {r : Explanation} → note ≡ 0 → refusal ≡ refusalAt NoSuchAttribute 0 → r ≡ Refused (refusal .reason) (refusal .place) → Answers m device label w r
+  pub answers-none : {refusal : Refusal} {r : Explanation} → note ≡ 0 → refusal ≡ refusalAt NoSuchAttribute 0 → r ≡ Refused (refusal .reason) (refusal .place) → Answers types m device label w r
   unfolding noteAnswer
   answers-none is told answer = record { says = λ a b. answer ∙ ap (λ (x : Refusal). Refused (x .reason) (x .place)) told ∙ ap saidBy (sym is ∙ read) }
 
-  pub answers-not : note ≡ 6 → Answers m device label w NotAmong
+  pub answers-not : note ≡ 6 → Answers types m device label w NotAmong
   unfolding noteAnswer
   answers-not is = record { says = λ a b. ap saidBy (sym is ∙ read) }
 
   pub answers-part : {part : SetPart} {place : ℕ} → (note ≡ 0 → ⊥) → (note ≡ 6 → ⊥) → part ≡ partNoted note
-      → (comesToOne m device (labelledBelow label 0) ≡ false → comesToOne m device (labelledBelow label (length m)) ≡ true → place ≡ lowestPlace m device label) → Answers m device label w (Among part place)
+      → (comesToOne types m device (labelledBelow label 0) ≡ false → comesToOne types m device (labelledBelow label (length m)) ≡ true → place ≡ lowestPlace types m device label) → Answers types m device label w (Among part place)
   unfolding noteAnswer
   answers-part {part} {place} some-note some-part is found = record {
     says = λ a b.
-        let there : place ≡ lowestPlace m device label = found a (b (λ e. some-note (read ∙ e)) (λ e. some-part (read ∙ e))) in
-        ap₂ Among is there ∙ sym (when-false (eqb note 0) (Refused NoSuchAttribute 0) (elim (eqb note 6) [ true ↦ NotAmong | false ↦ Among (partNoted note) (lowestPlace m device label) ]) (ne-eqb note 0 some-note) ∙ when-false (eqb note 6) NotAmong (Among (partNoted note) (lowestPlace m device label)) (ne-eqb note 6 some-part)) ∙ ap saidBy read;
+        let there : place ≡ lowestPlace types m device label = found a (b (λ e. some-note (read ∙ e)) (λ e. some-part (read ∙ e))) in
+        ap₂ Among is there ∙ sym (when-false (eqb note 0) (Refused NoSuchAttribute 0) (elim (eqb note 6) [ true ↦ NotAmong | false ↦ Among (partNoted note) (lowestPlace types m device label) ]) (ne-eqb note 0 some-note) ∙ when-false (eqb note 6) NotAmong (Among (partNoted note) (lowestPlace types m device label)) (ne-eqb note 6 some-part)) ∙ ap saidBy read;
   }
 
 -- ---- The ways of `explain_sound`
 
-module _ (m device type title attribute : List ℕ) (label memory : ℕ) where
+module _ (types : Types) (m device type title attribute : List ℕ) (label memory : ℕ) where
   abbrev answerHere : Explanation
-  answerHere = why m device type title attribute label memory .answer
+  answerHere = why types m device type title attribute label memory .answer
 
   -- a refusal of the compile is told as it is
-  pub compile-refuses : {refusal : Refusal} {r : Explanation} → finalState m device withoutLimits withoutLimits memory ≡ refusedBy refusal → r ≡ Refused (refusal .reason) (refusal .place) → r ≡ answerHere
+  pub compile-refuses : {refusal : Refusal} {r : Explanation} → finalState types m device withoutLimits withoutLimits memory ≡ refusedBy refusal → r ≡ Refused (refusal .reason) (refusal .place) → r ≡ answerHere
   unfolding why explained explanationOf _>>=_
   compile-refuses e answer = answer ∙ sym (rw e refl)
 
-  module _ (room : 65536 ≤ memory) (sound : before m ≡ Sound) {numbers : Numbers} (known : numbers ≡ numbersOf (stringTexts m) type title attribute) {w : List ℕ} {a : Filled}
-      (ran : AskEnds w (questionFor numbers label) (runManifest noneStruckOut (manifestOf m) device withoutLimits withoutLimits) a) where
-    run-first : finalState m device withoutLimits withoutLimits memory ≡ runManifest noneStruckOut (manifestOf m) device withoutLimits withoutLimits
-    run-first = sound-first m device withoutLimits withoutLimits memory room sound
+  module _ (room : 65536 ≤ memory) (types-sound : checkTypes types ≡ Sound) (sound : before m ≡ Sound) {numbers : Numbers} (known : numbers ≡ numbersOf (stringTexts m) type title attribute) {w : List ℕ} {a : Filled}
+      (ran : AskEnds w (questionFor numbers label) (runManifest noneStruckOut types (manifestOf m) device withoutLimits withoutLimits) a) where
+    run-first : finalState types m device withoutLimits withoutLimits memory ≡ runManifest noneStruckOut types (manifestOf m) device withoutLimits withoutLimits
+    run-first = sound-first types m device withoutLimits withoutLimits memory room types-sound sound
 
     pub run-refused : {refusal : Refusal} {r : Explanation} → a ≡ NotDone refusal → r ≡ Refused (refusal .reason) (refusal .place) → r ≡ answerHere
     run-refused {refusal} is answer = compile-refuses (run-first ∙ go (rw is at ran)) answer
@@ -87,30 +88,26 @@ module _ (m device type title attribute : List ℕ) (label memory : ℕ) where
     same-numbers : numbers ≡ numbersOf (manifestOf m .strings) type title attribute
     same-numbers = known ∙ ap (λ (ss : List (List ℕ)). numbersOf ss type title attribute) (sym (strings-read m (before-sound m sound .sound)))
 
-    pub run-answers : {f : ℕ} {r : Explanation} → IsBytes m → label < 256 → a ≡ Done f → Answers m device label w r → r ≡ answerHere
+    pub run-answers : {f : ℕ} {r : Explanation} → IsBytes m → label < 256 → a ≡ Done f → Answers types m device label w r → r ≡ answerHere
     unfolding why
     run-answers {f} {r} bytes small is answers = go (rw is at ran) refl
       where
-        go : {o : Outcome State} → AskEnds w (questionFor numbers label) o (Done f) → o ≡ runManifest noneStruckOut (manifestOf m) device withoutLimits withoutLimits → r ≡ answerHere
+        go : {o : Outcome State} → AskEnds w (questionFor numbers label) o (Done f) → o ≡ runManifest noneStruckOut types (manifestOf m) device withoutLimits withoutLimits → r ≡ answerHere
         go (notedSo st e note) run =
-            let ended : finalState m device withoutLimits withoutLimits memory ≡ done st = run-first ∙ sym run ∙ e in
+            let ended : finalState types m device withoutLimits withoutLimits memory ≡ done st = run-first ∙ sym run ∙ e in
             let noted : wordOf w noteWord ≡ noteFor (questionFor (numbersOf (manifestOf m .strings) type title attribute) label) (st .entries) = note ∙ ap (λ (x : Numbers). noteFor (questionFor x label) (st .entries)) same-numbers in
-            answers .says (below-none m device label (sym run ∙ e)) (λ x y. note-comes m device type title attribute label memory ended bytes small (λ z. x (noted ∙ z)) (λ z. y (noted ∙ z)))
-            ∙ ap (λ (n : ℕ). noteAnswer n (lowestPlace m device label)) noted
-            ∙ sym (note-answers m device type title attribute label memory ended)
+            answers .says (below-none types m device label (sym run ∙ e)) (λ x y. note-comes types m device type title attribute label memory ended bytes small (λ z. x (noted ∙ z)) (λ z. y (noted ∙ z)))
+            ∙ ap (λ (n : ℕ). noteAnswer n (lowestPlace types m device label)) noted
+            ∙ sym (note-answers types m device type title attribute label memory ended)
 
 -- ---- The ways of `explain`
 
-module _ (m device type title attribute : List ℕ) (label : ℕ) (work work′ : List ℕ) where
+module _ (types : Types) (m device type title attribute : List ℕ) (label : ℕ) (work work′ : List ℕ) where
   -- the answer and the memory make the whole
-  pub explains : {n : ℕ} {r : Explanation} → n ≡ length work → work′ ≡ zeros n → r ≡ why m device type title attribute label (length work) .answer → Explains m device type title attribute label work work′ r
+  pub explains : {n : ℕ} {r : Explanation} → n ≡ length work → work′ ≡ zeros n → r ≡ why types m device type title attribute label (length work) .answer → Explains types m device type title attribute label work work′ r
   unfolding why memoryOf zeros
   explains size cleared answer = record { told = λ i. record { answer = answer i; memoryAfter = (cleared ∙ ap (λ (n : ℕ). replicate n 0) size) i } }
 
-  pub explains-short : {n : ℕ} {refusal : Refusal} {r : Explanation} → length work < 65536 → n ≡ length work → work′ ≡ zeros n → refusal ≡ refusalAt MemoryTooShort 0 → r ≡ Refused (refusal .reason) (refusal .place) → Explains m device type title attribute label work work′ r
-  explains-short short size cleared told answer =
-      explains size cleared (compile-refuses m device type title attribute label (length work) {refusal = refusalAt MemoryTooShort 0} (short-memory m device withoutLimits withoutLimits (length work) short) (answer ∙ ap (λ (x : Refusal). Refused (x .reason) (x .place)) told))
-
-  pub explains-fault : {n : ℕ} {v : Verdict} {reason : Reason} {place : ℕ} {refusal : Refusal} {r : Explanation} → 65536 ≤ length work → v ≡ before m → v ≡ Fault reason place → n ≡ length work → work′ ≡ zeros n → refusal ≡ refusalAt reason place → r ≡ Refused (refusal .reason) (refusal .place) → Explains m device type title attribute label work work′ r
-  explains-fault {reason = reason} {place = place} room checked fault size cleared told answer =
-      explains size cleared (compile-refuses m device type title attribute label (length work) {refusal = refusalAt reason place} (fault-first m device withoutLimits withoutLimits (length work) room checked fault) (answer ∙ ap (λ (x : Refusal). Refused (x .reason) (x .place)) told))
+  -- a refusal before the run
+  pub explains-refused : {refusal : Refusal} {r : Explanation} → finalState types m device withoutLimits withoutLimits (length work) ≡ refusedBy refusal → work′ ≡ zeros (length work) → r ≡ Refused (refusal .reason) (refusal .place) → Explains types m device type title attribute label work work′ r
+  explains-refused e cleared answer = explains refl cleared (compile-refuses types m device type title attribute label (length work) e answer)

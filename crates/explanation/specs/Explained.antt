@@ -1,5 +1,5 @@
 -- What a note says, and what `explain` promises.
-use Prim.Native.Nat.{ℕ, zero, suc}
+use Prim.Native.Nat.{ℕ, zero, suc, _≤_}
 use mathlib.Core.Path.{_≡_}
 use mathlib.Core.Bool.{true, false}
 use mathlib.Core.List.{List}
@@ -13,6 +13,10 @@ use Rattle.values.specs.declared.Explanation.{Explanation}
 use Rattle.values.specs.declared.Explanation.the-variants.{Among, NotAmong, Refused}
 use Rattle.rules.specs.Outcome.{Outcome, done}
 use Rattle.rules.specs.State.{State}
+use Rattle.rules.specs.Types.{Types, checkTypes}
+use Rattle.type_list.specs.Listed.{chosen}
+use Rattle.rules.specs.Check.{check}
+use Rattle.rules.specs.declared.Verdict.the-variants.{Sound}
 use Rattle.rules.specs.Why.{comesToOne, lowestPlace, why}
 use Rattle.rules.proofs.Strikes.{labelledBelow}
 use Rattle.memory.specs.Words.{wordOf, noteWord}
@@ -22,6 +26,10 @@ use Rattle.resources.specs.declared.Filled.{Filled}
 use Rattle.resources.specs.declared.Filled.the-variants.{Done, Refused as NotDone}
 
 -- ---- A run that is asked
+
+-- types and a manifest without fault, as before a run
+abbrev pub Checked : (types m : List ℕ) → Type 0
+Checked types m = (checkTypes (chosen types) ≡ Sound) × ((check m ≡ Sound) × (length m ≤ 65535))
 
 -- the answer means the outcome o: its refusal; or the memory w has the note on what is asked about
 pub data AskEnds (w : List ℕ) (ask : Question) (o : Outcome State) : Filled → Type 0 where
@@ -44,13 +52,13 @@ unfoldable pub noteAnswer : (note place : ℕ) → Explanation
 noteAnswer note place = elim (eqb note 0) [ true ↦ Refused NoSuchAttribute 0 | false ↦ elim (eqb note 6) [ true ↦ NotAmong | false ↦ Among (partNoted note) place ] ]
 
 -- the answer is what the note in the memory w says; the place of a part is the lowest, if there is one
-pub record Answers (m device : List ℕ) (label : ℕ) (w : List ℕ) (answer : Explanation) : Type 0 where
-  pub says : comesToOne m device (labelledBelow label 0) ≡ false
-      → ((wordOf w noteWord ≡ 0 → ⊥) → (wordOf w noteWord ≡ 6 → ⊥) → comesToOne m device (labelledBelow label (length m)) ≡ true)
-      → answer ≡ noteAnswer (wordOf w noteWord) (lowestPlace m device label)
+pub record Answers (types : Types) (m device : List ℕ) (label : ℕ) (w : List ℕ) (answer : Explanation) : Type 0 where
+  pub says : comesToOne types m device (labelledBelow label 0) ≡ false
+      → ((wordOf w noteWord ≡ 0 → ⊥) → (wordOf w noteWord ≡ 6 → ⊥) → comesToOne types m device (labelledBelow label (length m)) ≡ true)
+      → answer ≡ noteAnswer (wordOf w noteWord) (lowestPlace types m device label)
 
 -- ---- The promise
 
 -- the answer and all bytes of the memory lent are those of the definition
-pub record Explains (manifest device type title attribute : List ℕ) (label : ℕ) (memoryBefore memoryAfter : List ℕ) (answer : Explanation) : Type 0 where
-  pub told : record { answer = answer; memoryAfter = memoryAfter } ≡ why manifest device type title attribute label (length memoryBefore)
+pub record Explains (types : Types) (manifest device type title attribute : List ℕ) (label : ℕ) (memoryBefore memoryAfter : List ℕ) (answer : Explanation) : Type 0 where
+  pub told : record { answer = answer; memoryAfter = memoryAfter } ≡ why types manifest device type title attribute label (length memoryBefore)

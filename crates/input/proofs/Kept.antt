@@ -17,6 +17,7 @@ use Rattle.rules.specs.Tree.{Devices, named, byDefault, Item}
 use Rattle.rules.specs.Read.{manifestOf}
 use Rattle.rules.specs.Check.{check}
 use Rattle.rules.specs.Evaluate.{any}
+use Rattle.rules.specs.Types.{theEight, checkTypes}
 use Rattle.rules.specs.Compile.{sameBytes, stringAt, names, isDefaultNode, withNode, isNode, itemsFor, noneStruckOut, runManifest, checked, finalState, compiledFrom, compiled}
 use Rattle.rules.specs.Schedule.{textOf, beforeFeed, afterFeed, schedule}
 use Rattle.rules.proofs.Lists.{Each, noneLeft, also}
@@ -50,32 +51,32 @@ module _ (ss : List (List ℕ)) (short : Each Short ss) (device : List ℕ) wher
       λ i. chosen (λ ds. same-names ds i)
 
 module _ (m device : List ℕ) (limit output memory : ℕ) where
-  same-run : check m ≡ Sound → runManifest noneStruckOut (manifestOf m) (take 256 device) limit output ≡ runManifest noneStruckOut (manifestOf m) device limit output
+  same-run : check m ≡ Sound → runManifest noneStruckOut theEight (manifestOf m) (take 256 device) limit output ≡ runManifest noneStruckOut theEight (manifestOf m) device limit output
   unfolding runManifest
   same-run w = rw (same-items (manifestOf m .strings) (rw (strings-read m w) (short-strings m w)) device (manifestOf m .items))
 
-  checked-run : (v : Verdict) → check m ≡ v → (checked v >>= λ _. runManifest noneStruckOut (manifestOf m) (take 256 device) limit output) ≡ (checked v >>= λ _. runManifest noneStruckOut (manifestOf m) device limit output)
+  checked-run : (v : Verdict) → check m ≡ v → (checked v >>= λ _. runManifest noneStruckOut theEight (manifestOf m) (take 256 device) limit output) ≡ (checked v >>= λ _. runManifest noneStruckOut theEight (manifestOf m) device limit output)
   unfolding checked _>>=_
   checked-run Sound w = same-run w
   checked-run (Fault r p) w = refl
 
   -- 256 bytes of the device name are enough for any manifest
-  pub same-compiled : compiled m (take 256 device) limit output memory ≡ compiled m device limit output memory
+  pub same-compiled : compiled theEight m (take 256 device) limit output memory ≡ compiled theEight m device limit output memory
   unfolding compiled finalState
   same-compiled =
       ap
-      (λ (o : Outcome State). (refuseIf (ltb memory 65536) MemoryTooShort 0 >>= λ _. refuseIf (eqb (length m) 0 || ltb 65535 (length m)) ManifestLength 0 >>= λ _. o) >>= λ st. done (compiledFrom limit st))
+      (λ (o : Outcome State). (refuseIf (ltb memory 65536) MemoryTooShort 0 >>= λ _. checked (checkTypes theEight) >>= λ _. refuseIf (eqb (length m) 0 || ltb 65535 (length m)) ManifestLength 0 >>= λ _. o) >>= λ st. done (compiledFrom limit st))
       (checked-run (check m) refl)
 
 -- ---- The manifest: one of more than 65,535 bytes is refused for its length, whatever follows
 
-long-refused : (m device : List ℕ) → 65535 < length m → compiled m device 65535 65535 65536 ≡ refused ManifestLength 0
-unfolding compiled refuseIf checked _>>=_
-long-refused m device long = rw (before-the-run m device 65535 65535 65536, ← too-long m (λ z. omega arith) long)
+long-refused : (m device : List ℕ) → 65535 < length m → compiled theEight m device 65535 65535 65536 ≡ refused ManifestLength 0
+unfolding compiled refuseIf checked checkTypes _>>=_
+long-refused m device long = rw (before-the-run theEight m device 65535 65535 65536, ← too-long m (λ z. omega arith) long)
 
 -- the text for a manifest and a device
 abbrev textFor : (m device : List ℕ) → List ℕ
-textFor m device = textOf (manifestOf m .strings) (compiled m device 65535 65535 65536)
+textFor m device = textOf (manifestOf m .strings) (compiled theEight m device 65535 65535 65536)
 
 same-text : (m device : List ℕ) → textFor m device ≡ textFor (take 65536 m) (take 256 device)
 unfolding textOf
@@ -90,12 +91,12 @@ same-text m device = go (leb (length m) 65535) refl
         rw (long-refused m device long, long-refused (take 65536 m) (take 256 device) (omega (arith, length-take 65536 m)))
 
 -- the schedule of an input is that of what is kept of it
-pub kept-same : (input : List ℕ) → schedule input ≡ textOf (manifestOf (take 65536 (afterFeed input)) .strings) (compiled (take 65536 (afterFeed input)) (take 256 (beforeFeed input)) 65535 65535 65536)
+pub kept-same : (input : List ℕ) → schedule input ≡ textOf (manifestOf (take 65536 (afterFeed input)) .strings) (compiled theEight (take 65536 (afterFeed input)) (take 256 (beforeFeed input)) 65535 65535 65536)
 unfolding schedule
 kept-same input = same-text (afterFeed input) (beforeFeed input)
 
 -- buffers of 256 and of 65,536 bytes that hold an input have what its schedule needs
-pub kept-schedule : (d m input : List ℕ) {r : Reading} → length d ≡ 256 → length m ≡ 65536 → r ≡ readingOf d m input → textOf (manifestOf (keptRest r) .strings) (compiled (keptRest r) (keptLine r) 65535 65535 65536) ≡ schedule input
+pub kept-schedule : (d m input : List ℕ) {r : Reading} → length d ≡ 256 → length m ≡ 65536 → r ≡ readingOf d m input → textOf (manifestOf (keptRest r) .strings) (compiled theEight (keptRest r) (keptLine r) 65535 65535 65536) ≡ schedule input
 kept-schedule d m input {r} device manifest e =
     let name : keptLine r ≡ take 256 (beforeFeed input) = ap keptLine e ∙ kept-line d m input ∙ ap (λ (n : ℕ). take n (beforeFeed input)) device in
     let text : keptRest r ≡ take 65536 (afterFeed input) = ap keptRest e ∙ kept-rest d m input ∙ ap (λ (n : ℕ). take n (afterFeed input)) manifest in

@@ -15,7 +15,7 @@ use Rattle.notation.specs.Convert.{stringsOf, entered, enteredAll, tableBehind}
 use Rattle.notation.proofs.WrittenNames.{Rising}
 use Rattle.notation.proofs.StringTable.{table-rising}
 use Rattle.interner.specs.Table.{listed, Belongs}
-use Rattle.interner.proofs.Ascending.{not-itself, not-back, other-bytes, own-bytes}
+use Rattle.rules.proofs.Ascending.{not-itself, not-back, other-bytes, own-bytes}
 
 -- strings that rise still do with one more: they are the table behind one token
 pub entered-rises : (s : List ℕ) (table : List (List ℕ)) → Rising table → Rising (entered s table)

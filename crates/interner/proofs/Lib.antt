@@ -1,6 +1,6 @@
 pub mod Reading
 pub mod Comparing
-pub mod Ascending
+pub mod Told
 pub mod Moving
 pub mod Searching
 pub mod Entering

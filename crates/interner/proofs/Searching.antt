@@ -9,12 +9,13 @@ use borrow.Author.Tests.{eqb-true, eqb-false}
 use Rattle.rules.specs.Bytes.{two}
 use Rattle.rules.specs.Check.{ascends}
 use Rattle.rules.proofs.Within.{false-not-true}
+use Rattle.rules.proofs.Ascending.{before-both, all-rise}
 use Rattle.notation.specs.Quoted.{stringFrom}
 use Rattle.notation.proofs.WrittenNames.{Rising, nextString}
 use Rattle.interner.specs.Strings.{orderOf}
 use Rattle.interner.specs.Table.{listed, entryString, strings, Searched}
 use Rattle.interner.specs.declared.Order.the-variants.{Before, Same, After}
-use Rattle.interner.proofs.Ascending.{before-both, told-before, told-after, told-same}
+use Rattle.interner.proofs.Told.{told-before, told-after, told-same}
 
 -- ---- Strings that rise
 
@@ -34,17 +35,9 @@ next-rises f k (suc (suc n)) (nextString e up) i l h = go (eqb i k) refl (λ m. 
     go false x others = let other = eqb-false i k x in others (omega (arith, other))
 
 -- each comes before all behind it
-far-rises : (f : ℕ → List ℕ) (n : ℕ) → Rising (listed f 0 n) → (i d : ℕ) → i + d + 1 < n → ascends (f i) (f (suc (i + d))) ≡ true
-far-rises f n up i zero l = let same : i + 0 ≡ i = omega arith in rw same (next-rises f 0 n up i (omega arith) (omega arith))
-far-rises f n up i (suc d) l =
-    let same : i + suc d ≡ suc (i + d) = omega arith in
-    rw same (before-both (f i) (f (suc (i + d))) (f (suc (suc (i + d)))) (far-rises f n up i d (omega arith)) (next-rises f 0 n up (suc (i + d)) (omega arith) (omega arith)))
-
 pub rises : (t table : List ℕ) (count : ℕ) → Rising (strings t table count) → Rises (entryString t table) count
 unfolding strings
-rises t table count up i j l h =
-    let place : suc (i + (j - suc i)) ≡ j = omega arith in
-    ap (λ (k : ℕ). ascends (entryString t table i) (entryString t table k)) (sym place) ∙ far-rises (entryString t table) count up i (j - suc i) (omega arith)
+rises t table count up = all-rise (entryString t table) count λ i l. next-rises (entryString t table) 0 count up i (omega arith) (omega arith)
 
 -- ---- A search
 

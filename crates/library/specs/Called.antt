@@ -7,6 +7,7 @@ use Rattle.values.specs.declared.Explanation.{Explanation}
 use Rattle.values.specs.declared.Explanation.the-variants.{Among, NotAmong, Refused}
 use Rattle.values.specs.Numbers.{Said, accepted, refused, said, numberOf, partNumber}
 use Rattle.rules.specs.Why.{Told}
+use Rattle.rules.specs.Types.{Types}
 use Rattle.compiler.specs.Compiled.{Compiles}
 use Rattle.notation.specs.Convert.{Effect, accepted as written, refusal, said as saidOfText}
 use Rattle.notation.specs.Convert as texts
@@ -17,10 +18,10 @@ unfoldable pub wordOf : Said → ℕ
 wordOf (accepted n s) = s * 65536 + n
 wordOf (refused k p) = k * 4294967296 + p
 
--- the word is that of the answer of `compile`, and the bytes lent are as `compile` leaves them
-pub record Calls (manifest device : List ℕ) (limit : ℕ) (outputBefore outputAfter memoryBefore memoryAfter : List ℕ) (word : ℕ) : Type 0 where
+-- the word is that of the answer of a compile, and the bytes lent are as the compile leaves them
+pub record Calls (types : Types) (manifest device : List ℕ) (limit : ℕ) (outputBefore outputAfter memoryBefore memoryAfter : List ℕ) (word : ℕ) : Type 0 where
   pub answer : Answer
-  pub compiles : Compiles manifest device limit outputBefore outputAfter memoryBefore memoryAfter answer
+  pub compiles : Compiles types manifest device limit outputBefore outputAfter memoryBefore memoryAfter answer
   pub told : word ≡ wordOf (said answer)
 
 -- ---- The text tools

@@ -5,6 +5,7 @@ ghost use lib.ListN.{length};
 ghost use Rattle.values.specs.Numbers.{numberOf, said};
 ghost use Rattle.notation.specs.Convert.{convert, said as saidOfText};
 ghost use Rattle.notation.specs.Printer.{print};
+ghost use Rattle.rules.specs.Types.{theEight, lent};
 ghost use Rattle.rules.specs.Why.{why};
 ghost use Rattle.library.specs.Called.{wordOf, Calls, textWord, Tells, explanationWord, Answers};
 use values::Answer;
@@ -40,9 +41,25 @@ pub extern "C" fn rigbanut_compile(
     out: &mut [u8],
     work: &mut [u8],
 ) -> u64
-    ensures { λ r. ⌜ Calls (now (manifest .entry)) (now (device .entry)) limit (now (out .entry)) (now (out .exit)) (now (work .entry)) (now (work .exit)) r ⌝ }
+    ensures { λ r. ⌜ Calls theEight (now (manifest .entry)) (now (device .entry)) limit (now (out .entry)) (now (out .exit)) (now (work .entry)) (now (work .exit)) r ⌝ }
 {
     let answer = compiler::compile(manifest, device, limit, out, work);
+    word_of(answer)
+}
+
+// The same with a list of types, which replaces the eight.
+#[no_mangle]
+pub extern "C" fn rigbanut_compile_with_types(
+    types: &[u8],
+    manifest: &[u8],
+    device: &[u8],
+    limit: u16,
+    out: &mut [u8],
+    work: &mut [u8],
+) -> u64
+    ensures { λ r. ⌜ Calls (lent (now (types .entry))) (now (manifest .entry)) (now (device .entry)) limit (now (out .entry)) (now (out .exit)) (now (work .entry)) (now (work .exit)) r ⌝ }
+{
+    let answer = compiler::compile_with_types(types, manifest, device, limit, out, work);
     word_of(answer)
 }
 
@@ -102,8 +119,35 @@ pub extern "C" fn rigbanut_why(
     label: u8,
     work: &mut [u8],
 ) -> u64
-    ensures { λ r. ⌜ Answers (why (now (manifest .entry)) (now (device .entry)) (now (kind .entry)) (now (title .entry)) (now (attribute .entry)) label (length (now (work .entry)))) (now (work .exit)) r ⌝ }
+    ensures { λ r. ⌜ Answers (why theEight (now (manifest .entry)) (now (device .entry)) (now (kind .entry)) (now (title .entry)) (now (attribute .entry)) label (length (now (work .entry)))) (now (work .exit)) r ⌝ }
 {
     let explanation = explanation::explain(manifest, device, kind, title, attribute, label, work);
+    explanation_word(explanation)
+}
+
+// The same with a list of types, which replaces the eight.
+#[no_mangle]
+pub extern "C" fn rigbanut_why_with_types(
+    types: &[u8],
+    manifest: &[u8],
+    device: &[u8],
+    kind: &[u8],
+    title: &[u8],
+    attribute: &[u8],
+    label: u8,
+    work: &mut [u8],
+) -> u64
+    ensures { λ r. ⌜ Answers (why (lent (now (types .entry))) (now (manifest .entry)) (now (device .entry)) (now (kind .entry)) (now (title .entry)) (now (attribute .entry)) label (length (now (work .entry)))) (now (work .exit)) r ⌝ }
+{
+    let explanation = explanation::explain_with_types(
+        types,
+        manifest,
+        device,
+        kind,
+        title,
+        attribute,
+        label,
+        work,
+    );
     explanation_word(explanation)
 }

@@ -8,7 +8,8 @@ use lib.ListN.{length}
 use Rattle.rules.specs.Bytes.{pick}
 use Rattle.rules.specs.Format.{isConstant, allowed, three, take, follow, formOf, mayEnd}
 use Rattle.rules.specs.Evaluate.{any}
-use Rattle.rules.specs.Compile.{sameBytes, builtInTypes}
+use Rattle.rules.specs.Types.{theEight, builtInTypes}
+use Rattle.rules.specs.Compile.{sameBytes}
 use Rattle.rules.specs.EditRule.{IsBytes}
 use Rattle.rules.specs.declared.Kind.{Kind}
 use Rattle.rules.specs.declared.Part.{Part}
@@ -32,7 +33,7 @@ spelledIn t w = eqb t 0x11 || (eqb t 0x31 || isName w)
 
 -- the type of a resource is built in, or is not, as the tag says
 abbrev pub typeIn : (tag : ℕ) → List ℕ → Bool
-typeIn t w = pick (eqb t 0x25) (any (sameBytes w) builtInTypes) (pick (eqb t 0x27) (not (any (sameBytes w) builtInTypes)) true)
+typeIn t w = pick (eqb t 0x25) (any (sameBytes w) (builtInTypes theEight)) (pick (eqb t 0x27) (not (any (sameBytes w) (builtInTypes theEight))) true)
 
 -- a name in a field with the tag t: S holds of it
 pub record NameIn (S : List ℕ → Type 0) (t : ℕ) (w : List ℕ) : Type 0 where

@@ -9,7 +9,8 @@ use borrow.Author.Tests.{eqb-true, leb-true, le-leb}
 use Rattle.rules.specs.Bytes.{pick}
 use Rattle.rules.specs.Format.{isConstant, isStatement, allowed, three, take, follow, forms, formIn, formOf, mayEnd, partMayEnd}
 use Rattle.rules.specs.Evaluate.{any}
-use Rattle.rules.specs.Compile.{sameBytes, builtInTypes}
+use Rattle.rules.specs.Types.{theEight, builtInTypes}
+use Rattle.rules.specs.Compile.{sameBytes}
 use Rattle.rules.specs.declared.Kind.{Kind}
 use Rattle.rules.specs.declared.Kind.the-variants.{Constant, Expression, Pattern, Arm, Statement, Block, Branch, Attribute, Parameter, Parent, Item, Device}
 use Rattle.rules.specs.declared.Part.{Part}
@@ -146,9 +147,9 @@ module _ {S : List ℕ → Type 0} where
   -- 25 and 27
   pub resource-of : {p : ℕ} {w : List ℕ} {i : Node} {js : Nodes} → Word S w → Of S Expression i → More S Attribute (empty ▸ i) js → Of S Statement (node p (resourceTag w) (name w ∷ []) js)
   unfolding resourceTag allowed formOf formIn forms mayEnd partMayEnd
-  resource-of {p} {w} {i} {js} s o m = go (any (sameBytes w) builtInTypes) refl
+  resource-of {p} {w} {i} {js} s o m = go (any (sameBytes w) (builtInTypes theEight)) refl
     where
-      go : (b : Bool) → any (sameBytes w) builtInTypes ≡ b → Of S Statement (node p (pick b 0x25 0x27) (name w ∷ []) js)
+      go : (b : Bool) → any (sameBytes w) (builtInTypes theEight) ≡ b → Of S Statement (node p (pick b 0x25 0x27) (name w ∷ []) js)
       go true e = whole-of Statement (three (One Expression) (Many Attribute) Over) refl (omega arith) (oneName (record { known = s .known; spelling = s .spelled; type = e })) refl (has-many-second (has-first has-none o) m) refl
       go false e = whole-of Statement (three (One Expression) (Many Attribute) Over) refl (omega arith) (oneName (record { known = s .known; spelling = s .spelled; type = rw e })) refl (has-many-second (has-first has-none o) m) refl
 

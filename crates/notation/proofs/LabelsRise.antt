@@ -10,7 +10,8 @@ use lib.ListN.{length}
 use Rattle.rules.specs.Bytes.{pick}
 use Rattle.rules.specs.Format.{isConstant}
 use Rattle.rules.specs.Evaluate.{any}
-use Rattle.rules.specs.Compile.{sameBytes, builtInTypes}
+use Rattle.rules.specs.Types.{theEight, builtInTypes}
+use Rattle.rules.specs.Compile.{sameBytes}
 use Rattle.rules.proofs.Lists.{both-left, both-right}
 use Rattle.rules.proofs.Within.{false-not-true}
 use Rattle.notation.specs.Tokens.{word, number, text, variable, topVariable, classVariable, mark, Lexeme, lexeme, kind, tokenOf, lineOf}
@@ -110,7 +111,7 @@ plain-tag t e = go (isConstant t) e
 -- no resource has the tag of a constant
 pub resource-plain : (w : List ℕ) → isConstant (resourceTag w) ≡ false
 unfolding resourceTag
-resource-plain w = go (any (sameBytes w) builtInTypes)
+resource-plain w = go (any (sameBytes w) (builtInTypes theEight))
   where
     go : (b : Bool) → isConstant (pick b 0x25 0x27) ≡ false
     go true = refl

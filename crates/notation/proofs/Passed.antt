@@ -6,7 +6,8 @@ use mathlib.Core.List.{List, [], _∷_}
 use mathlib.Core.Option.{Option, none, some}
 use Rattle.rules.specs.Bytes.{pick}
 use Rattle.rules.specs.Catalog.{highBytes}
-use Rattle.rules.specs.Compile.{stringAt, sameBytes, builtInTypes, isBuiltIn}
+use Rattle.rules.specs.Types.{theEight, builtInTypes}
+use Rattle.rules.specs.Compile.{stringAt, sameBytes, isBuiltIn}
 use Rattle.rules.specs.Evaluate.{any}
 use Rattle.rules.specs.Fields.{Field, field, Fields, none as noFields, more}
 use Rattle.rules.specs.Tree.{Constant, Expression, constant, variable, topVariable, classVariable, operation, negation, attributeRead, selector, Arms, noArm, arm, defaultArm, AttributeField, Statement, assignment, conditional, choice, builtInResource, definedResource, classWithAttributes, include, Block, end, next, Branches, noBranch, branch, defaultBranch, Parameter, Parent, typeDefinition, classDefinition, Devices, named, byDefault, Item, statement, definition}
@@ -97,11 +98,11 @@ module _ (strings : List (List ℕ)) where
 
     built-in-type : (t : ℕ) → t < 65536 → typeRight strings 0x25 (highBytes 2 t) ≡ true → resourceTag (stringAt strings t) ≡ 0x25
     unfolding typeRight resourceTag isBuiltIn highBytes
-    built-in-type t m e = let b : any (sameBytes (stringAt strings t)) builtInTypes ≡ true = subst (λ (n : ℕ). isBuiltIn strings n ≡ true) (two-back t [] m) e in rw b
+    built-in-type t m e = let b : any (sameBytes (stringAt strings t)) (builtInTypes theEight) ≡ true = subst (λ (n : ℕ). isBuiltIn theEight strings n ≡ true) (two-back t [] m) e in rw b
 
     defined-type : (t : ℕ) → t < 65536 → typeRight strings 0x27 (highBytes 2 t) ≡ true → resourceTag (stringAt strings t) ≡ 0x27
     unfolding typeRight resourceTag isBuiltIn highBytes
-    defined-type t m e = go (any (sameBytes (stringAt strings t)) builtInTypes) (subst (λ (n : ℕ). not (isBuiltIn strings n) ≡ true) (two-back t [] m) e)
+    defined-type t m e = go (any (sameBytes (stringAt strings t)) (builtInTypes theEight)) (subst (λ (n : ℕ). not (isBuiltIn theEight strings n) ≡ true) (two-back t [] m) e)
       where
         go : (b : Bool) → not b ≡ true → _≡_ {A = ℕ} (pick b 0x25 0x27) 0x27
         go true e = false-not-true e

@@ -9,6 +9,7 @@ use lib.ListN.{length}
 use borrow.Author.Tests.{eqb-true, eqb-false, leb-true, le-leb}
 use Rattle.rules.specs.Bytes.{pick, byte as byteAt, two}
 use Rattle.rules.specs.Format.{isConstant, size, forms, formIn, formOf}
+use Rattle.rules.specs.Types.{theEight}
 use Rattle.rules.specs.Compile.{stringAt, isBuiltIn}
 use Rattle.rules.specs.Fields.{field, Fields, none as noFields, more}
 use Rattle.rules.specs.declared.Piece.{Piece as ListedPiece}
@@ -87,7 +88,7 @@ module _ (table : List (List ℕ)) (small : length table ≤ 1024) where
       named : (u : ℕ) → t ≡ u → isNamePiece (formOf u .one) ≡ false
       named u i = rw i at e
 
-      go : (a : Bool) → eqb t 0x25 ≡ a → (b : Bool) → eqb t 0x27 ≡ b → pick a (isBuiltIn table (two h 0)) (pick b (not (isBuiltIn table (two h 0))) true) ≡ true
+      go : (a : Bool) → eqb t 0x25 ≡ a → (b : Bool) → eqb t 0x27 ≡ b → pick a (isBuiltIn theEight table (two h 0)) (pick b (not (isBuiltIn theEight table (two h 0))) true) ≡ true
       go true i b j = false-not-true (sym (named 0x25 (eqb-true t 0x25 i)))
       go false i true j = false-not-true (sym (named 0x27 (eqb-true t 0x27 j)))
       go false i false j = refl

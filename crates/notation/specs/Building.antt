@@ -7,7 +7,8 @@ use lib.ListN.{length}
 use Rattle.rules.specs.Bytes.{pick}
 use Rattle.rules.specs.Catalog.{highBytes, word64}
 use Rattle.rules.specs.Evaluate.{any}
-use Rattle.rules.specs.Compile.{sameBytes, builtInTypes}
+use Rattle.rules.specs.Types.{theEight, builtInTypes}
+use Rattle.rules.specs.Compile.{sameBytes}
 use Rattle.notation.specs.Tokens.{Token, word, number, text, variable, topVariable, classVariable, mark, trueWord, Lexeme, lexeme, placeOf, tokenOf}
 
 -- what the body of a field begins with: bytes, and names by their strings
@@ -96,7 +97,7 @@ variableNode (lexeme p l (mark k)) = leaf p 0 []
 
 -- "25 if the type list holds the name, else 27"
 unfoldable pub resourceTag : (type : List ℕ) → ℕ
-resourceTag w = pick (any (sameBytes w) builtInTypes) 0x25 0x27
+resourceTag w = pick (any (sameBytes w) (builtInTypes theEight)) 0x25 0x27
 
 -- ---- Actions: each at a token, none where it would pass a limit
 

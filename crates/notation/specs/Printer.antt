@@ -14,6 +14,7 @@ use Rattle.rules.specs.Check.{check}
 use Rattle.rules.specs.Fields.{Field, field, Fields, none as noFields, more, readAll, others}
 use Rattle.rules.specs.Read.{manifestOf}
 use Rattle.rules.specs.Tree.{Manifest}
+use Rattle.rules.specs.Types.{theEight}
 use Rattle.rules.specs.Compile.{stringAt, checked, isBuiltIn}
 use Rattle.rules.specs.Outcome.{Outcome, _>>=_, refuseIf, done}
 use Rattle.notation.specs.Tokens.{Lexeme}
@@ -66,7 +67,7 @@ module _ (strings : List (List ℕ)) where
 
   -- "a 25 whose type is not in the list, a 27 whose type is"
   unfoldable pub typeRight : (tag : ℕ) → (head : List ℕ) → Bool
-  typeRight t h = pick (eqb t 0x25) (isBuiltIn strings (two h 0)) (pick (eqb t 0x27) (not (isBuiltIn strings (two h 0))) true)
+  typeRight t h = pick (eqb t 0x25) (isBuiltIn theEight strings (two h 0)) (pick (eqb t 0x27) (not (isBuiltIn theEight strings (two h 0))) true)
 
   -- "a constant whose label is below that of the constant before it": l is that label
   unfoldable pub labelRight : (l tag : ℕ) → (head : List ℕ) → Bool

@@ -14,6 +14,7 @@ use Rattle.rules.specs.Check.{stringPlaces}
 use Rattle.rules.specs.Read.{manifestOf}
 use Rattle.rules.specs.Outcome.{Outcome, refused, done}
 use Rattle.rules.specs.Catalog.{readCatalog}
+use Rattle.rules.specs.Types.{theEight}
 use Rattle.rules.specs.Compile.{Compiled, compiled, compile, answerOf, outputOf}
 use Rattle.rules.specs.EditRule.{IsBytes}
 use Rattle.rules.specs.Schedule.{entryLines, stepsLine, refusalLine, textOf, schedule}
@@ -88,10 +89,10 @@ module _ (whole : List ℕ) (sent : ℕ) (ss : List (List ℕ)) (catalog : List 
 
 module _ (m device : List ℕ) where
   abbrev outcome : Outcome Compiled
-  outcome = compiled m device 65535 65535 65536
+  outcome = compiled theEight m device 65535 65535 65536
 
   -- a catalog and its steps
-  pub is-catalog : {answer : Answer} {out : List ℕ} {n steps : ℕ} → answer ≡ compile m device 65535 65535 65536 .answer → out ≡ compile m device 65535 65535 65536 .outputAfter → answer ≡ Catalog n steps → IsBytes m → IsCatalog m device (take n out) steps
+  pub is-catalog : {answer : Answer} {out : List ℕ} {n steps : ℕ} → answer ≡ compile theEight m device 65535 65535 65536 .answer → out ≡ compile theEight m device 65535 65535 65536 .outputAfter → answer ≡ Catalog n steps → IsBytes m → IsCatalog m device (take n out) steps
   unfolding compile answerOf
   is-catalog {answer} {out} {n} {steps} told left is bytes = go outcome refl (sym is ∙ told) left
     where
@@ -114,7 +115,7 @@ module _ (m device : List ℕ) where
   }
 
   -- a refusal, whose line is the whole
-  pub refusal-left : {answer : Answer} {r : Reason} {p : ℕ} → answer ≡ compile m device 65535 65535 65536 .answer → answer ≡ Refused r p → Left (scheduleText m device) 0 (refusalLine (numberOf r) p)
+  pub refusal-left : {answer : Answer} {r : Reason} {p : ℕ} → answer ≡ compile theEight m device 65535 65535 65536 .answer → answer ≡ Refused r p → Left (scheduleText m device) 0 (refusalLine (numberOf r) p)
   unfolding compile answerOf scheduleText
   refusal-left {answer} {r} {p} told is = go outcome refl (sym is ∙ told)
     where
@@ -126,13 +127,13 @@ module _ (m device : List ℕ) where
           record { rest = sym (refusal-text m device 65535 65535 65536 (e ∙ rw (reason, place) refl)); few = omega arith }
 
   -- the output keeps its length
-  pub output-length : length (compile m device 65535 65535 65536 .outputAfter) ≡ 65535
+  pub output-length : length (compile theEight m device 65535 65535 65536 .outputAfter) ≡ 65535
   unfolding compile outputOf
   output-length = go outcome refl
     where
       go : (o : Outcome Compiled) → outcome ≡ o → length (outputOf 65535 o) ≡ 65535
       go (refused r p) e = length-replicate {A = ℕ} 65535 0
-      go (done c) e = omega (arith, length-append (c .catalog) (replicate (65535 - length (c .catalog)) 0), length-replicate {A = ℕ} (65535 - length (c .catalog)) 0, catalog-within m device 65535 65535 65536 e .0)
+      go (done c) e = omega (arith, length-append (c .catalog) (replicate (65535 - length (c .catalog)) 0), length-replicate {A = ℕ} (65535 - length (c .catalog)) 0, catalog-within theEight m device 65535 65535 65536 e .0)
 
 -- ---- The input that was read
 

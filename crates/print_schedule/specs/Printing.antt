@@ -6,6 +6,7 @@ use mathlib.Core.List.{List, _++_}
 use lib.ListN.{length}
 use Rattle.rules.specs.Read.{manifestOf}
 use Rattle.rules.specs.Outcome.{done}
+use Rattle.rules.specs.Types.{theEight}
 use Rattle.rules.specs.Compile.{compiled}
 use Rattle.rules.specs.EditRule.{IsBytes}
 use Rattle.rules.specs.Schedule.{textOf}
@@ -15,7 +16,7 @@ use Rattle.standard_streams.specs.Sending.{Left}
 
 -- the schedule of a manifest and a device: "with limit 65,535", 65,535 bytes of output and 65,536 of memory
 unfoldable pub scheduleText : (manifest device : List ℕ) → List ℕ
-scheduleText m device = textOf (manifestOf m .strings) (compiled m device 65535 65535 65536)
+scheduleText m device = textOf (manifestOf m .strings) (compiled theEight m device 65535 65535 65536)
 
 -- what is told is that all was sent
 abbrev pub AllSent : (manifest device : List ℕ) → (sent : ℕ) → (told : Bool) → Type 0
@@ -30,5 +31,5 @@ pub record LinesLeft (whole : List ℕ) (sent : ℕ) (strings : List (List ℕ))
 
 -- the catalog and the steps are those that the definition has for a byte string and a device
 pub record IsCatalog (manifest device catalog : List ℕ) (steps : ℕ) : Type 0 where
-  pub accepted : compiled manifest device 65535 65535 65536 ≡ done (record { catalog = catalog; steps = steps })
+  pub accepted : compiled theEight manifest device 65535 65535 65536 ≡ done (record { catalog = catalog; steps = steps })
   pub bytes : IsBytes manifest

@@ -6,6 +6,7 @@ ghost use mathlib.Core.List.{List};
 ghost use Prim.Native.Nat.{ℕ, _+_};
 ghost use lib.ListN.{length};
 ghost use Rattle.values.specs.Numbers.{numberOf};
+ghost use Rattle.rules.specs.Types.{theEight};
 ghost use Rattle.rules.specs.Compile.{compile};
 ghost use Rattle.rules.specs.Schedule.{stepsLine, refusalLine, schedule};
 ghost use Rattle.input.specs.Reading.{reading, readingOf};
@@ -28,7 +29,7 @@ use values::Reason;
 
 // "with limit 65,535", 65,535 bytes of output and 65,536 of memory.
 fn compile_schedule(manifest: &[u8], device: &[u8], out: &mut [u8; 65535]) -> Answer
-    ensures { λ r. ⌜ (r ≡ compile (now (manifest .entry)) (now (device .entry)) 65535 65535 65536 .answer) × (now (out .exit) ≡ compile (now (manifest .entry)) (now (device .entry)) 65535 65535 65536 .outputAfter) ⌝ }
+    ensures { λ r. ⌜ (r ≡ compile theEight (now (manifest .entry)) (now (device .entry)) 65535 65535 65536 .answer) × (now (out .exit) ≡ compile theEight (now (manifest .entry)) (now (device .entry)) 65535 65535 65536 .outputAfter) ⌝ }
 {
     let mut work = [0u8; 65536];
     compiler::compile(manifest, device, 65535, out, &mut work)

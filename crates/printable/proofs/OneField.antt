@@ -12,7 +12,8 @@ use Rattle.rules.specs.Bytes.{pick, byte, two}
 use Rattle.rules.specs.Format.{formOf, size, isConstant}
 use Rattle.rules.specs.Check.{text}
 use Rattle.rules.specs.Evaluate.{any}
-use Rattle.rules.specs.Compile.{sameBytes, stringAt, isBuiltIn, builtInTypes}
+use Rattle.rules.specs.Types.{theEight, builtInTypes}
+use Rattle.rules.specs.Compile.{sameBytes, stringAt, isBuiltIn}
 use Rattle.rules.specs.declared.Piece.{Piece}
 use Rattle.rules.specs.declared.Piece.the-variants.{Nothing, Label, Integer, Boolean, Operator, Name}
 use Rattle.format.specs.Numbers.{nameNumber}
@@ -85,21 +86,16 @@ module _ (ss : List (List ℕ)) (m : List ℕ) (p t : ℕ) where
 
 -- ---- Types
 
-module _ (m table : List ℕ) (strings n : ℕ) (i : Indexed m table strings) where
-  pub none-built-in : strings ≤ n → false ≡ isBuiltIn (stringTexts m) n
-  unfolding isBuiltIn builtInTypes any sameBytes
-  none-built-in h = ap (λ (x : List ℕ). any (sameBytes x) builtInTypes) (no-string m table strings n i h)
-
-  pub built-in-there : {p : ℕ} {b : Bool} → n < strings → p ≡ two table (2 * n) → b ≡ isBuiltInText (text m p) → b ≡ isBuiltIn (stringTexts m) n
-  unfolding isBuiltIn isBuiltInText
-  built-in-there h ep eb = eb ∙ ap (λ (x : List ℕ). any (sameBytes x) builtInTypes) (its-string m table strings n i h ep refl)
+pub built-in-named : (ss : List (List ℕ)) (n : ℕ) {x : List ℕ} {b : Bool} → x ≡ stringAt ss n → b ≡ isBuiltInText theEight x → b ≡ isBuiltIn theEight ss n
+unfolding isBuiltIn isBuiltInText
+built-in-named ss n named told = told ∙ ap (λ (x : List ℕ). any (sameBytes x) (builtInTypes theEight)) named
 
 module _ (ss : List (List ℕ)) (m : List ℕ) (p t : ℕ) where
-  pub type-built-in : {n : ℕ} {b : Bool} → t ≡ 0x25 → n ≡ two m (p + 3) → b ≡ isBuiltIn ss n → b ≡ typeRight ss t (drop (p + 3) m)
+  pub type-built-in : {n : ℕ} {b : Bool} → t ≡ 0x25 → n ≡ two m (p + 3) → b ≡ isBuiltIn theEight ss n → b ≡ typeRight ss t (drop (p + 3) m)
   unfolding typeRight
   type-built-in e en eb = rw (eq-eqb t 0x25 e, first-two m (p + 3), ← en) eb
 
-  pub type-defined : {n : ℕ} {b : Bool} → t ≡ 0x27 → n ≡ two m (p + 3) → b ≡ isBuiltIn ss n → not b ≡ typeRight ss t (drop (p + 3) m)
+  pub type-defined : {n : ℕ} {b : Bool} → t ≡ 0x27 → n ≡ two m (p + 3) → b ≡ isBuiltIn theEight ss n → not b ≡ typeRight ss t (drop (p + 3) m)
   unfolding typeRight
   type-defined e en eb = rw (ne-eqb t 0x25 (λ z. omega arith), eq-eqb t 0x27 e, first-two m (p + 3), ← en) (ap not eb)
 

@@ -13,6 +13,7 @@ use Rattle.rules.specs.Bytes.{pick, byte, two, endOf, fieldsIn}
 use Rattle.rules.specs.Format.{three, forms, formIn, formOf, size, headSize, isConstant}
 use Rattle.rules.specs.Check.{walk, inside, stride, nextInOrder, check}
 use Rattle.rules.specs.Fields.{field, Fields, none as noFields, readEach, readBody, readField, readAll, others}
+use Rattle.rules.specs.Types.{theEight}
 use Rattle.rules.specs.Compile.{isBuiltIn}
 use Rattle.rules.specs.declared.Part.the-variants.{Over, Many}
 use Rattle.rules.specs.declared.Kind.the-variants.{Item}
@@ -87,9 +88,9 @@ module _ (ss : List (List ℕ)) (t : ℕ) (g h : List ℕ) (alike : (i : ℕ) �
   unfolding typeRight headSize size formOf formIn forms
   type-alike = go (eqb t 0x25) refl (eqb t 0x27) refl
     where
-      go : (a : Bool) → eqb t 0x25 ≡ a → (b : Bool) → eqb t 0x27 ≡ b → pick a (isBuiltIn ss (two g 0)) (pick b (not (isBuiltIn ss (two g 0))) true) ≡ pick a (isBuiltIn ss (two h 0)) (pick b (not (isBuiltIn ss (two h 0))) true)
-      go true ea b eb = ap (isBuiltIn ss) (two-alike 0 (type-size t 0x25 ea (omega arith)))
-      go false ea true eb = ap (λ (n : ℕ). not (isBuiltIn ss n)) (two-alike 0 (type-size t 0x27 eb (omega arith)))
+      go : (a : Bool) → eqb t 0x25 ≡ a → (b : Bool) → eqb t 0x27 ≡ b → pick a (isBuiltIn theEight ss (two g 0)) (pick b (not (isBuiltIn theEight ss (two g 0))) true) ≡ pick a (isBuiltIn theEight ss (two h 0)) (pick b (not (isBuiltIn theEight ss (two h 0))) true)
+      go true ea b eb = ap (isBuiltIn theEight ss) (two-alike 0 (type-size t 0x25 ea (omega arith)))
+      go false ea true eb = ap (λ (n : ℕ). not (isBuiltIn theEight ss n)) (two-alike 0 (type-size t 0x27 eb (omega arith)))
       go false ea false eb = refl
 
   -- they pass the same tests

@@ -5,6 +5,7 @@ ghost use Prim.Native.Nat.{ℕ, _+_, _<_};
 ghost use lib.ListN.{length, drop};
 ghost use Rattle.rules.specs.Format.{formOf, size};
 ghost use Rattle.rules.specs.Check.{nextInOrder};
+ghost use Rattle.rules.specs.Types.{theEight};
 ghost use Rattle.rules.specs.Compile.{isBuiltIn};
 ghost use Rattle.rules.specs.declared.Piece.{Piece};
 ghost use Rattle.format.specs.Numbers.{nameNumber, lineNumber};
@@ -14,7 +15,7 @@ ghost use Rattle.printable.specs.Reading.{printsAt, labelBehind};
 use crate::names::is_name;
 use format::lines::line_of;
 use format::lines::stride;
-use syntax::strings::is_built_in;
+use syntax::strings::is_built_in_text;
 use syntax::strings::string_at;
 use wire::byte_at;
 use wire::byte_in;
@@ -69,12 +70,9 @@ fn names_spellable(m: &[u8], table: &[u8], strings: u16, p: usize, tag: u8) -> b
 // Whether the type with this name is built in.
 fn is_built_in_type(m: &[u8], table: &[u8], strings: u16, n: u16) -> bool
     requires { ⌜ Indexed (now m) (now table) strings ⌝ }
-    ensures { λ r. ⌜ r ≡ isBuiltIn (stringTexts (now (m .entry))) n ⌝ }
+    ensures { λ r. ⌜ r ≡ isBuiltIn theEight (stringTexts (now (m .entry))) n ⌝ }
 {
-    if strings <= n {
-        return false;
-    }
-    is_built_in(m, two_at(table, 2 * n as usize) as usize)
+    is_built_in_text(string_at(m, table, strings, n))
 }
 
 // Whether a built-in resource has a built-in type, and a defined one another.

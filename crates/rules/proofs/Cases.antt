@@ -4,6 +4,7 @@ use mathlib.Core.Path.{_≡_, refl}
 use mathlib.Core.List.{List, [], _∷_, _++_}
 use lib.ListN.{length, replicate}
 use Rattle.values.specs.Numbers.{accepted, refused}
+use Rattle.rules.specs.Types.{theEight}
 use Rattle.rules.proofs.Computing.{Seen, seen, printed}
 use Rattle.rules.proofs.Rows.{Expected, Row}
 use Rattle.rules.proofs.Rows
@@ -17,7 +18,7 @@ unfoldable pub expects : Row → Seen
 expects r = wanted (r .output) (r .expected)
 
 unfoldable pub gives : Row → Seen
-gives r = seen (r .manifest) (r .device) (r .limit) (r .output) (r .memory)
+gives r = seen theEight (r .manifest) (r .device) (r .limit) (r .output) (r .memory)
 
 -- a fact of each row
 pub data Each (P : Row → Type 0) : List Row → Type 0 where

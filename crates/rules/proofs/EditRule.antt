@@ -17,6 +17,7 @@ use Rattle.rules.specs.State.{Attribute, Entry, State}
 use Rattle.rules.specs.Evaluate.{isEntry, isAttribute}
 use Rattle.rules.specs.Run.{runItems}
 use Rattle.rules.specs.Catalog.{shown, shownAll, readCatalog}
+use Rattle.rules.specs.Types.{Types}
 use Rattle.rules.specs.Compile.{knownWith, noneStruckOut, itemsFor, start, runManifest, finalState, onto, entriesInOrder, Compiled, compiledFrom, compiled, answerOf, outputOf, Effect, compile}
 use Rattle.rules.specs.EditRule.{oneTree, differing, Untouched, oneMore, howMany, KeptResource, KeptAttribute, Claim, IsBytes}
 use Rattle.rules.proofs.Same.{Edit, anywhere, High, Pairwise, nonePaired, paired, SameDefinition, SameItem}
@@ -32,10 +33,10 @@ use Rattle.rules.proofs.Laws.{catalog-reads-back, type-and-title-once, 
 module _ (D : Edit) where
   -- ---- Two whole runs end in related states
 
-  run-related : (s s′ : Constant → Bool) (ss ss′ : List (List ℕ)) (device : List ℕ) {is is′ : List Item} {ds ds′ : List Definition} → ss ≡ ss′ → Pairwise (SameItem D) is is′ → Pairwise (SameDefinition D) ds ds′ → (limit output limit′ output′ : ℕ)
-      → Two (Related D) (runItems (knownWith s ss ds) (itemsFor ss device is) (start limit output)) (runItems (knownWith s′ ss′ ds′) (itemsFor ss′ device is′) (start limit′ output′))
+  run-related : (s s′ : Constant → Bool) (types : Types) (ss ss′ : List (List ℕ)) (device : List ℕ) {is is′ : List Item} {ds ds′ : List Definition} → ss ≡ ss′ → Pairwise (SameItem D) is is′ → Pairwise (SameDefinition D) ds ds′ → (limit output limit′ output′ : ℕ)
+      → Two (Related D) (runItems (knownWith s types ss ds) (itemsFor ss device is) (start limit output)) (runItems (knownWith s′ types ss′ ds′) (itemsFor ss′ device is′) (start limit′ output′))
   unfolding knownWith
-  run-related s s′ ss ss′ device e r d limit output limit′ output′ = rw e (items-related D (sameKnown d) (items-for-same D ss′ device r) (start-related D limit output limit′ output′))
+  run-related s s′ types ss ss′ device e r d limit output limit′ output′ = rw e (items-related D (sameKnown d) (items-for-same D ss′ device r) (start-related D limit output limit′ output′))
 
   catalogs : {st st′ : State} → Related D st st′ → SameCatalog D (st .entries) (st′ .entries)
   catalogs (relatedLow (low hc hk u u′)) = hk
@@ -153,45 +154,45 @@ module _ {m m′ : List ℕ} {c d : List Entry} (x : Claim m m′ c d) where
 
 -- ---- The claim, about two accepted compiles
 
-final-related : (m m′ device : List ℕ) → oneTree m m′ ≡ true → (limit limit′ output output′ memory memory′ : ℕ) → Two (Related (between m m′)) (finalState m device limit output memory) (finalState m′ device limit′ output′ memory′)
+final-related : (types : Types) (m m′ device : List ℕ) → oneTree m m′ ≡ true → (limit limit′ output output′ memory memory′ : ℕ) → Two (Related (between m m′)) (finalState types m device limit output memory) (finalState types m′ device limit′ output′ memory′)
 unfolding finalState runManifest
-final-related m m′ device t limit limit′ output output′ memory memory′ = twoAny _ _ λ _ _. twoAny _ _ λ _ _. twoAny _ _ λ _ _.
+final-related types m m′ device t limit limit′ output output′ memory memory′ = twoAny _ _ λ _ _. twoAny _ _ λ _ _. twoAny _ _ λ _ _. twoAny _ _ λ _ _.
     twoBind (gathered-same (between m m′) _ _ (one-tree m m′ t) nonePaired) λ ds ds′ same.
-    run-related (between m m′) noneStruckOut noneStruckOut (manifestOf m .strings) (manifestOf m′ .strings) device (one-table m m′ t) (one-tree m m′ t) same limit output limit′ output′
+    run-related (between m m′) noneStruckOut noneStruckOut types (manifestOf m .strings) (manifestOf m′ .strings) device (one-table m m′ t) (one-tree m m′ t) same limit output limit′ output′
 
-states : (m m′ device : List ℕ) → oneTree m m′ ≡ true → (limit limit′ output output′ memory memory′ : ℕ) {st st′ : State} → finalState m device limit output memory ≡ done st → finalState m′ device limit′ output′ memory′ ≡ done st′ → Claim m m′ (shownAll (entriesInOrder st)) (shownAll (entriesInOrder st′))
+states : (types : Types) (m m′ device : List ℕ) → oneTree m m′ ≡ true → (limit limit′ output output′ memory memory′ : ℕ) {st st′ : State} → finalState types m device limit output memory ≡ done st → finalState types m′ device limit′ output′ memory′ ≡ done st′ → Claim m m′ (shownAll (entriesInOrder st)) (shownAll (entriesInOrder st′))
 unfolding entriesInOrder
-states m m′ device t limit limit′ output output′ memory memory′ e e′ =
-    claim-shown (claim m m′ (record { entries = type-and-title-once m′ device limit′ output′ memory′ e′; names = names-once m′ device limit′ output′ memory′ e′ })
-    (onto-same (between m m′) (catalogs (between m m′) (results (final-related m m′ device t limit limit′ output output′ memory memory′) e e′)) emptyBoth))
+states types m m′ device t limit limit′ output output′ memory memory′ e e′ =
+    claim-shown (claim m m′ (record { entries = type-and-title-once types m′ device limit′ output′ memory′ e′; names = names-once types m′ device limit′ output′ memory′ e′ })
+    (onto-same (between m m′) (catalogs (between m m′) (results (final-related types m m′ device t limit limit′ output output′ memory memory′) e e′)) emptyBoth))
 
 -- an accepted compile has a final state, whose catalog it gives
-record Accepted (m device : List ℕ) (limit output memory : ℕ) (c : Compiled) : Type 0 where
+record Accepted (types : Types) (m device : List ℕ) (limit output memory : ℕ) (c : Compiled) : Type 0 where
   state : State
-  final : finalState m device limit output memory ≡ done state
+  final : finalState types m device limit output memory ≡ done state
   gives : compiledFrom limit state ≡ c
 
-accepted : (m device : List ℕ) (limit output memory : ℕ) (c : Compiled) → compiled m device limit output memory ≡ done c → Accepted m device limit output memory c
+accepted : (types : Types) (m device : List ℕ) (limit output memory : ℕ) (c : Compiled) → compiled types m device limit output memory ≡ done c → Accepted types m device limit output memory c
 unfolding compiled _>>=_
-accepted m device limit output memory c h = go (finalState m device limit output memory) refl h
+accepted types m device limit output memory c h = go (finalState types m device limit output memory) refl h
   where
-    go : (o : Outcome State) → finalState m device limit output memory ≡ o → (o >>= λ st. done (compiledFrom limit st)) ≡ done c → Accepted m device limit output memory c
+    go : (o : Outcome State) → finalState types m device limit output memory ≡ o → (o >>= λ st. done (compiledFrom limit st)) ≡ done c → Accepted types m device limit output memory c
     go (refused r p) e h = absurd (allGet {P = λ (x : Compiled). ⊥} allRefused h)
     go (done st) e h = record { state = st; final = e; gives = cc }
 
 -- a byte string's catalog, read back, has the entries of the final state as they are shown
-read-entries : (m device : List ℕ) → IsBytes m → (limit output memory : ℕ) (c : Compiled) (a : Accepted m device limit output memory c) → readCatalog (c .catalog) ≡ shownAll (entriesInOrder (a .state))
+read-entries : (types : Types) (m device : List ℕ) → IsBytes m → (limit output memory : ℕ) (c : Compiled) (a : Accepted types m device limit output memory c) → readCatalog (c .catalog) ≡ shownAll (entriesInOrder (a .state))
 unfolding compiledFrom
-read-entries m device b limit output memory c a = ap (λ (x : Compiled). readCatalog (x .catalog)) (sym (a .gives)) ∙ catalog-reads-back m device limit output memory b (a .final)
+read-entries types m device b limit output memory c a = ap (λ (x : Compiled). readCatalog (x .catalog)) (sym (a .gives)) ∙ catalog-reads-back types m device limit output memory b (a .final)
 
 -- THE EDIT RULE. For every two manifests with one string table and one tree, and for every device, whatever step limit and output length each
 -- compile is given: if both are accepted, the claim holds of the entries read back from the two catalogs' bytes.
-pub edit-rule : (m m′ device : List ℕ) → IsBytes m → IsBytes m′ → oneTree m m′ ≡ true → (limit limit′ output output′ memory memory′ : ℕ) (c c′ : Compiled)
-    → compiled m device limit output memory ≡ done c → compiled m′ device limit′ output′ memory′ ≡ done c′ → Claim m m′ (readCatalog (c .catalog)) (readCatalog (c′ .catalog))
-edit-rule m m′ device b b′ t limit limit′ output output′ memory memory′ c c′ h h′ =
-    let a = accepted m device limit output memory c h in
-    let a′ = accepted m′ device limit′ output′ memory′ c′ h′ in
-    rw (read-entries m device b limit output memory c a, read-entries m′ device b′ limit′ output′ memory′ c′ a′) (states m m′ device t limit limit′ output output′ memory memory′ (a .final) (a′ .final))
+pub edit-rule : (types : Types) (m m′ device : List ℕ) → IsBytes m → IsBytes m′ → oneTree m m′ ≡ true → (limit limit′ output output′ memory memory′ : ℕ) (c c′ : Compiled)
+    → compiled types m device limit output memory ≡ done c → compiled types m′ device limit′ output′ memory′ ≡ done c′ → Claim m m′ (readCatalog (c .catalog)) (readCatalog (c′ .catalog))
+edit-rule types m m′ device b b′ t limit limit′ output output′ memory memory′ c c′ h h′ =
+    let a = accepted types m device limit output memory c h in
+    let a′ = accepted types m′ device limit′ output′ memory′ c′ h′ in
+    rw (read-entries types m device b limit output memory c a, read-entries types m′ device b′ limit′ output′ memory′ c′ a′) (states types m m′ device t limit limit′ output output′ memory memory′ (a .final) (a′ .final))
 
 -- ---- The same, for whoever holds that two calls left what the definition says
 
@@ -213,16 +214,16 @@ unfolding lengthSaid
 length-said h = ap lengthSaid h
 
 -- an answer that names a catalog comes from an accepted compile, whose bytes the output begins with
-record Written (m device : List ℕ) (limit output memory n : ℕ) : Type 0 where
+record Written (types : Types) (m device : List ℕ) (limit output memory n : ℕ) : Type 0 where
   result : Compiled
-  accepts : compiled m device limit output memory ≡ done result
-  begins : take n (compile m device limit output memory .outputAfter) ≡ result .catalog
+  accepts : compiled types m device limit output memory ≡ done result
+  begins : take n (compile types m device limit output memory .outputAfter) ≡ result .catalog
 
-written : (m device : List ℕ) (limit output memory n s : ℕ) → compile m device limit output memory .answer ≡ Catalog n s → Written m device limit output memory n
+written : (types : Types) (m device : List ℕ) (limit output memory n s : ℕ) → compile types m device limit output memory .answer ≡ Catalog n s → Written types m device limit output memory n
 unfolding compile answerOf outputOf
-written m device limit output memory n s h = go (compiled m device limit output memory) refl h
+written types m device limit output memory n s h = go (compiled types m device limit output memory) refl h
   where
-    go : (o : Outcome Compiled) → compiled m device limit output memory ≡ o → answerOf o ≡ Catalog n s → Written m device limit output memory n
+    go : (o : Outcome Compiled) → compiled types m device limit output memory ≡ o → answerOf o ≡ Catalog n s → Written types m device limit output memory n
     go (refused r p) e h = absurd (catalog-only h)
     go (done c) e h = record {
       result = c;
@@ -231,10 +232,10 @@ written m device limit output memory n s h = go (compiled m device limit output 
     }
 
 -- what two calls answered and left, in full: if each is what the definition says and both name a catalog, the claim holds of what the outputs begin with
-pub edit-rule-calls : (m m′ device : List ℕ) → IsBytes m → IsBytes m′ → oneTree m m′ ≡ true → (limit limit′ output output′ memory memory′ n n′ s s′ : ℕ) (e e′ : Effect)
-    → e ≡ compile m device limit output memory → e′ ≡ compile m′ device limit′ output′ memory′ → e .answer ≡ Catalog n s → e′ .answer ≡ Catalog n′ s′
+pub edit-rule-calls : (types : Types) (m m′ device : List ℕ) → IsBytes m → IsBytes m′ → oneTree m m′ ≡ true → (limit limit′ output output′ memory memory′ n n′ s s′ : ℕ) (e e′ : Effect)
+    → e ≡ compile types m device limit output memory → e′ ≡ compile types m′ device limit′ output′ memory′ → e .answer ≡ Catalog n s → e′ .answer ≡ Catalog n′ s′
     → Claim m m′ (readCatalog (take n (e .outputAfter))) (readCatalog (take n′ (e′ .outputAfter)))
-edit-rule-calls m m′ device b b′ t limit limit′ output output′ memory memory′ n n′ s s′ e e′ q q′ h h′ =
-    let w = written m device limit output memory n s (rw q at h) in
-    let w′ = written m′ device limit′ output′ memory′ n′ s′ (rw q′ at h′) in
-    rw (q, q′, w .begins, w′ .begins) (edit-rule m m′ device b b′ t limit limit′ output output′ memory memory′ (w .result) (w′ .result) (w .accepts) (w′ .accepts))
+edit-rule-calls types m m′ device b b′ t limit limit′ output output′ memory memory′ n n′ s s′ e e′ q q′ h h′ =
+    let w = written types m device limit output memory n s (rw q at h) in
+    let w′ = written types m′ device limit′ output′ memory′ n′ s′ (rw q′ at h′) in
+    rw (q, q′, w .begins, w′ .begins) (edit-rule types m m′ device b b′ t limit limit′ output output′ memory memory′ (w .result) (w′ .result) (w .accepts) (w′ .accepts))

@@ -16,6 +16,7 @@ use Rattle.rules.specs.Outcome.{done}
 use Rattle.rules.specs.State.{Attribute, Entry}
 use Rattle.rules.specs.Evaluate.{firstWith, isAttribute}
 use Rattle.rules.specs.Catalog.{noParts, readCatalog}
+use Rattle.rules.specs.Types.{theEight}
 use Rattle.rules.specs.Compile.{Compiled, compiled}
 use Rattle.rules.specs.EditRule.{oneTree, differing, KeptAttribute, IsBytes}
 use Rattle.rules.proofs.Lists.{both-left, both-right, eqb-true}
@@ -48,11 +49,11 @@ stepsOf (refused number place) = 0
 result : Row → Compiled
 result r = record { catalog = catalogOf (r .expected); steps = stepsOf (r .expected) }
 
-first-accepted : compiled (row1 .manifest) (row1 .device) (row1 .limit) (row1 .output) (row1 .memory) ≡ done (result row1)
+first-accepted : compiled theEight (row1 .manifest) (row1 .device) (row1 .limit) (row1 .output) (row1 .memory) ≡ done (result row1)
 unfolding openCompiled result catalogOf stepsOf row1
 first-accepted = refl
 
-second-accepted : compiled (row2 .manifest) (row1 .device) (row2 .limit) (row2 .output) (row2 .memory) ≡ done (result row2)
+second-accepted : compiled theEight (row2 .manifest) (row1 .device) (row2 .limit) (row2 .output) (row2 .memory) ≡ done (result row2)
 unfolding openCompiled result catalogOf stepsOf row1 row2
 second-accepted = refl
 
@@ -92,7 +93,7 @@ front = record { type = 2; title = 1; labels = record { w0 = 16; w1 = 0; w2 = 0;
 screens-kept : KeptAttribute front screens (readCatalog (result row2 .catalog))
 unfolding result catalogOf openCatalog row1 front price screens
 screens-kept =
-    edit-rule (row1 .manifest) (row2 .manifest) (row1 .device) first-bytes second-bytes one-tree-both (row1 .limit) (row2 .limit) (row1 .output) (row2 .output) (row1 .memory) (row2 .memory) (result row1) (result row2) first-accepted second-accepted
+    edit-rule theEight (row1 .manifest) (row2 .manifest) (row1 .device) first-bytes second-bytes one-tree-both (row1 .limit) (row2 .limit) (row1 .output) (row2 .output) (row1 .memory) (row2 .memory) (result row1) (result row2) first-accepted second-accepted
     .attributes front screens (List·Memᴰ·head refl) (List·Memᴰ·tail (List·Memᴰ·head refl)) (record { lacks = only-peak })
 
 -- and the price, whose labels hold 2, is another there
@@ -110,11 +111,11 @@ price-second = refl
 
 -- ---- A class defined behind its use, with price 40 and with price 55: rows 37 and 38
 
-early-accepted : compiled (row37 .manifest) (row37 .device) (row37 .limit) (row37 .output) (row37 .memory) ≡ done (result row37)
+early-accepted : compiled theEight (row37 .manifest) (row37 .device) (row37 .limit) (row37 .output) (row37 .memory) ≡ done (result row37)
 unfolding openCompiled result catalogOf stepsOf row37
 early-accepted = refl
 
-early-edited : compiled (row38 .manifest) (row37 .device) (row38 .limit) (row38 .output) (row38 .memory) ≡ done (result row38)
+early-edited : compiled theEight (row38 .manifest) (row37 .device) (row38 .limit) (row38 .output) (row38 .memory) ≡ done (result row38)
 unfolding openCompiled result catalogOf stepsOf row37 row38
 early-edited = refl
 
@@ -153,5 +154,5 @@ only-price l h = rw (eqb-true l 2 (alone (eqb l 2) h)) refl
 early-screens-kept : KeptAttribute early-front early-screens (readCatalog (result row38 .catalog))
 unfolding result catalogOf openCatalog row37 early-front early-price early-screens
 early-screens-kept =
-    edit-rule (row37 .manifest) (row38 .manifest) (row37 .device) early-bytes edited-bytes early-tree (row37 .limit) (row38 .limit) (row37 .output) (row38 .output) (row37 .memory) (row38 .memory) (result row37) (result row38) early-accepted early-edited
+    edit-rule theEight (row37 .manifest) (row38 .manifest) (row37 .device) early-bytes edited-bytes early-tree (row37 .limit) (row38 .limit) (row37 .output) (row38 .output) (row37 .memory) (row38 .memory) (result row37) (result row38) early-accepted early-edited
     .attributes early-front early-screens (List·Memᴰ·head refl) (List·Memᴰ·tail (List·Memᴰ·head refl)) (record { lacks = only-price })

@@ -10,6 +10,7 @@ use Rattle.rules.specs.Tree.{Constant, Expression, AttributeField, State
 use Rattle.rules.specs.Tree
 use Rattle.rules.specs.State.{Entry, State, Context, Known, isDeclared, assign, tested, markDeclared, free}
 use Rattle.rules.specs.Run.{store, Given, storeAll, storeTitle, afterTest, Declaration, ofType, ofClass, included, Declare, run, runBlock, branchPatterns, placedUnder, inClass, inBody, parentFirst, enterClass, declaration, runAtTop, topContext, nodeContext, runItems}
+use Rattle.rules.specs.Types.{Types}
 use Rattle.rules.specs.Compile.{start, runManifest, finalState}
 use Rattle.rules.proofs.Lists.{Each, noneLeft}
 use Rattle.rules.proofs.Patterns.{everyNone, everyConstant, everyDefault, EveryBranch, branch-holds}
@@ -122,6 +123,6 @@ module _ (P : Entry → Type 0) where
     items-entries known (definition d ∷ items) st h = items-entries known items st h
 
     -- THE LAW: what each resource adds holds of all entries at the end of every accepted run
-    pub final-entries : (m device : List ℕ) (limit output memory : ℕ) → All Entries (finalState m device limit output memory)
+    pub final-entries : (types : Types) (m device : List ℕ) (limit output memory : ℕ) → All Entries (finalState types m device limit output memory)
     unfolding finalState runManifest start
-    final-entries m device limit output memory = allAny _ λ _. allAny _ λ _. allAny _ λ _. allAny _ λ _. items-entries _ _ (start limit output) noneLeft
+    final-entries types m device limit output memory = allAny _ λ _. allAny _ λ _. allAny _ λ _. allAny _ λ _. allAny _ λ _. items-entries _ _ (start limit output) noneLeft

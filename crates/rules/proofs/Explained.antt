@@ -22,12 +22,13 @@ use Rattle.rules.specs.Tree.{Constant, and, Expression, constant, operat
 use Rattle.rules.specs.Read.{manifestOf}
 use Rattle.rules.specs.State.{Entry, State, Context, Known}
 use Rattle.rules.specs.Evaluate.{firstWith, isEntry, isAttribute, booleans, operate, ofConstant, comeTo, evaluate}
+use Rattle.rules.specs.Types.{Types}
 use Rattle.rules.specs.Compile.{noneStruckOut, runManifest, finalState}
 use Rattle.rules.specs.EditRule.{IsBytes}
 use Rattle.rules.specs.Why.{firstPart, withoutLimits, isRefused, comesToOne, lowestPlace, Found, foundIn, answerFor, explained, explanationOf, why}
 use Rattle.rules.proofs.Lists.{when-true, when-false, perhaps-itself}
 use Rattle.rules.proofs.Outcome.{All, allDone, allBind, allAny, allFound, allGet}
-use Rattle.rules.proofs.Refusals.{IfRefused, accepts, refusal-bind, refusal-missing, refusal-known, refusal-get, own-refusals}
+use Rattle.rules.proofs.Refusals.{IfRefused, accepts, refusal-bind, refusal-missing, refusal-known, refusal-get, OfCompile, ofPaper, ofTypes, own-refusals}
 use Rattle.rules.proofs.Strikes.{struck-same, Lowest}
 use Rattle.rules.proofs.SetParts.{First, Asked, Explained, explained-says, explained-answer}
 use Rattle.rules.proofs.LabelsMet.{place-met}
@@ -51,13 +52,13 @@ module _ (known : Known) (here : Context) (st : State) where
   skipped p a b c left decides = rw left (rw decides refl)
 
 -- and constants that a compile does not come to can be struck out and nothing changes: it ends in the same state.
-pub not-come-to : (m device : List ℕ) (S : Constant → Bool) → comesToOne m device S ≡ false → runManifest S (manifestOf m) device withoutLimits withoutLimits ≡ runManifest noneStruckOut (manifestOf m) device withoutLimits withoutLimits
+pub not-come-to : (types : Types) (m device : List ℕ) (S : Constant → Bool) → comesToOne types m device S ≡ false → runManifest S types (manifestOf m) device withoutLimits withoutLimits ≡ runManifest noneStruckOut types (manifestOf m) device withoutLimits withoutLimits
 unfolding comesToOne isRefused
-not-come-to m device S never = go (runManifest S (manifestOf m) device withoutLimits withoutLimits) refl never
+not-come-to types m device S never = go (runManifest S types (manifestOf m) device withoutLimits withoutLimits) refl never
   where
-    go : (o : Outcome State) → runManifest S (manifestOf m) device withoutLimits withoutLimits ≡ o → isRefused o ≡ false → runManifest S (manifestOf m) device withoutLimits withoutLimits ≡ runManifest noneStruckOut (manifestOf m) device withoutLimits withoutLimits
+    go : (o : Outcome State) → runManifest S types (manifestOf m) device withoutLimits withoutLimits ≡ o → isRefused o ≡ false → runManifest S types (manifestOf m) device withoutLimits withoutLimits ≡ runManifest noneStruckOut types (manifestOf m) device withoutLimits withoutLimits
     go (refused r p) e h = absurd (true≢false h)
-    go (done st) e h = e ∙ sym (struck-same S (manifestOf m) device withoutLimits withoutLimits e)
+    go (done st) e h = e ∙ sym (struck-same S types (manifestOf m) device withoutLimits withoutLimits e)
 
 -- ---- The attribute asked for
 
@@ -96,60 +97,60 @@ found-refusal strings entries type title attribute =
 
 -- ---- What is told
 
-module _ (m device type title attribute : List ℕ) (label memory : ℕ) where
+module _ (types : Types) (m device type title attribute : List ℕ) (label memory : ℕ) where
   -- how the compile ends, given no limits; the attribute in its catalog; the answer
   abbrev pub ending : Outcome State
-  ending = finalState m device withoutLimits withoutLimits memory
+  ending = finalState types m device withoutLimits withoutLimits memory
 
   abbrev pub attributeIn : State → Outcome Found
   attributeIn st = foundIn (manifestOf m .strings) (st .entries) type title attribute
 
   abbrev pub told : Explanation
-  told = why m device type title attribute label memory .answer
+  told = why types m device type title attribute label memory .answer
 
   -- "the catalog has no such attribute"
   pub record NoSuch (st : State) : Type 0 where
     pub missing : (f : Found) → attributeIn st ≡ done f → ⊥
 
-  -- A refusal: "27, the catalog has no such attribute; it follows all of the compile's own refusals", and these are 1 to 23. So either the compile is
+  -- A refusal: "27, the catalog has no such attribute; it follows all of the compile's own refusals", and these are 1 to 23 and 28. So either the compile is
   -- refused so, or it is accepted and its catalog has no such attribute.
   pub data TellsRefused (r : Reason) (p : ℕ) : Type 0 where
-    byCompile : ending ≡ refused r p → numberOf r < 24 → TellsRefused r p
+    byCompile : ending ≡ refused r p → OfCompile types r p → TellsRefused r p
     noSuch : {st : State} → ending ≡ done st → NoSuch st → r ≡ NoSuchAttribute → p ≡ 0 → TellsRefused r p
 
   -- Not among them: the catalog has the attribute, and "the set lacks the label".
   pub record TellsNot : Type 0 where
-    pub asked : Asked m device type title attribute memory
+    pub asked : Asked types m device type title attribute memory
     pub lacks : has (asked .found .attribute .content .labels) label ≡ false
 
   -- A part and a place: the catalog has the attribute, and its set, which is the union of its parts (`asked .union`), has the label. The part is "the first
   -- part of that set holding the label": it holds it, and no part before it does. The place is "the lowest place of a constant with that label that the
   -- compile evaluated or tried as a pattern": it came to one there, and to none before it.
   pub record TellsAmong (part : SetPart) (place : ℕ) : Type 0 where
-    pub asked : Asked m device type title attribute memory
+    pub asked : Asked types m device type title attribute memory
     pub holds : has (asked .found .attribute .content .labels) label ≡ true
     pub first : First (asked .found .parts) label part
-    pub lowest : IsBytes m → label < 256 → Lowest m device label place
+    pub lowest : IsBytes m → label < 256 → Lowest types m device label place
 
   abbrev pub Tells : Explanation → Type 0
   Tells (Among part place) = TellsAmong part place
   Tells NotAmong = TellsNot
   Tells (Refused r p) = TellsRefused r p
 
-  explained-refused : IfRefused TellsRefused (explained m device type title attribute label memory)
+  explained-refused : IfRefused TellsRefused (explained types m device type title attribute label memory)
   unfolding explained
   explained-refused =
-      refusal-known ending (λ r p e. byCompile e (refusal-get (own-refusals m device withoutLimits withoutLimits memory) e)) λ st ended.
+      refusal-known ending (λ r p e. byCompile e (refusal-get (own-refusals types m device withoutLimits withoutLimits memory) e)) λ st ended.
       refusal-known (attributeIn st) (λ r p e. let is : Is27 r p = refusal-get (found-refusal (manifestOf m .strings) (st .entries) type title attribute) e in noSuch ended (record { missing = λ f h. refused-not-done e h }) (is .reason) (is .place)) λ f _.
       accepts
 
   -- there is a lowest place wherever the set has the label
-  asked-lowest : (asked : Asked m device type title attribute memory) → has (asked .found .attribute .content .labels) label ≡ true → IsBytes m → label < 256 → Lowest m device label (lowestPlace m device label)
+  asked-lowest : (asked : Asked types m device type title attribute memory) → has (asked .found .attribute .content .labels) label ≡ true → IsBytes m → label < 256 → Lowest types m device label (lowestPlace types m device label)
   asked-lowest asked holds bytes small =
       let s : StandsIn (asked .st .entries) (asked .found) = allGet (found-stands (manifestOf m .strings) (asked .st .entries) type title attribute) (asked .looked-up) in
-      place-met m device label bytes small memory (asked .ended) (s .type) (s .title) (s .name) (s .entry-there) (s .attribute-there) holds
+      place-met types m device label bytes small memory (asked .ended) (s .type) (s .title) (s .name) (s .entry-there) (s .attribute-there) holds
 
-  explanation-tells : (x : Explanation) → Explained m device type title attribute label memory x → Tells x
+  explanation-tells : (x : Explanation) → Explained types m device type title attribute label memory x → Tells x
   explanation-tells (Among part place) e = record { asked = e .asked; holds = e .says .holds; first = e .says .first; lowest = λ bytes small. rw (e .says .place-lowest) (asked-lowest (e .asked) (e .says .holds) bytes small) }
   explanation-tells NotAmong e = record { asked = e .asked; lacks = e .says }
   explanation-tells (Refused r p) e = absurd (e .says)
@@ -157,21 +158,21 @@ module _ (m device type title attribute : List ℕ) (label memory : ℕ) where
   -- THE FIRST LAW: what is told is so.
   pub told-so : {x : Explanation} → told ≡ x → Tells x
   unfolding why explanationOf
-  told-so e = subst Tells e (go (explained m device type title attribute label memory) refl)
+  told-so e = subst Tells e (go (explained types m device type title attribute label memory) refl)
     where
-      go : (o : Outcome Explanation) → explained m device type title attribute label memory ≡ o → Tells (explanationOf o)
+      go : (o : Outcome Explanation) → explained types m device type title attribute label memory ≡ o → Tells (explanationOf o)
       go (refused r p) h = refusal-get explained-refused h
-      go (done x) h = explanation-tells x (explained-says m device type title attribute label memory h)
+      go (done x) h = explanation-tells x (explained-says types m device type title attribute label memory h)
 
   -- ---- When it is told
 
   module _ {st : State} {f : Found} (ended : ending ≡ done st) (there : attributeIn st ≡ done f) where
-    answered : told ≡ answerFor label (lowestPlace m device label) f
+    answered : told ≡ answerFor label (lowestPlace types m device label) f
     unfolding why explanationOf
-    answered = ap explanationOf (explained-answer m device type title attribute label memory ended there)
+    answered = ap explanationOf (explained-answer types m device type title attribute label memory ended there)
 
     -- THE SECOND LAW: where the set has the label, its first part and the lowest place are told.
-    pub among : has (f .attribute .content .labels) label ≡ true → told ≡ Among (firstPart (f .parts) label) (lowestPlace m device label)
+    pub among : has (f .attribute .content .labels) label ≡ true → told ≡ Among (firstPart (f .parts) label) (lowestPlace types m device label)
     unfolding answerFor
     among holds = answered ∙ when-true _ _ _ holds
 
@@ -192,7 +193,7 @@ module _ (m device type title attribute : List ℕ) (label memory : ℕ) where
   unfolding why explained explanationOf _>>=_
   no-attribute {st} ended none = rw ended (go (attributeIn st) refl)
     where
-      go : (o : Outcome Found) → attributeIn st ≡ o → explanationOf (o >>= λ f. done (answerFor label (lowestPlace m device label) f)) ≡ Refused NoSuchAttribute 0
+      go : (o : Outcome Found) → attributeIn st ≡ o → explanationOf (o >>= λ f. done (answerFor label (lowestPlace types m device label) f)) ≡ Refused NoSuchAttribute 0
       go (refused r p) e = let is : Is27 r p = refusal-get (found-refusal (manifestOf m .strings) (st .entries) type title attribute) e in rw (is .reason, is .place) refl
       go (done f) e = absurd (none .missing f e)
 
@@ -206,7 +207,8 @@ module _ (m device type title attribute : List ℕ) (label memory : ℕ) where
   no-attribute-only {p} e = go (told-so e)
     where
       go : TellsRefused NoSuchAttribute p → NoAttribute
-      go (byCompile refusal own) = absurd (omega (arith, own))
+      go (byCompile refusal (ofPaper own)) = absurd (omega (arith, own))
+      go (byCompile refusal (ofTypes is there)) = let z : _≡_ {A = ℕ} 27 28 = ap numberOf is in absurd (omega (arith, z))
       go (noSuch ended none is at-zero) = record { st = _; ended = ended; none = none }
 
   -- THE FIFTH LAW: 27 "follows all of the compile's own refusals". These are told as they are, with number and place, and no other refusal is.

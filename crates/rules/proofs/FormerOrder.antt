@@ -16,6 +16,7 @@ use Rattle.rules.specs.Read.{manifestOf}
 use Rattle.rules.specs.State.{State, Context, Known}
 use Rattle.rules.specs.Evaluate.{any, findType, findClass}
 use Rattle.rules.specs.Run.{runAtTop, topContext, nodeContext, definedName, definedPlace, isTaken, gatherDefinitions, runItems}
+use Rattle.rules.specs.Types.{Types, checkTypes}
 use Rattle.rules.specs.Compile.{isBuiltIn, knownWith, noneStruckOut, names, isDefaultNode, withoutNodes, withNode, isNode, itemsFor, start, runManifest, checked, finalState, Compiled, compiledFrom, compiled}
 use Rattle.rules.proofs.Outcome.{bind-same, bind-done, All, allRefused, allDone, allBind, allMap, allGet, allPassed, all-itself}
 use Rattle.rules.proofs.Lists.{or-true-left}
@@ -41,16 +42,17 @@ runFormerly known (definition d ∷ items) st = do
   runFormerly (withDefinition d known) items st
 
 -- a whole compile: nothing is defined before the first item runs
-unfoldable pub formerState : (manifest device : List ℕ) → (limit outputLength memoryLength : ℕ) → Outcome State
-formerState manifest device limit outputLength memoryLength = do
+unfoldable pub formerState : Types → (manifest device : List ℕ) → (limit outputLength memoryLength : ℕ) → Outcome State
+formerState types manifest device limit outputLength memoryLength = do
   _ ← refuseIf (ltb memoryLength 65536) MemoryTooShort 0
+  _ ← checked (checkTypes types)
   _ ← refuseIf (eqb (length manifest) 0 || ltb 65535 (length manifest)) ManifestLength 0
   _ ← checked (check manifest)
-  runFormerly (knownWith noneStruckOut (manifestOf manifest .strings) []) (itemsFor (manifestOf manifest .strings) device (manifestOf manifest .items)) (start limit outputLength)
+  runFormerly (knownWith noneStruckOut types (manifestOf manifest .strings) []) (itemsFor (manifestOf manifest .strings) device (manifestOf manifest .items)) (start limit outputLength)
 
-unfoldable pub compiledFormerly : (manifest device : List ℕ) → (limit outputLength memoryLength : ℕ) → Outcome Compiled
-compiledFormerly manifest device limit outputLength memoryLength = do
-  st ← formerState manifest device limit outputLength memoryLength
+unfoldable pub compiledFormerly : Types → (manifest device : List ℕ) → (limit outputLength memoryLength : ℕ) → Outcome Compiled
+compiledFormerly types manifest device limit outputLength memoryLength = do
+  st ← formerState types manifest device limit outputLength memoryLength
   done (compiledFrom limit st)
 
 -- ---- Nodes are no definitions: those of the items that run are those of all
@@ -147,17 +149,17 @@ module _ (builtIn : ℕ → Bool) (title : Option ℕ) (struckOut : Constant →
 
 -- ---- THE LAW
 
-module _ (m device : List ℕ) (limit output memory : ℕ) where
-  run-as-before : All (λ (st : State). runManifest noneStruckOut (manifestOf m) device limit output ≡ done st) (runFormerly (knownWith noneStruckOut (manifestOf m .strings) []) (itemsFor (manifestOf m .strings) device (manifestOf m .items)) (start limit output))
+module _ (types : Types) (m device : List ℕ) (limit output memory : ℕ) where
+  run-as-before : All (λ (st : State). runManifest noneStruckOut types (manifestOf m) device limit output ≡ done st) (runFormerly (knownWith noneStruckOut types (manifestOf m .strings) []) (itemsFor (manifestOf m .strings) device (manifestOf m .items)) (start limit output))
   unfolding runManifest knownWith
-  run-as-before = allMap (ends-so (isBuiltIn (manifestOf m .strings)) _ noneStruckOut [] _ (start limit output)) λ st h.
-      bind-done _ (sym (running-gathers (isBuiltIn (manifestOf m .strings)) (manifestOf m .strings) device (manifestOf m .items)) ∙ h .gathered) ∙ h .runs
+  run-as-before = allMap (ends-so (isBuiltIn types (manifestOf m .strings)) _ noneStruckOut [] _ (start limit output)) λ st h.
+      bind-done _ (sym (running-gathers (isBuiltIn types (manifestOf m .strings)) (manifestOf m .strings) device (manifestOf m .items)) ∙ h .gathered) ∙ h .runs
 
-  state-as-before : All (λ (st : State). finalState m device limit output memory ≡ done st) (formerState m device limit output memory)
+  state-as-before : All (λ (st : State). finalState types m device limit output memory ≡ done st) (formerState types m device limit output memory)
   unfolding formerState finalState
-  state-as-before = first-same _ _ _ λ _. first-same _ _ _ λ _. first-same _ _ _ λ _. run-as-before
+  state-as-before = first-same _ _ _ λ _. first-same _ _ _ λ _. first-same _ _ _ λ _. first-same _ _ _ λ _. run-as-before
 
   -- a manifest that was accepted is accepted, with the same catalog and steps
-  pub accepted-as-before : {c : Compiled} → compiledFormerly m device limit output memory ≡ done c → compiled m device limit output memory ≡ done c
+  pub accepted-as-before : {c : Compiled} → compiledFormerly types m device limit output memory ≡ done c → compiled types m device limit output memory ≡ done c
   unfolding compiledFormerly compiled
-  accepted-as-before e = allGet {P = λ (c : Compiled). compiled m device limit output memory ≡ done c} (allBind state-as-before λ st h. allDone (bind-done _ h)) e
+  accepted-as-before e = allGet {P = λ (c : Compiled). compiled types m device limit output memory ≡ done c} (allBind state-as-before λ st h. allDone (bind-done _ h)) e

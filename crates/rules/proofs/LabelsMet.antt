@@ -27,6 +27,7 @@ use Rattle.rules.specs.Run.{assignsIn, assignsAny, declaresIn, declaresA
 use Rattle.rules.specs.declared.Verdict.{Verdict}
 use Rattle.rules.specs.declared.Verdict.the-variants.{Sound, Fault}
 use Rattle.rules.specs.Check.{check}
+use Rattle.rules.specs.Types.{Types}
 use Rattle.rules.specs.Compile.{isBuiltIn, knownWith, noneStruckOut, start, runManifest, checked, finalState}
 use Rattle.rules.specs.EditRule.{IsBytes}
 use Rattle.rules.specs.Why.{withoutLimits, isRefused, comesToOne, lowestPlace}
@@ -428,10 +429,10 @@ module _ (Given : Type 0) (Of : Constant → Type 0) (struck : Constant → Bool
     unfolding start
     start-has limit output = record { cells = λ s n. no-cell-has; trail = joins .none; entries = noneLeft }
 
-    pub manifest-has : (manifest : Manifest) (device : List ℕ) (limit output : ℕ) → Each (InItem Given Of) (manifest .items) → All StateHas (runManifest struck manifest device limit output)
+    pub manifest-has : (types : Types) (manifest : Manifest) (device : List ℕ) (limit output : ℕ) → Each (InItem Given Of) (manifest .items) → All StateHas (runManifest struck types manifest device limit output)
     unfolding runManifest knownWith
-    manifest-has manifest device limit output f = allBind (gathered-each (λ d. in-definition Given Of) (isBuiltIn (manifest .strings)) f noneLeft) λ ds defs.
-        items-have (knownWith struck (manifest .strings) ds) (λ v. refl) defs (items-for-each (manifest .strings) device f) (start limit output) (start-has limit output)
+    manifest-has types manifest device limit output f = allBind (gathered-each (λ d. in-definition Given Of) (isBuiltIn types (manifest .strings)) f noneLeft) λ ds defs.
+        items-have (knownWith struck types (manifest .strings) ds) (λ v. refl) defs (items-for-each (manifest .strings) device f) (start limit output) (start-has limit output)
 
 -- ---- A label whose constants are struck out
 
@@ -439,19 +440,19 @@ one-result : {A : Type 0} {a b : A} → _≡_ {A = Outcome A} (done a) (done b) 
 one-result {A} {a} e = allGet {P = λ (x : A). a ≡ x} (allDone refl) e
 
 -- an accepted compile: the check before it found no fault, and the run of the manifest ended so
-pub record Accepted (m device : List ℕ) (limit output : ℕ) (st : State) : Type 0 where
+pub record Accepted (types : Types) (m device : List ℕ) (limit output : ℕ) (st : State) : Type 0 where
   pub sound : check m ≡ Sound
-  pub run : runManifest noneStruckOut (manifestOf m) device limit output ≡ done st
+  pub run : runManifest noneStruckOut types (manifestOf m) device limit output ≡ done st
 
 sound-passed : (v : Verdict) → All (λ (u : Unit {0}). v ≡ Sound) (checked v)
 unfolding checked
 sound-passed Sound = allDone refl
 sound-passed (Fault r p) = allRefused
 
-pub accepted : (m device : List ℕ) (limit output memory : ℕ) {st : State} → finalState m device limit output memory ≡ done st → Accepted m device limit output st
+pub accepted : (types : Types) (m device : List ℕ) (limit output memory : ℕ) {st : State} → finalState types m device limit output memory ≡ done st → Accepted types m device limit output st
 unfolding finalState
-accepted m device limit output memory ended =
-    allGet {P = Accepted m device limit output} (allAny _ λ _. allAny _ λ _. allBind (sound-passed (check m)) λ _ sound. allMap (all-itself (runManifest noneStruckOut (manifestOf m) device limit output)) λ st e. record { sound = sound; run = e }) ended
+accepted types m device limit output memory ended =
+    allGet {P = Accepted types m device limit output} (allAny _ λ _. allAny _ λ _. allAny _ λ _. allBind (sound-passed (check m)) λ _ sound. allMap (all-itself (runManifest noneStruckOut types (manifestOf m) device limit output)) λ st e. record { sound = sound; run = e }) ended
 
 -- the constants of a label: in a manifest without fault all of them stand before its end
 abbrev pub labelledIn : (m : List ℕ) (label : ℕ) → Constant → Bool
@@ -470,33 +471,33 @@ lacks-joins m l bytes sound small = record {
 }
 
 -- THE FIRST LAW: a compile in which all constants of a label are struck out ends without the label in any set, or is refused
-pub labels-met : (m device : List ℕ) (limit output l : ℕ) → IsBytes m → check m ≡ Sound → l < 256
-    → All (StateHas (IsBytes m) (ConstantRead m) (labelledIn m l) (Lacks l)) (runManifest (labelledIn m l) (manifestOf m) device limit output)
-labels-met m device limit output l bytes sound small =
-    manifest-has (IsBytes m) (ConstantRead m) (labelledIn m l) (Lacks l) (lacks-joins m l bytes sound small) (manifestOf m) device limit output (manifest-read m)
+pub labels-met : (types : Types) (m device : List ℕ) (limit output l : ℕ) → IsBytes m → check m ≡ Sound → l < 256
+    → All (StateHas (IsBytes m) (ConstantRead m) (labelledIn m l) (Lacks l)) (runManifest (labelledIn m l) types (manifestOf m) device limit output)
+labels-met types m device limit output l bytes sound small =
+    manifest-has (IsBytes m) (ConstantRead m) (labelledIn m l) (Lacks l) (lacks-joins m l bytes sound small) types (manifestOf m) device limit output (manifest-read m)
 
-module _ (m device : List ℕ) (l : ℕ) (bytes : IsBytes m) (small : l < 256) (memory : ℕ) {st : State} (ended : finalState m device withoutLimits withoutLimits memory ≡ done st) where
-  compile : Accepted m device withoutLimits withoutLimits st
-  compile = accepted m device withoutLimits withoutLimits memory ended
+module _ (types : Types) (m device : List ℕ) (l : ℕ) (bytes : IsBytes m) (small : l < 256) (memory : ℕ) {st : State} (ended : finalState types m device withoutLimits withoutLimits memory ≡ done st) where
+  compile : Accepted types m device withoutLimits withoutLimits st
+  compile = accepted types m device withoutLimits withoutLimits memory ended
 
   -- if a run with these constants struck out is accepted, it ends as without (proofs/Strikes.antt), so that the compile has the label in no set
-  struck-lacks : (st′ : State) → runManifest (labelledIn m l) (manifestOf m) device withoutLimits withoutLimits ≡ done st′ → StateHas (IsBytes m) (ConstantRead m) (labelledIn m l) (Lacks l) st
+  struck-lacks : (st′ : State) → runManifest (labelledIn m l) types (manifestOf m) device withoutLimits withoutLimits ≡ done st′ → StateHas (IsBytes m) (ConstantRead m) (labelledIn m l) (Lacks l) st
   struck-lacks st′ e =
-      let same : st′ ≡ st = one-result (sym (struck-same (labelledIn m l) (manifestOf m) device withoutLimits withoutLimits e) ∙ compile .run) in
-      rw (sym same) (allGet (labels-met m device withoutLimits withoutLimits l bytes (compile .sound) small) e)
+      let same : st′ ≡ st = one-result (sym (struck-same (labelledIn m l) types (manifestOf m) device withoutLimits withoutLimits e) ∙ compile .run) in
+      rw (sym same) (allGet (labels-met types m device withoutLimits withoutLimits l bytes (compile .sound) small) e)
 
   module _ (type title name : ℕ) {e : Entry} {a : Attribute} (f : firstWith (isEntry type title) (st .entries) ≡ some e) (g : firstWith (isAttribute name) (e .attributes) ≡ some a) (held : has (a .content .labels) l ≡ true) where
     -- THE SECOND LAW: an accepted compile comes to a constant of each label in an attribute's set
-    pub label-met : comesToOne m device (labelledIn m l) ≡ true
+    pub label-met : comesToOne types m device (labelledIn m l) ≡ true
     unfolding comesToOne isRefused
-    label-met = go (runManifest (labelledIn m l) (manifestOf m) device withoutLimits withoutLimits) refl
+    label-met = go (runManifest (labelledIn m l) types (manifestOf m) device withoutLimits withoutLimits) refl
       where
-        go : (o : Outcome State) → runManifest (labelledIn m l) (manifestOf m) device withoutLimits withoutLimits ≡ o → isRefused o ≡ true
+        go : (o : Outcome State) → runManifest (labelledIn m l) types (manifestOf m) device withoutLimits withoutLimits ≡ o → isRefused o ≡ true
         go (refused r p) struck = refl
         go (done st′) struck =
             let entry : EntryHas (IsBytes m) (ConstantRead m) (labelledIn m l) (Lacks l) e = perhaps-get (found (isEntry type title) (struck-lacks st′ struck .entries)) f in
             absurd (true≢false (sym held ∙ perhaps-get (found (isAttribute name) (entry .attributes)) g))
 
     -- THE THIRD LAW: so there is a lowest place of such a constant
-    pub place-met : Lowest m device l (lowestPlace m device l)
-    place-met = lowest-place m device l (compile .run) label-met
+    pub place-met : Lowest types m device l (lowestPlace types m device l)
+    place-met = lowest-place types m device l (compile .run) label-met

@@ -14,6 +14,7 @@ use Rattle.rules.specs.Read.{manifestOf}
 use Rattle.rules.specs.State.{Attribute, Entry, State}
 use Rattle.rules.specs.Evaluate.{any, isEntry, isAttribute}
 use Rattle.rules.specs.Catalog.{entryBytes, catalogBytes, shownAll, readCatalog}
+use Rattle.rules.specs.Types.{Types}
 use Rattle.rules.specs.Compile.{isBuiltIn, knownWith, noneStruckOut, names, isDefaultNode, withoutNodes, withNode, isNode, itemsFor, roomIn, start, runManifest, finalState, onto, entriesInOrder, Compiled, compiledFrom, compiled}
 use Rattle.rules.specs.EditRule.{oneMore, howMany, IsBytes}
 use Rattle.rules.proofs.Lists.{Each, noneLeft, also, each-member, each-apply}
@@ -74,11 +75,11 @@ module _ (Given : Type 0) where
       no-bytes = omega arith
 
 -- the invariant at the end of every accepted run; its ranges hold if the manifest is a byte string
-pub final-sound : (m device : List ℕ) (limit output memory : ℕ) → All (Sound (IsBytes m) limit (roomIn output)) (finalState m device limit output memory)
+pub final-sound : (types : Types) (m device : List ℕ) (limit output memory : ℕ) → All (Sound (IsBytes m) limit (roomIn output)) (finalState types m device limit output memory)
 unfolding finalState runManifest knownWith
-final-sound m device limit output memory =
-    allAny _ λ _. allAny _ λ _. allAny _ λ _. allBind (gathered-each (λ d. in-definition _ _) (isBuiltIn (manifestOf m .strings)) (manifest-fits m) noneLeft) λ ds defs.
-    items-sound (IsBytes m) limit (roomIn output) (knownWith noneStruckOut (manifestOf m .strings) ds) defs (items-for-each (manifestOf m .strings) device (manifest-fits m))
+final-sound types m device limit output memory =
+    allAny _ λ _. allAny _ λ _. allAny _ λ _. allAny _ λ _. allBind (gathered-each (λ d. in-definition _ _) (isBuiltIn types (manifestOf m .strings)) (manifest-fits m) noneLeft) λ ds defs.
+    items-sound (IsBytes m) limit (roomIn output) (knownWith noneStruckOut types (manifestOf m .strings) ds) defs (items-for-each (manifestOf m .strings) device (manifest-fits m))
     (start limit output) (start-sound (IsBytes m) limit output)
 
 -- ---- Entries in order: the same entries
@@ -133,12 +134,12 @@ within {output = output} {st = st} h =
 
 -- ---- The laws
 
-module _ (m device : List ℕ) (limit output memory : ℕ) where
-  pub accepted-sound : {st : State} → finalState m device limit output memory ≡ done st → Sound (IsBytes m) limit (roomIn output) st
-  accepted-sound p = allGet (final-sound m device limit output memory) p
+module _ (types : Types) (m device : List ℕ) (limit output memory : ℕ) where
+  pub accepted-sound : {st : State} → finalState types m device limit output memory ≡ done st → Sound (IsBytes m) limit (roomIn output) st
+  accepted-sound p = allGet (final-sound types m device limit output memory) p
 
   -- a catalog reads back as its entries are shown, if the manifest is a byte string
-  pub catalog-reads-back : {st : State} → IsBytes m → finalState m device limit output memory ≡ done st → readCatalog (catalogBytes (entriesInOrder st)) ≡ shownAll (entriesInOrder st)
+  pub catalog-reads-back : {st : State} → IsBytes m → finalState types m device limit output memory ≡ done st → readCatalog (catalogBytes (entriesInOrder st)) ≡ shownAll (entriesInOrder st)
   unfolding entriesInOrder
   catalog-reads-back {st} b e =
       let h : Sound (IsBytes m) limit (roomIn output) st = accepted-sound e in
@@ -146,33 +147,33 @@ module _ (m device : List ℕ) (limit output memory : ℕ) where
       read-back (entriesInOrder st) (onto-each (each-apply (h .entries) b) noneLeft) (omega arith)
 
   -- type and title are once in the catalog (20)
-  pub type-and-title-once : {st : State} → finalState m device limit output memory ≡ done st
+  pub type-and-title-once : {st : State} → finalState types m device limit output memory ≡ done st
       → (e : Entry) → List·Memᴰ e (entriesInOrder st) → howMany (isEntry (e .type) (e .title)) (entriesInOrder st) ≡ 1
   unfolding entriesInOrder howMany
   type-and-title-once {st} p e n =
       omega (arith, onto-many (isEntry (e .type) (e .title)) (st .entries) [], entry-once (accepted-sound p .once) (in-order-member st n))
 
   -- a name is once among the attributes of an entry (21)
-  pub names-once : {st : State} → finalState m device limit output memory ≡ done st
+  pub names-once : {st : State} → finalState types m device limit output memory ≡ done st
       → (e : Entry) → List·Memᴰ e (entriesInOrder st) → (a : Attribute) → List·Memᴰ a (e .attributes) → howMany (isAttribute (a .name)) (e .attributes) ≡ 1
   names-once {st} p e n a i =
       name-once (each-member (accepted-sound p .namesOnce) (in-order-member st n)) i
 
   -- the steps taken and those left are the limit
-  pub steps-and-left : {st : State} → finalState m device limit output memory ≡ done st → compiledFrom limit st .steps + st .stepsLeft ≡ limit
+  pub steps-and-left : {st : State} → finalState types m device limit output memory ≡ done st → compiledFrom limit st .steps + st .stepsLeft ≡ limit
   unfolding compiledFrom
   steps-and-left {st} p =
       let left : st .stepsLeft ≤ limit = accepted-sound p .steps in
       omega arith
 
   -- (of a difference this is no more than arithmetic: the law above says that nothing was cut off)
-  pub steps-within-limit : {c : Compiled} → compiled m device limit output memory ≡ done c → c .steps ≤ limit
+  pub steps-within-limit : {c : Compiled} → compiled types m device limit output memory ≡ done c → c .steps ≤ limit
   unfolding compiled compiledFrom
   steps-within-limit p =
-      allGet {P = λ (c : Compiled). c .steps ≤ limit} (allAny (finalState m device limit output memory) λ st. let less : limit - st .stepsLeft ≤ limit = omega arith in allDone less) p
+      allGet {P = λ (c : Compiled). c .steps ≤ limit} (allAny (finalState types m device limit output memory) λ st. let less : limit - st .stepsLeft ≤ limit = omega arith in allDone less) p
 
   -- the catalog's bytes are within the output, and at most 65,535
-  pub catalog-within : {c : Compiled} → compiled m device limit output memory ≡ done c → (length (c .catalog) ≤ 65535) × (length (c .catalog) ≤ output)
+  pub catalog-within : {c : Compiled} → compiled types m device limit output memory ≡ done c → (length (c .catalog) ≤ 65535) × (length (c .catalog) ≤ output)
   unfolding compiled compiledFrom
   catalog-within p =
-      allGet {P = λ (c : Compiled). (length (c .catalog) ≤ 65535) × (length (c .catalog) ≤ output)} (allBind (final-sound m device limit output memory) λ st h. allDone (within h)) p
+      allGet {P = λ (c : Compiled). (length (c .catalog) ≤ 65535) × (length (c .catalog) ≤ output)} (allBind (final-sound types m device limit output memory) λ st h. allDone (within h)) p

@@ -19,11 +19,14 @@ pub mod Ranges
 pub mod Invariant
 pub mod Counting
 pub mod Scopes
+pub mod Types
+pub mod TypeCases
 pub mod Laws
 pub mod LabelsMet
 pub mod Refusals
 pub mod Explained
 pub mod Within
+pub mod Ascending
 pub mod WriteBack
 pub mod Listed
 pub mod HighBytes

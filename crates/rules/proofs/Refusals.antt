@@ -1,4 +1,4 @@
--- Which refusals there are: a compile's own are those of document 01, 1 to 23. Each function of the definition is followed, and nothing is asked of the
+-- Which refusals there are: a compile's own are those of document 01, 1 to 23, and 28. Each function of the definition is followed, and nothing is asked of the
 -- state. Assumes nothing.
 use Prim.Native.Nat.{ℕ, zero, suc, _+_, _<_}
 use mathlib.Core.Path.{_≡_, refl}
@@ -13,7 +13,7 @@ use Rattle.values.specs.declared.Value.{Value}
 use Rattle.values.specs.declared.Value.the-variants.{Integer, String, Boolean}
 use Rattle.values.specs.declared.Labelled.{Labelled}
 use Rattle.values.specs.declared.Reason.{Reason}
-use Rattle.values.specs.declared.Reason.the-variants.{StepLimit, Overflow, DivisionByZero}
+use Rattle.values.specs.declared.Reason.the-variants.{StepLimit, Overflow, DivisionByZero, TypeList}
 use Rattle.values.specs.Numbers.{numberOf}
 use Rattle.rules.specs.Outcome.{Outcome, refused, done, _>>=_, refuseIf, orRefuse, Result, fails, gives, at, joining}
 use Rattle.rules.specs.Arithmetic.{integerIn, stringIn, booleanIn, fits64, inRange, isZero, floorDivide, sum, difference, quotient, isGreater}
@@ -34,6 +34,7 @@ use Rattle.rules.specs.Patterns.{Patterns}
 use Rattle.rules.specs.State.{Scope, topScope, classScope, Cells, Entry, State, Context, Known, scopesTried, isDeclared, takeStep, cellsFor, assign}
 use Rattle.rules.specs.Evaluate.{orElse, readIn, readAttribute, integers, booleans, equality, operate, comeTo, comeToAll, select, evaluate, armPatterns}
 use Rattle.rules.specs.Run.{store, Given, evaluateAll, namedOnce, parametersKnown, parameterValues, storeAll, storeTitle, addEntry, addResource, afterTest, doNothing, Declaration, ofType, ofClass, included, Declare, run, runBlock, branchPatterns, parentFirst, enterClass, declaration, runAtTop, topContext, nodeContext, gatherDefinitions, runItems}
+use Rattle.rules.specs.Types.{Types, theEight, lent, typePlaces, fieldRight, typesRight, checkList, checkTypes}
 use Rattle.rules.specs.Compile.{runManifest, checked, finalState}
 use Rattle.rules.proofs.Outcome.{withSteps}
 use Rattle.rules.proofs.Patterns.{Every, everyNone, everyConstant, everyDefault, chosen-holds}
@@ -387,7 +388,44 @@ unfolding checked
 own-checked ownSound = accepts
 own-checked (ownFault h) = refuses h
 
--- THE LAW: every refusal of a compile is one of document 01's
-pub own-refusals : (m device : List ℕ) (limit output memory : ℕ) → IfRefused Own (finalState m device limit output memory)
+-- ---- The list of types
+
+data OfList : Verdict → Type 0 where
+  listSound : OfList Sound
+  listFault : {p : ℕ} → OfList (Fault TypeList p)
+
+of-pick : (b : Bool) (p : ℕ) {v : Verdict} → OfList v → OfList (pick b v (Fault TypeList p))
+of-pick true p h = h
+of-pick false p h = listFault
+
+of-fields : (list : List ℕ) (more : ℕ) (before ps : List ℕ) → OfList (typesRight list more before ps)
+unfolding typesRight
+of-fields list more before [] = listSound
+of-fields list zero before (q ∷ qs) = listFault
+of-fields list (suc more) before (q ∷ qs) = of-pick (fieldRight list before q) q (of-fields list more (text list q) qs)
+
+of-list : (types : Types) → OfList (checkTypes types)
+unfolding checkTypes checkList
+of-list theEight = listSound
+of-list (lent []) = listFault
+of-list (lent (b ∷ bs)) = of-fields (b ∷ bs) 64 [] (typePlaces (b ∷ bs))
+
+-- a refusal of a compile: one of document 01's, or 28 where the list lent is at fault there
+pub data OfCompile (types : Types) (r : Reason) (p : ℕ) : Type 0 where
+  ofPaper : numberOf r < 24 → OfCompile types r p
+  ofTypes : r ≡ TypeList → checkTypes types ≡ Fault TypeList p → OfCompile types r p
+
+of-paper : {A : Type 0} (types : Types) {o : Outcome A} → IfRefused Own o → IfRefused (OfCompile types) o
+of-paper types accepts = accepts
+of-paper types (refuses h) = refuses (ofPaper h)
+
+of-types : (types : Types) {v : Verdict} → checkTypes types ≡ v → OfList v → IfRefused (OfCompile types) (checked v)
+unfolding checked
+of-types types e listSound = accepts
+of-types types e listFault = refuses (ofTypes refl e)
+
+-- THE LAW: every refusal of a compile is one of document 01's, or 28
+pub own-refusals : (types : Types) (m device : List ℕ) (limit output memory : ℕ) → IfRefused (OfCompile types) (finalState types m device limit output memory)
 unfolding finalState runManifest numberOf
-own-refusals m device limit output memory = refusal-bind (refusal-if _ _ _ (lit< tt)) λ _. refusal-bind (refusal-if _ _ _ (lit< tt)) λ _. refusal-bind (own-checked (own-check m)) λ _. refusal-bind (own-gathering _ _ _) λ _. own-items _ _ _
+own-refusals types m device limit output memory = refusal-bind (refusal-if _ _ _ (ofPaper (lit< tt))) λ _. refusal-bind (of-types types refl (of-list types)) λ _. of-paper types
+    (refusal-bind (refusal-if _ _ _ (lit< tt)) λ _. refusal-bind (own-checked (own-check m)) λ _. refusal-bind (own-gathering _ _ _) λ _. own-items _ _ _)

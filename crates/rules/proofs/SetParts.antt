@@ -29,6 +29,7 @@ use Rattle.rules.specs.State.{Scope, topScope, classScope, Cells, Attrib
 use Rattle.rules.specs.Evaluate.{firstWith, isEntry, isAttribute, orElse, readIn, integers, booleans, equality, operate, select, evaluate, armPatterns, marksIn, isBoolean, skipsRight, marksRead, armMarks}
 use Rattle.rules.specs.Run.{pathAndTrail, withPathAndTrail, stored, Given, isGiven, evaluateAll, attributesUnder, marksFor, givenLabels, partsFrom, entryFrom, addEntry, addResource, Declare, run}
 use Rattle.rules.specs.Read.{manifestOf}
+use Rattle.rules.specs.Types.{Types}
 use Rattle.rules.specs.Compile.{finalState}
 use Rattle.rules.specs.Why.{setOf, firstPart, withoutLimits, lowestPlace, Found, foundIn, answerFor, explained}
 use Rattle.rules.proofs.Lists.{Perhaps, notThere, there, perhaps-map, perhaps-get, Each, also, found, eqb-true, or-true-left, or-true-right, either-true}
@@ -241,14 +242,14 @@ resource-parts known declare p type e ats here st h =
 
 -- ---- THE SECOND LAW: in every accepted compile the set of an attribute is the union of its parts
 
-pub final-parts : (m device : List ℕ) (limit output memory : ℕ) → All (Entries PartsMakeSet) (finalState m device limit output memory)
-final-parts m device limit output memory = final-entries PartsMakeSet (record { adds = resource-parts }) m device limit output memory
+pub final-parts : (types : Types) (m device : List ℕ) (limit output memory : ℕ) → All (Entries PartsMakeSet) (finalState types m device limit output memory)
+final-parts types m device limit output memory = final-entries PartsMakeSet (record { adds = resource-parts }) types m device limit output memory
 
-pub parts-make-set : (m device : List ℕ) (limit output memory : ℕ) {st : State} → finalState m device limit output memory ≡ done st
+pub parts-make-set : (types : Types) (m device : List ℕ) (limit output memory : ℕ) {st : State} → finalState types m device limit output memory ≡ done st
     → (type title name : ℕ) {e : Entry} {a : Attribute} → firstWith (isEntry type title) (st .entries) ≡ some e → firstWith (isAttribute name) (e .attributes) ≡ some a
     → SameLabels (setOf (e .parts name)) (a .content .labels)
-parts-make-set m device limit output memory ended type title name f g l =
-    perhaps-get (perhaps-get (found (isEntry type title) (allGet (final-parts m device limit output memory) ended)) f .same name) g l
+parts-make-set types m device limit output memory ended type title name f g l =
+    perhaps-get (perhaps-get (found (isEntry type title) (allGet (final-parts types m device limit output memory) ended)) f .same name) g l
 
 -- ---- The first part that has a label
 
@@ -332,10 +333,10 @@ module _ (parts : SetParts) (l : ℕ) where
 -- ---- What an explanation says
 
 -- the attribute asked for, in the catalog of an accepted compile; its set is the union of its parts
-pub record Asked (manifest device type title attribute : List ℕ) (memory : ℕ) : Type 0 where
+pub record Asked (types : Types) (manifest device type title attribute : List ℕ) (memory : ℕ) : Type 0 where
   pub st : State
   pub found : Found
-  pub ended : finalState manifest device withoutLimits withoutLimits memory ≡ done st
+  pub ended : finalState types manifest device withoutLimits withoutLimits memory ≡ done st
   pub looked-up : foundIn (manifestOf manifest .strings) (st .entries) type title attribute ≡ done found
   pub union : SameLabels (setOf (found .parts)) (found .attribute .content .labels)
 
@@ -366,25 +367,25 @@ answer-says found label lowest union = go (has (found .attribute .content .label
     go true e = record { holds = e; first = first-part-holds (found .parts) label (union label ∙ e); place-lowest = refl }
     go false e = e
 
-module _ (manifest device type title attribute : List ℕ) (label memory : ℕ) where
+module _ (types : Types) (manifest device type title attribute : List ℕ) (label memory : ℕ) where
   -- an explanation, and the attribute that it is of
   pub record Explained (explanation : Explanation) : Type 0 where
-    pub asked : Asked manifest device type title attribute memory
-    pub says : Says (asked .found) label (lowestPlace manifest device label) explanation
+    pub asked : Asked types manifest device type title attribute memory
+    pub says : Says (asked .found) label (lowestPlace types manifest device label) explanation
 
-  all-explained : All Explained (explained manifest device type title attribute label memory)
+  all-explained : All Explained (explained types manifest device type title attribute label memory)
   unfolding explained
   all-explained =
-      allBind (allBoth (all-itself (finalState manifest device withoutLimits withoutLimits memory)) (final-parts manifest device withoutLimits withoutLimits memory)) λ st h.
+      allBind (allBoth (all-itself (finalState types manifest device withoutLimits withoutLimits memory)) (final-parts types manifest device withoutLimits withoutLimits memory)) λ st h.
       allBind (allBoth (all-itself (foundIn (manifestOf manifest .strings) (st .entries) type title attribute)) (found-parts (manifestOf manifest .strings) type title attribute (h .1))) λ f g.
-      allDone (record { asked = record { st = st; found = f; ended = h .0; looked-up = g .0; union = g .1 }; says = answer-says f label (lowestPlace manifest device label) (g .1) })
+      allDone (record { asked = record { st = st; found = f; ended = h .0; looked-up = g .0; union = g .1 }; says = answer-says f label (lowestPlace types manifest device label) (g .1) })
 
   -- THE FOURTH LAW: what every explanation says of an attribute
-  pub explained-says : {explanation : Explanation} → explained manifest device type title attribute label memory ≡ done explanation → Explained explanation
+  pub explained-says : {explanation : Explanation} → explained types manifest device type title attribute label memory ≡ done explanation → Explained explanation
   explained-says e = allGet all-explained e
 
   -- and of each attribute that the catalog has there is one
-  pub explained-answer : {st : State} {f : Found} → finalState manifest device withoutLimits withoutLimits memory ≡ done st → foundIn (manifestOf manifest .strings) (st .entries) type title attribute ≡ done f
-      → explained manifest device type title attribute label memory ≡ done (answerFor label (lowestPlace manifest device label) f)
+  pub explained-answer : {st : State} {f : Found} → finalState types manifest device withoutLimits withoutLimits memory ≡ done st → foundIn (manifestOf manifest .strings) (st .entries) type title attribute ≡ done f
+      → explained types manifest device type title attribute label memory ≡ done (answerFor label (lowestPlace types manifest device label) f)
   unfolding explained _>>=_
   explained-answer ended looked-up = rw ended (rw looked-up refl)

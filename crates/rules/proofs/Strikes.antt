@@ -11,6 +11,7 @@ use Rattle.rules.specs.Outcome.{Outcome, done}
 use Rattle.rules.specs.Tree.{Constant, Manifest}
 use Rattle.rules.specs.Read.{manifestOf}
 use Rattle.rules.specs.State.{State}
+use Rattle.rules.specs.Types.{Types}
 use Rattle.rules.specs.Compile.{noneStruckOut, runManifest}
 use Rattle.rules.specs.Why.{withoutLimits, isRefused, comesToOne, labelledAt, firstFrom, lowestPlace}
 use Rattle.rules.proofs.Lists.{either-true, or-true-left, or-true-right, both-left, both-right, both-true, when-true, when-false}
@@ -114,30 +115,30 @@ module _ {A : Type 0} where
   done-passes e = rw e
 
 -- A run that is done with something struck out has come to none of it: nothing struck out, it ends in the same state.
-pub struck-same : (S : Constant → Bool) (manifest : Manifest) (device : List ℕ) (limit output : ℕ) {st : State} → runManifest S manifest device limit output ≡ done st → runManifest noneStruckOut manifest device limit output ≡ done st
+pub struck-same : (S : Constant → Bool) (types : Types) (manifest : Manifest) (device : List ℕ) (limit output : ℕ) {st : State} → runManifest S types manifest device limit output ≡ done st → runManifest noneStruckOut types manifest device limit output ≡ done st
 unfolding noneStruckOut
-struck-same S manifest device limit output e = third-done (three-runs S S noneStruckOut (λ v h. absurd (false≢true h)) manifest device limit output) e e
+struck-same S types manifest device limit output e = third-done (three-runs S S noneStruckOut (λ v h. absurd (false≢true h)) types manifest device limit output) e e
 
 -- ---- The laws
 
-module _ (m device : List ℕ) where
+module _ (types : Types) (m device : List ℕ) where
   -- what comes to one of U comes to one of S or to one of T, if each of U is one of these
-  pub comes-one : (S T U : Constant → Bool) → ((v : Constant) → U v ≡ true → (S v || T v) ≡ true) → comesToOne m device U ≡ true → (comesToOne m device S || comesToOne m device T) ≡ true
+  pub comes-one : (S T U : Constant → Bool) → ((v : Constant) → U v ≡ true → (S v || T v) ≡ true) → comesToOne types m device U ≡ true → (comesToOne types m device S || comesToOne types m device T) ≡ true
   unfolding comesToOne
-  comes-one S T U within = refused-one (three-runs S T U within (manifestOf m) device withoutLimits withoutLimits)
+  comes-one S T U within = refused-one (three-runs S T U within types (manifestOf m) device withoutLimits withoutLimits)
 
   -- what comes to one of S comes to one of T, if each of S is one of T
-  pub comes-more : (S T : Constant → Bool) → ((v : Constant) → S v ≡ true → T v ≡ true) → comesToOne m device S ≡ true → comesToOne m device T ≡ true
-  comes-more S T within h = twice (comesToOne m device T) (comes-one T T S (λ v e. or-true-left (T v) (T v) (within v e)) h)
+  pub comes-more : (S T : Constant → Bool) → ((v : Constant) → S v ≡ true → T v ≡ true) → comesToOne types m device S ≡ true → comesToOne types m device T ≡ true
+  comes-more S T within h = twice (comesToOne types m device T) (comes-one T T S (λ v e. or-true-left (T v) (T v) (within v e)) h)
 
   -- ---- The lowest place of a constant with a label
 
   module _ (l : ℕ) where
     abbrev pub comesBelow : (bound : ℕ) → Bool
-    comesBelow b = comesToOne m device (labelledBelow l b)
+    comesBelow b = comesToOne types m device (labelledBelow l b)
 
     abbrev pub comesAt : (place : ℕ) → Bool
-    comesAt q = comesToOne m device (labelledAt l q)
+    comesAt q = comesToOne types m device (labelledAt l q)
 
     comes-at-below : (q b : ℕ) → q < b → comesAt q ≡ true → comesBelow b ≡ true
     comes-at-below q b h = comes-more (labelledAt l q) (labelledBelow l b) λ v. at-below l v q b h
@@ -152,7 +153,7 @@ module _ (m device : List ℕ) where
         (λ t. either-true (comesBelow b) (comesAt b) t (below-grows b (suc b) (omega arith)) (comes-at-below b (suc b) (omega arith)))
 
     -- none is below 0: a compile that is accepted comes to nothing there
-    pub below-none : {st : State} → runManifest noneStruckOut (manifestOf m) device withoutLimits withoutLimits ≡ done st → comesBelow 0 ≡ false
+    pub below-none : {st : State} → runManifest noneStruckOut types (manifestOf m) device withoutLimits withoutLimits ≡ done st → comesBelow 0 ≡ false
     unfolding comesToOne
     below-none e = not-true (comesBelow 0) λ h. true≢false (sym (comes-more (labelledBelow l 0) noneStruckOut (λ v t. absurd (none-below l v t)) h) ∙ done-passes e)
 
@@ -163,7 +164,7 @@ module _ (m device : List ℕ) where
     comes-there b e t = rw e at (sym (below-next b) ∙ t)
 
     -- a place is the lowest where a compile comes to nothing below it and to something below the next: what a search by halves ends with
-    pub lowest-found : (b : ℕ) → comesBelow b ≡ false → comesBelow (suc b) ≡ true → b < length m → lowestPlace m device l ≡ b
+    pub lowest-found : (b : ℕ) → comesBelow b ≡ false → comesBelow (suc b) ≡ true → b < length m → lowestPlace types m device l ≡ b
     unfolding lowestPlace
     lowest-found b e t h = first-is comesAt (length m) 0 b (omega arith) (omega arith) (nothing-before b e) (comes-there b e t)
 
@@ -174,8 +175,8 @@ module _ (m device : List ℕ) where
       pub comes : comesAt p ≡ true
       pub first : (q : ℕ) → q < p → comesAt q ≡ false
 
-    pub lowest-place : {st : State} → runManifest noneStruckOut (manifestOf m) device withoutLimits withoutLimits ≡ done st → comesBelow (length m) ≡ true → Lowest (lowestPlace m device l)
+    pub lowest-place : {st : State} → runManifest noneStruckOut types (manifestOf m) device withoutLimits withoutLimits ≡ done st → comesBelow (length m) ≡ true → Lowest (lowestPlace types m device l)
     lowest-place e h = at-turn (turn comesBelow (length m) (below-none e) h)
       where
-        at-turn : Turn comesBelow (length m) → Lowest (lowestPlace m device l)
+        at-turn : Turn comesBelow (length m) → Lowest (lowestPlace types m device l)
         at-turn t = rw (lowest-found (t .at) (t .before) (t .after) (t .inside)) (record { inside = t .inside; comes = comes-there (t .at) (t .before) (t .after); first = nothing-before (t .at) (t .before) })

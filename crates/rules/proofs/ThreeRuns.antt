@@ -23,6 +23,7 @@ use Rattle.rules.specs.Patterns.{Patterns, firstEqual, firstDefault, cho
 use Rattle.rules.specs.State.{State, Context, Known, isDeclared, isSome}
 use Rattle.rules.specs.Evaluate.{findType, findClass, isType, isClass, integers, booleans, equality, operate, comeTo, comeToAll, select, evaluate, armPatterns, isBoolean, skipsRight, marksRead, armMarks}
 use Rattle.rules.specs.Run.{Given, evaluateAll, marksFor, addResource, afterTest, withPathAndTrail, inBranch, doNothing, assignsAny, declaresAny, Declaration, ofType, ofClass, included, Declare, run, runBlock, branchPatterns, parentFirst, enterClass, declaration, runAtTop, topContext, nodeContext, gatherDefinitions, runItems}
+use Rattle.rules.specs.Types.{Types}
 use Rattle.rules.specs.Compile.{stringNumber, titleText, isBuiltIn, knownWith, itemsFor, start, runManifest}
 
 -- ---- Three that agree
@@ -385,9 +386,9 @@ module _ (builtIn : ℕ → Bool) (title : Option ℕ) (S T U : Variant) (betwee
   items-three (definition d ∷ is) st = items-three is st
 
 -- three compiles of one manifest: one of the first two is refused, or all end in one state
-pub three-runs : (S T U : Constant → Bool) → ((v : Constant) → U v ≡ true → (S v || T v) ≡ true) → (manifest : Manifest) (device : List ℕ) (limit output : ℕ) → Alike (runManifest S manifest device limit output) (runManifest T manifest device limit output) (runManifest U manifest device limit output)
+pub three-runs : (S T U : Constant → Bool) → ((v : Constant) → U v ≡ true → (S v || T v) ≡ true) → (types : Types) (manifest : Manifest) (device : List ℕ) (limit output : ℕ) → Alike (runManifest S types manifest device limit output) (runManifest T types manifest device limit output) (runManifest U types manifest device limit output)
 unfolding runManifest knownWith
-three-runs S T U within manifest device limit output = threeAny (gatherDefinitions (isBuiltIn (manifest .strings)) [] (manifest .items)) λ ds.
-    items-three (isBuiltIn (manifest .strings)) (stringNumber titleText (manifest .strings) 0) (record { definitions = ds; struckOut = S }) (record { definitions = ds; struckOut = T }) (record { definitions = ds; struckOut = U })
+three-runs S T U within types manifest device limit output = threeAny (gatherDefinitions (isBuiltIn types (manifest .strings)) [] (manifest .items)) λ ds.
+    items-three (isBuiltIn types (manifest .strings)) (stringNumber titleText (manifest .strings) 0) (record { definitions = ds; struckOut = S }) (record { definitions = ds; struckOut = T }) (record { definitions = ds; struckOut = U })
     (record { struck = within; types = λ n. find-same (findType n ds); classes = λ n. find-same (findClass n ds) })
     (itemsFor (manifest .strings) device (manifest .items)) (start limit output)

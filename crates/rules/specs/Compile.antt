@@ -14,6 +14,7 @@ use Rattle.rules.specs.declared.Verdict.the-variants.{Sound, Fault}
 use Rattle.rules.specs.Check.{check}
 use Rattle.rules.specs.Tree.{Constant, Devices, named, byDefault, Definition, Item, statement, node, definition, Manifest}
 use Rattle.rules.specs.Read.{manifestOf}
+use Rattle.rules.specs.Types.{Types, builtInTypes, checkTypes}
 use Rattle.rules.specs.Outcome.{Outcome, refused, done, _>>=_, refuseIf}
 use Rattle.rules.specs.State.{Entry, State, Known, noCell}
 use Rattle.rules.specs.Evaluate.{any}
@@ -37,29 +38,17 @@ unfoldable pub stringNumber : List ℕ → List (List ℕ) → (i : ℕ) → Opt
 stringNumber x [] i = none
 stringNumber x (y ∷ ys) i = elim (sameBytes x y) [ true ↦ some i | false ↦ stringNumber x ys (suc i) ]
 
--- "Built-in types: kiosk, tablet, printer, scanner, gate, screen, plan, wall."
-unfoldable pub builtInTypes : List (List ℕ)
-builtInTypes =
-    (107 ∷ 105 ∷ 111 ∷ 115 ∷ 107 ∷ [])  -- kiosk
-    ∷ (116 ∷ 97 ∷ 98 ∷ 108 ∷ 101 ∷ 116 ∷ [])  -- tablet
-    ∷ (112 ∷ 114 ∷ 105 ∷ 110 ∷ 116 ∷ 101 ∷ 114 ∷ [])  -- printer
-    ∷ (115 ∷ 99 ∷ 97 ∷ 110 ∷ 110 ∷ 101 ∷ 114 ∷ [])  -- scanner
-    ∷ (103 ∷ 97 ∷ 116 ∷ 101 ∷ [])  -- gate
-    ∷ (115 ∷ 99 ∷ 114 ∷ 101 ∷ 101 ∷ 110 ∷ [])  -- screen
-    ∷ (112 ∷ 108 ∷ 97 ∷ 110 ∷ [])  -- plan
-    ∷ (119 ∷ 97 ∷ 108 ∷ 108 ∷ [])  -- wall
-    ∷ []
-
 -- "title"
 unfoldable pub titleText : List ℕ
 titleText = 116 ∷ 105 ∷ 116 ∷ 108 ∷ 101 ∷ []
 
-unfoldable pub isBuiltIn : List (List ℕ) → ℕ → Bool
-isBuiltIn strings n = any (sameBytes (stringAt strings n)) builtInTypes
+-- "A type is built in precisely if the list holds it"
+unfoldable pub isBuiltIn : Types → (strings : List (List ℕ)) → ℕ → Bool
+isBuiltIn types strings n = any (sameBytes (stringAt strings n)) (builtInTypes types)
 
 -- what the names of a manifest mean, with its strings and its definitions
-unfoldable pub knownWith : (struckOut : Constant → Bool) → List (List ℕ) → List Definition → Known
-knownWith struckOut strings definitions = record { builtIn = isBuiltIn strings; title = stringNumber titleText strings 0; definitions = definitions; struckOut = struckOut }
+unfoldable pub knownWith : (struckOut : Constant → Bool) → Types → List (List ℕ) → List Definition → Known
+knownWith struckOut types strings definitions = record { builtIn = isBuiltIn types strings; title = stringNumber titleText strings 0; definitions = definitions; struckOut = struckOut }
 
 -- a compile takes the manifest as it is
 unfoldable pub noneStruckOut : Constant → Bool
@@ -116,10 +105,10 @@ start limit outputLength = record {
 }
 
 -- "All definitions are gathered first"; 8 "is given after 5 and before any step"
-unfoldable pub runManifest : (struckOut : Constant → Bool) → Manifest → (device : List ℕ) → (limit outputLength : ℕ) → Outcome State
-runManifest struckOut manifest device limit outputLength = do
-  definitions ← gatherDefinitions (isBuiltIn (manifest .strings)) [] (manifest .items)
-  runItems (knownWith struckOut (manifest .strings) definitions) (itemsFor (manifest .strings) device (manifest .items)) (start limit outputLength)
+unfoldable pub runManifest : (struckOut : Constant → Bool) → Types → Manifest → (device : List ℕ) → (limit outputLength : ℕ) → Outcome State
+runManifest struckOut types manifest device limit outputLength = do
+  definitions ← gatherDefinitions (isBuiltIn types (manifest .strings)) [] (manifest .items)
+  runItems (knownWith struckOut types (manifest .strings) definitions) (itemsFor (manifest .strings) device (manifest .items)) (start limit outputLength)
 
 -- ---- The whole
 
@@ -127,13 +116,14 @@ unfoldable pub checked : Verdict → Outcome (Unit {0})
 checked Sound = done tt
 checked (Fault reason place) = refused reason place
 
--- 1, 2, then 3 to 5, then 8 and the run
-unfoldable pub finalState : (manifest device : List ℕ) → (limit outputLength memoryLength : ℕ) → Outcome State
-finalState manifest device limit outputLength memoryLength = do
+-- 1, 28, 2, then 3 to 5, then 8 and the run
+unfoldable pub finalState : Types → (manifest device : List ℕ) → (limit outputLength memoryLength : ℕ) → Outcome State
+finalState types manifest device limit outputLength memoryLength = do
   _ ← refuseIf (ltb memoryLength 65536) MemoryTooShort 0
+  _ ← checked (checkTypes types)
   _ ← refuseIf (eqb (length manifest) 0 || ltb 65535 (length manifest)) ManifestLength 0
   _ ← checked (check manifest)
-  runManifest noneStruckOut (manifestOf manifest) device limit outputLength
+  runManifest noneStruckOut types (manifestOf manifest) device limit outputLength
 
 -- "Entries in declaration order": the state has the latest first
 unfoldable pub onto : List Entry → List Entry → List Entry
@@ -151,9 +141,9 @@ pub record Compiled : Type 0 where
 unfoldable pub compiledFrom : (limit : ℕ) → State → Compiled
 compiledFrom limit st = record { catalog = catalogBytes (entriesInOrder st); steps = limit - st .stepsLeft }
 
-unfoldable pub compiled : (manifest device : List ℕ) → (limit outputLength memoryLength : ℕ) → Outcome Compiled
-compiled manifest device limit outputLength memoryLength = do
-  st ← finalState manifest device limit outputLength memoryLength
+unfoldable pub compiled : Types → (manifest device : List ℕ) → (limit outputLength memoryLength : ℕ) → Outcome Compiled
+compiled types manifest device limit outputLength memoryLength = do
+  st ← finalState types manifest device limit outputLength memoryLength
   done (compiledFrom limit st)
 
 -- the answer: number and place, or the catalog's length and the steps
@@ -176,9 +166,9 @@ pub record Effect : Type 0 where
   pub outputAfter : List ℕ
   pub memoryAfter : List ℕ
 
-unfoldable pub compile : (manifest device : List ℕ) → (limit outputLength memoryLength : ℕ) → Effect
-compile manifest device limit outputLength memoryLength = record {
-  answer = answerOf (compiled manifest device limit outputLength memoryLength);
-  outputAfter = outputOf outputLength (compiled manifest device limit outputLength memoryLength);
+unfoldable pub compile : Types → (manifest device : List ℕ) → (limit outputLength memoryLength : ℕ) → Effect
+compile types manifest device limit outputLength memoryLength = record {
+  answer = answerOf (compiled types manifest device limit outputLength memoryLength);
+  outputAfter = outputOf outputLength (compiled types manifest device limit outputLength memoryLength);
   memoryAfter = memoryOf memoryLength;
 }

@@ -11,6 +11,7 @@ pub mod State
 pub mod Evaluate
 pub mod Catalog
 pub mod Run
+pub mod Types
 pub mod Compile
 pub mod Why
 pub mod Schedule

@@ -13,6 +13,7 @@ unfoldable pub use Rattle.values.specs.Decimal.{digits, decimal, signedDecimal}
 use Rattle.rules.specs.Read.{manifestOf}
 use Rattle.rules.specs.Outcome.{Outcome, refused, done}
 use Rattle.rules.specs.State.{Attribute, Entry}
+use Rattle.rules.specs.Types.{theEight}
 use Rattle.rules.specs.Compile.{stringAt, compiled, Compiled}
 use Rattle.rules.specs.Catalog.{readCatalog}
 
@@ -89,4 +90,4 @@ afterFeed (x ∷ xs) = elim (eqb x 10) [ true ↦ xs | false ↦ afterFeed xs ]
 
 -- "with limit 65,535", and 65,535 bytes of output
 unfoldable pub schedule : List ℕ → List ℕ
-schedule input = textOf (manifestOf (afterFeed input) .strings) (compiled (afterFeed input) (beforeFeed input) 65535 65535 65536)
+schedule input = textOf (manifestOf (afterFeed input) .strings) (compiled theEight (afterFeed input) (beforeFeed input) 65535 65535 65536)

@@ -18,6 +18,7 @@ use Rattle.rules.specs.Read.{manifestOf}
 use Rattle.rules.specs.Outcome.{Outcome, refused, done, _>>=_, orRefuse}
 use Rattle.rules.specs.State.{Attribute, SetParts, Entry, State}
 use Rattle.rules.specs.Evaluate.{firstWith, isEntry, isAttribute}
+use Rattle.rules.specs.Types.{Types}
 use Rattle.rules.specs.Compile.{stringNumber, runManifest, finalState, memoryOf}
 
 -- ---- The part
@@ -51,8 +52,8 @@ isRefused (done a) = false
 
 -- Whether a compile that is not refused comes to one of some constants, that is "evaluated" it, "tried" it "as a pattern" or assigned it as a default: it
 -- does precisely if the same compile, with these constants struck out of the manifest, is refused.
-unfoldable pub comesToOne : (manifest device : List ℕ) → (Constant → Bool) → Bool
-comesToOne manifest device some = isRefused (runManifest some (manifestOf manifest) device withoutLimits withoutLimits)
+unfoldable pub comesToOne : Types → (manifest device : List ℕ) → (Constant → Bool) → Bool
+comesToOne types manifest device some = isRefused (runManifest some types (manifestOf manifest) device withoutLimits withoutLimits)
 
 -- the constant with this label at this place
 unfoldable pub labelledAt : (label place : ℕ) → Constant → Bool
@@ -64,8 +65,8 @@ firstFrom test zero n = n
 firstFrom test (suc many) n = elim (test n) [ true ↦ n | false ↦ firstFrom test many (suc n) ]
 
 -- "the lowest place of a constant with that label that the compile" came to
-unfoldable pub lowestPlace : (manifest device : List ℕ) → (label : ℕ) → ℕ
-lowestPlace manifest device label = firstFrom (λ place. comesToOne manifest device (labelledAt label place)) (length manifest) 0
+unfoldable pub lowestPlace : Types → (manifest device : List ℕ) → (label : ℕ) → ℕ
+lowestPlace types manifest device label = firstFrom (λ place. comesToOne types manifest device (labelledAt label place)) (length manifest) 0
 
 -- ---- The answer
 
@@ -88,11 +89,11 @@ foundIn strings entries type title attribute = do
 unfoldable pub answerFor : (label place : ℕ) → Found → Explanation
 answerFor label place found = elim (has (found .attribute .content .labels) label) [ true ↦ Among (firstPart (found .parts) label) place | false ↦ NotAmong ]
 
-unfoldable pub explained : (manifest device type title attribute : List ℕ) → (label memoryLength : ℕ) → Outcome Explanation
-explained manifest device type title attribute label memoryLength = do
-  st ← finalState manifest device withoutLimits withoutLimits memoryLength
+unfoldable pub explained : Types → (manifest device type title attribute : List ℕ) → (label memoryLength : ℕ) → Outcome Explanation
+explained types manifest device type title attribute label memoryLength = do
+  st ← finalState types manifest device withoutLimits withoutLimits memoryLength
   found ← foundIn (manifestOf manifest .strings) (st .entries) type title attribute
-  done (answerFor label (lowestPlace manifest device label) found)
+  done (answerFor label (lowestPlace types manifest device label) found)
 
 unfoldable pub explanationOf : Outcome Explanation → Explanation
 explanationOf (refused reason place) = Refused reason place
@@ -103,8 +104,8 @@ pub record Told : Type 0 where
   pub answer : Explanation
   pub memoryAfter : List ℕ
 
-unfoldable pub why : (manifest device type title attribute : List ℕ) → (label memoryLength : ℕ) → Told
-why manifest device type title attribute label memoryLength = record {
-  answer = explanationOf (explained manifest device type title attribute label memoryLength);
+unfoldable pub why : Types → (manifest device type title attribute : List ℕ) → (label memoryLength : ℕ) → Told
+why types manifest device type title attribute label memoryLength = record {
+  answer = explanationOf (explained types manifest device type title attribute label memoryLength);
   memoryAfter = memoryOf memoryLength;
 }

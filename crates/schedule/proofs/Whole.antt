@@ -20,6 +20,7 @@ use Rattle.rules.specs.Read.{manifestOf}
 use Rattle.rules.specs.Outcome.{Outcome, refused, done}
 use Rattle.rules.specs.State.{State}
 use Rattle.rules.specs.Catalog.{catalogBytes, shownAll, readCatalog}
+use Rattle.rules.specs.Types.{theEight}
 use Rattle.rules.specs.Compile.{checked, finalState, entriesInOrder, Compiled, compiledFrom, compiled, outputOf}
 use Rattle.rules.specs.EditRule.{IsBytes}
 use Rattle.rules.specs.Schedule.{entryLines, stepsLine, refusalLine, textOf}
@@ -81,14 +82,14 @@ pub record Checked (m : List ℕ) : Type 0 where
   pub sound : check m ≡ Sound
   pub short : length m ≤ 65535
 
-final-checked : (m device : List ℕ) (limit output memory : ℕ) → All (λ (st : State). Checked m) (finalState m device limit output memory)
+final-checked : (m device : List ℕ) (limit output memory : ℕ) → All (λ (st : State). Checked m) (finalState theEight m device limit output memory)
 unfolding finalState
 final-checked m device limit output memory =
-    allAny _ λ _. allBind (allPassed (eqb (length m) 0 || ltb 65535 (length m)) _ _) λ _ passed. allBind (checked-sound (check m)) λ _ sound.
+    allAny _ λ _. allAny _ λ _. allBind (allPassed (eqb (length m) 0 || ltb 65535 (length m)) _ _) λ _ passed. allBind (checked-sound (check m)) λ _ sound.
     always _ (record { sound = sound; short = ltb-false 65535 (length m) (either-right (eqb (length m) 0) (ltb 65535 (length m)) passed) })
 
 module _ (m device : List ℕ) (limit output memory : ℕ) where
-  pub accepted-checked : {c : Compiled} → compiled m device limit output memory ≡ done c → Checked m
+  pub accepted-checked : {c : Compiled} → compiled theEight m device limit output memory ≡ done c → Checked m
   unfolding compiled
   accepted-checked p = allGet {P = λ (c : Compiled). Checked m} (allBind (final-checked m device limit output memory) λ st h. allDone h) p
 
@@ -104,24 +105,24 @@ module _ (m device : List ℕ) (limit output memory : ℕ) where
     fits : IsBytes m → Each FitsEntry (readCatalog (c .catalog))
     bytes : IsBytes m → c .catalog ≡ catalogBytes (readCatalog (c .catalog))
 
-  accepted-entered : {c : Compiled} → compiled m device limit output memory ≡ done c → length (c .catalog) ≤ 65535 → Entered c
+  accepted-entered : {c : Compiled} → compiled theEight m device limit output memory ≡ done c → length (c .catalog) ≤ 65535 → Entered c
   unfolding compiled compiledFrom entriesInOrder
   accepted-entered {c} p =
       allGet {P = λ (c : Compiled). length (c .catalog) ≤ 65535 → Entered c}
-      (allBind (final-sound m device limit output memory) λ st h.
+      (allBind (final-sound theEight m device limit output memory) λ st h.
       allDone λ size.
       let fits : IsBytes m → Each FitsEntry (entriesInOrder st) = λ b. onto-each (each-apply (h .entries) b) noneLeft in
       let back : IsBytes m → readCatalog (catalogBytes (entriesInOrder st)) ≡ shownAll (entriesInOrder st) = λ b. read-back (entriesInOrder st) (fits b) (omega arith) in
       record { fits = λ b. rw (back b) (shown-fit (entriesInOrder st) (fits b)); bytes = λ b. sym (shown-bytes (entriesInOrder st)) ∙ ap catalogBytes (sym (back b)) })
       p
 
-  module _ {c : Compiled} (accepted : compiled m device limit output memory ≡ done c) (room : ℕ) (wide : 2048 ≤ room) where
+  module _ {c : Compiled} (accepted : compiled theEight m device limit output memory ≡ done c) (room : ℕ) (wide : 2048 ≤ room) where
     -- each line is there, up to the last entry's last one, and none is too long
     pub accepted-prints : IsBytes m → Prints (manifestOf m .strings) (c .catalog) room start (entryLines (manifestOf m .strings) (readCatalog (c .catalog)))
     accepted-prints b =
         let k = accepted-checked accepted in
         let short : Each Short (manifestOf m .strings) = rw (strings-read m (k .sound)) (short-strings m (k .sound)) in
-        let size : length (c .catalog) ≤ 65535 = catalog-within m device limit output memory accepted .0 in
+        let size : length (c .catalog) ≤ 65535 = catalog-within theEight m device limit output memory accepted .0 in
         let t = accepted-entered accepted size in
         let lines : List ℕ = entryLines (manifestOf m .strings) (readCatalog (c .catalog)) in
         subst⁻¹ (λ (bytes : List ℕ). Prints (manifestOf m .strings) bytes room start lines) (t .bytes b)
@@ -138,11 +139,11 @@ module _ (m device : List ℕ) (limit output memory : ℕ) where
   -- ---- The text
 
   -- the lines and the last line are the definition's text
-  pub accepted-text : {c : Compiled} → compiled m device limit output memory ≡ done c → entryLines (manifestOf m .strings) (readCatalog (c .catalog)) ++ stepsLine (c .steps) ≡ textOf (manifestOf m .strings) (compiled m device limit output memory)
+  pub accepted-text : {c : Compiled} → compiled theEight m device limit output memory ≡ done c → entryLines (manifestOf m .strings) (readCatalog (c .catalog)) ++ stepsLine (c .steps) ≡ textOf (manifestOf m .strings) (compiled theEight m device limit output memory)
   unfolding textOf
   accepted-text e = sym (ap (textOf (manifestOf m .strings)) e)
 
   -- and so is the line of a refusal
-  pub refusal-text : {r : Reason} {p : ℕ} → compiled m device limit output memory ≡ refused r p → refusalLine (numberOf r) p ≡ textOf (manifestOf m .strings) (compiled m device limit output memory)
+  pub refusal-text : {r : Reason} {p : ℕ} → compiled theEight m device limit output memory ≡ refused r p → refusalLine (numberOf r) p ≡ textOf (manifestOf m .strings) (compiled theEight m device limit output memory)
   unfolding textOf
   refusal-text e = sym (ap (textOf (manifestOf m .strings)) e)

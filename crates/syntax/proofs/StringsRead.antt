@@ -19,7 +19,8 @@ use Rattle.rules.specs.Check.{walk, inside, text, stringPlaces, check}
 use Rattle.rules.specs.Fields.{Field, Fields, more, readEach, readBody, readField, readAll, headOf, tagOf, inner, first, others}
 use Rattle.rules.specs.Read.{stringsFrom, manifestFrom, manifestOf}
 use Rattle.rules.specs.Evaluate.{any}
-use Rattle.rules.specs.Compile.{sameBytes, stringAt, stringNumber, isBuiltIn, builtInTypes, titleText}
+use Rattle.rules.specs.Types.{Types, builtInTypes}
+use Rattle.rules.specs.Compile.{sameBytes, stringAt, stringNumber, isBuiltIn, titleText}
 use Rattle.rules.specs.declared.Kind.the-variants.{Table, Text as AText}
 use Rattle.rules.specs.declared.Part.the-variants.{Over, UpTo}
 use Rattle.rules.specs.declared.Parts.{Parts}
@@ -205,7 +206,7 @@ module _ (w : List ℕ) (a p : ℕ) (bs : List ℕ) where
       two-same (over w′ (a + 2) bs) w′ a a (run-outside w′ (a + 2) bs a 2 (λ i x y z t. omega arith)) ∙ stored-two w a p room fits
 
 -- each place is read back, if it fits two bytes and there is room
-places-back : (ps : List ℕ) → ((n : ℕ) → n < length ps → getD ps n 0 < 65536) → (w : List ℕ) (a : ℕ) → a + 2 * length ps ≤ length w → (n : ℕ) → n < length ps → two (over w a (placeBytes ps)) (a + 2 * n) ≡ getD ps n 0
+pub places-back : (ps : List ℕ) → ((n : ℕ) → n < length ps → getD ps n 0 < 65536) → (w : List ℕ) (a : ℕ) → a + 2 * length ps ≤ length w → (n : ℕ) → n < length ps → two (over w a (placeBytes ps)) (a + 2 * n) ≡ getD ps n 0
 unfolding placeBytes
 places-back [] fits w a room n h = absurd (omega arith)
 places-back (p ∷ ps) fits w a room zero h =
@@ -217,7 +218,7 @@ places-back (p ∷ ps) fits w a room (suc n) h =
     rw (place-then w a p (placeBytes ps), there) (places-back ps (λ j k. fits (suc j) (omega arith)) (over w a (highBytes 2 p)) (a + 2) (omega arith) n (omega arith))
 
 -- the fields up to e stand before e
-places-below : (m : List ℕ) (e k q : ℕ) → e - q ≤ k → (n : ℕ) → n < length (fieldsIn m q e) → getD (fieldsIn m q e) n 0 < e
+pub places-below : (m : List ℕ) (e k q : ℕ) → e - q ≤ k → (n : ℕ) → n < length (fieldsIn m q e) → getD (fieldsIn m q e) n 0 < e
 places-below m e zero q b n h = let none-left = rw (no-fields m q e (omega arith)) at h in absurd (omega arith)
 places-below m e (suc k) q b n h = go (λ r c j i. places-below m e k r c j i) n h (ltb q e) refl
   where
@@ -255,9 +256,9 @@ pub string-read : (m : List ℕ) (n : ℕ) → check m ≡ Sound → n < length 
 string-read m n w h = ap (λ (ss : List (List ℕ)). stringAt ss n) (strings-read m w) ∙ string-text m n h
 
 -- a built-in type by the number of its name
-pub built-in-read : (m : List ℕ) (n : ℕ) → check m ≡ Sound → n < length (stringPlaces m) → isBuiltIn (manifestOf m .strings) n ≡ isBuiltInText (text m (getD (stringPlaces m) n 0))
+pub built-in-read : (types : Types) (m : List ℕ) (n : ℕ) → check m ≡ Sound → n < length (stringPlaces m) → isBuiltIn types (manifestOf m .strings) n ≡ isBuiltInText types (text m (getD (stringPlaces m) n 0))
 unfolding isBuiltIn isBuiltInText
-built-in-read m n w h = ap (λ (x : List ℕ). any (sameBytes x) builtInTypes) (string-read m n w h)
+built-in-read types m n w h = ap (λ (x : List ℕ). any (sameBytes x) (builtInTypes types)) (string-read m n w h)
 
 -- the number of the string `title`
 pub title-read : (m : List ℕ) → check m ≡ Sound → stringNumber titleText (manifestOf m .strings) 0 ≡ stringNumber titleText (stringTexts m) 0

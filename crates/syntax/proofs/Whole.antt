@@ -15,6 +15,7 @@ use Rattle.rules.specs.declared.Verdict.the-variants.{Sound, Fault}
 use Rattle.rules.specs.Outcome.{Outcome, _>>=_, refuseIf}
 use Rattle.rules.specs.State.{State}
 use Rattle.rules.specs.Read.{manifestOf}
+use Rattle.rules.specs.Types.{Types, checkTypes}
 use Rattle.rules.specs.Compile.{checked, noneStruckOut, runManifest, finalState}
 use Rattle.syntax.specs.Before.{before}
 
@@ -58,8 +59,8 @@ pub before-both : {A : Type 0} (m : List ℕ) (run : Unit {0} → Outcome A) →
 unfolding before
 before-both m run = refused-first (eqb (length m) 0 || ltb 65535 (length m)) ManifestLength 0 (check m) run
 
-pub before-the-run : (m device : List ℕ) (limit output memory : ℕ) → finalState m device limit output memory ≡ (refuseIf (ltb memory 65536) MemoryTooShort 0 >>= λ _. checked (before m) >>= λ _. runManifest noneStruckOut (manifestOf m) device limit output)
+pub before-the-run : (types : Types) (m device : List ℕ) (limit output memory : ℕ) → finalState types m device limit output memory ≡ (refuseIf (ltb memory 65536) MemoryTooShort 0 >>= λ _. checked (checkTypes types) >>= λ _. checked (before m) >>= λ _. runManifest noneStruckOut types (manifestOf m) device limit output)
 unfolding finalState
-before-the-run m device limit output memory =
-    ap (λ (o : Outcome State). refuseIf (ltb memory 65536) MemoryTooShort 0 >>= λ _. o)
-    (before-both m (λ _. runManifest noneStruckOut (manifestOf m) device limit output))
+before-the-run types m device limit output memory =
+    ap (λ (o : Outcome State). refuseIf (ltb memory 65536) MemoryTooShort 0 >>= λ _. checked (checkTypes types) >>= λ _. o)
+    (before-both m (λ _. runManifest noneStruckOut types (manifestOf m) device limit output))

@@ -10,7 +10,8 @@ use Rattle.wire.specs.Runs.{over}
 use Rattle.rules.specs.Bytes.{two}
 use Rattle.rules.specs.Check.{text, stringPlaces}
 use Rattle.rules.specs.Evaluate.{any}
-use Rattle.rules.specs.Compile.{sameBytes, builtInTypes}
+use Rattle.rules.specs.Types.{Types, builtInTypes}
+use Rattle.rules.specs.Compile.{sameBytes}
 use Rattle.syntax.specs.declared.Found.{Found}
 use Rattle.syntax.specs.declared.Found.the-variants.{At, Nothing}
 
@@ -24,8 +25,8 @@ unfoldable pub stringTexts : List ℕ → List (List ℕ)
 stringTexts m = textsAt m (stringPlaces m)
 
 -- a type that is built in, by its name
-unfoldable pub isBuiltInText : List ℕ → Bool
-isBuiltInText x = any (sameBytes x) builtInTypes
+unfoldable pub isBuiltInText : Types → List ℕ → Bool
+isBuiltInText types x = any (sameBytes x) (builtInTypes types)
 
 -- places one after the other, two bytes each
 unfoldable pub placeBytes : List ℕ → List ℕ

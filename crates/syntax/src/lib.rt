@@ -13,7 +13,7 @@ use values::Reason;
 use wire::end_of;
 
 mod shape; // shape.rt: refusals 3 and 4
-mod order; // order.rt: refusal 5, the order of the strings
+pub mod order; // order.rt: refusal 5, the order of the strings
 mod names; // names.rt: refusal 5, the names
 pub mod strings; // strings.rt: strings by number and by text
 pub mod nodes; // nodes.rt: the node that runs for a device

@@ -21,7 +21,7 @@ pub fn wrong_string(place: usize) -> Verdict
 }
 
 // Whether `x` comes before `y`.
-fn comes_before(x: &[u8], y: &[u8]) -> bool
+pub fn comes_before(x: &[u8], y: &[u8]) -> bool
     ensures { λ r. ⌜ r ≡ ascends (now (x .entry)) (now (y .entry)) ⌝ }
 {
     let mut i: usize = 0;

@@ -1,10 +1,13 @@
 // The strings of a manifest: a table of their places, and what they say.
 ghost use mathlib.Core.Path.{_≡_};
-ghost use Prim.Native.Nat.{_+_, _*_, _<_};
+ghost use Prim.Native.Nat.{_+_, _*_, _<_, _≤_};
 ghost use lib.ListN.{length};
+ghost use Rattle.wire.specs.Runs.{over};
+ghost use Rattle.rules.specs.Bytes.{fieldsIn};
 ghost use Rattle.rules.specs.Check.{text, stringPlaces};
+ghost use Rattle.rules.specs.Types.{theEight};
 ghost use Rattle.rules.specs.Compile.{sameBytes, stringAt, stringNumber, titleText};
-ghost use Rattle.syntax.specs.Strings.{stringTexts, isBuiltInText, indexed, Indexed, foundOf};
+ghost use Rattle.syntax.specs.Strings.{stringTexts, isBuiltInText, placeBytes, indexed, Indexed, foundOf};
 use crate::Found;
 use wire::end_of;
 use wire::length_at;
@@ -53,19 +56,26 @@ pub fn string_is(m: &[u8], place: usize, bytes: &[u8]) -> bool
     same_bytes(text_of(m, place), bytes)
 }
 
-// Puts the places of the strings into `table`, two bytes each, and returns how many there are.
-pub fn index_strings(m: &[u8], table: &mut [u8]) -> u16
-    ensures { λ r. ⌜ (r ≡ length (stringPlaces (now (m .entry)))) × (now (table .exit) ≡ indexed (now (m .entry)) (now (table .entry))) ⌝ }
+// Puts the places of the fields from `from` up to `e` into `table`, two bytes each, and returns how many there are.
+pub fn index_fields(m: &[u8], from: usize, e: usize, table: &mut [u8]) -> u16
+    requires { ⌜ e ≤ 65538 ⌝ }
+    ensures { λ r. ⌜ (r ≡ length (fieldsIn (now (m .entry)) from e)) × (now (table .exit) ≡ over (now (table .entry)) 0 (placeBytes (fieldsIn (now (m .entry)) from e))) ⌝ }
 {
-    let e = end_of(m, 0);
     let mut n: u16 = 0;
-    let mut q: usize = 3;
+    let mut q = from;
     while q < e {
         put_number(table, 2 * n as usize, q as u64, 2);
         n += 1;
         q = end_of(m, q);
     }
     n
+}
+
+// Puts the places of the strings into `table`, and returns how many there are.
+pub fn index_strings(m: &[u8], table: &mut [u8]) -> u16
+    ensures { λ r. ⌜ (r ≡ length (stringPlaces (now (m .entry)))) × (now (table .exit) ≡ indexed (now (m .entry)) (now (table .entry))) ⌝ }
+{
+    index_fields(m, 3, end_of(m, 0), table)
 }
 
 // The string with the number `n`; past the last one an empty one.
@@ -103,9 +113,9 @@ pub fn title_number(m: &[u8]) -> Found
     string_number(m, b"title")
 }
 
-// Whether a type is built in, by its name.
+// Whether a type is one of the eight, by its name.
 pub fn is_built_in_text(text: &[u8]) -> bool
-    ensures { λ r. ⌜ r ≡ isBuiltInText (now (text .entry)) ⌝ }
+    ensures { λ r. ⌜ r ≡ isBuiltInText theEight (now (text .entry)) ⌝ }
 {
     if same_bytes(text, b"kiosk") {
         return true;
@@ -129,11 +139,4 @@ pub fn is_built_in_text(text: &[u8]) -> bool
         return true;
     }
     same_bytes(text, b"wall")
-}
-
-// Whether the string at `place` is the name of a built-in type.
-pub fn is_built_in(m: &[u8], place: usize) -> bool
-    ensures { λ r. ⌜ r ≡ isBuiltInText (text (now (m .entry)) place) ⌝ }
-{
-    is_built_in_text(text_of(m, place))
 }

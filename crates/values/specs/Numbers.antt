@@ -1,7 +1,7 @@
 -- The papers' number for each reason, and what each answer says in its numbers.
 use Prim.Native.Nat.{ℕ}
 use Rattle.values.specs.declared.Reason.{Reason}
-use Rattle.values.specs.declared.Reason.the-variants.{MemoryTooShort, ManifestLength, Malformed, TooDeep, StringOrder, StepLimit, LevelLimit, DefinedAgain, Unknown, DeclaredAgain, UnknownParameter, MissingParameter, NoValue, AssignedAgain, WrongKind, Overflow, DivisionByZero, NoMatch, NotInCatalog, ResourceAgain, AttributeAgain, CellLimit, OutputFull, OutsideNotation, PastLine255, Unprintable, NoSuchAttribute}
+use Rattle.values.specs.declared.Reason.the-variants.{MemoryTooShort, ManifestLength, Malformed, TooDeep, StringOrder, StepLimit, LevelLimit, DefinedAgain, Unknown, DeclaredAgain, UnknownParameter, MissingParameter, NoValue, AssignedAgain, WrongKind, Overflow, DivisionByZero, NoMatch, NotInCatalog, ResourceAgain, AttributeAgain, CellLimit, OutputFull, OutsideNotation, PastLine255, Unprintable, NoSuchAttribute, TypeList}
 use Rattle.values.specs.declared.SetPart.{SetPart}
 use Rattle.values.specs.declared.SetPart.the-variants.{Title, Path, Trail, Marks, Value}
 use Rattle.values.specs.declared.Answer.{Answer}
@@ -36,6 +36,7 @@ numberOf OutsideNotation = 24  -- the text is outside the notation or 01's limit
 numberOf PastLine255 = 25  -- a constant stands past line 255
 numberOf Unprintable = 26  -- the printer meets a label below an earlier constant's, or what the notation cannot spell, or its text is over 65,535 bytes
 numberOf NoSuchAttribute = 27  -- the catalog has no such attribute
+numberOf TypeList = 28  -- the list of types breaks one of its rules
 
 -- "title expression, path, trail, marks its expression read, value (the rest)"
 unfoldable pub partNumber : SetPart → ℕ

@@ -39,7 +39,7 @@ impl Labelled {
     }
 }
 
-// The papers' reasons for refusing: document 01's, 1 to 23, in its order, then those of the text tools and of the why tool.
+// The papers' reasons for refusing: document 01's, 1 to 23, in its order, then those of the text tools, of the why tool and of a list of types.
 pub enum Reason {
     MemoryTooShort,
     ManifestLength,
@@ -68,6 +68,7 @@ pub enum Reason {
     PastLine255,
     Unprintable,
     NoSuchAttribute,
+    TypeList,
 }
 
 // Why a compile refuses, and the place of the field concerned.
@@ -177,6 +178,7 @@ pub fn number_of(reason: Reason) -> u8
         Reason::PastLine255 => 25,
         Reason::Unprintable => 26,
         Reason::NoSuchAttribute => 27,
+        Reason::TypeList => 28,
     }
 }
 

@@ -14,7 +14,7 @@ same-length : tie.Need-same-length
 same-length c = search needs
 
 returns : tie.Need-returns
-returns c = λ s ask ready noted. gathering-refused _ _ _ _ _ (c .before .before .before .before .before .before .before .before .before .before .before .pre .0 .0) s ask ready noted _ (c .before .before .before .before .before .gather .ensures) (c .before .gathered .given .1)
+returns c = λ types s ask ready noted. gathering-refused types _ _ _ _ _ (c .before .before .before .before .before .before .before .before .before .before .before .pre .0 .0) s ask ready noted _ (c .before .before .before .before .before .gather .ensures) (c .before .gathered .given .1)
 
 enum-told : tie.Need-enum-told
 enum-told c = search needs
@@ -32,7 +32,7 @@ same-length-3 : tie.Need-same-length-3
 same-length-3 c = search needs
 
 returns-2 : tie.Need-returns-2
-returns-2 c = λ s ask ready noted. manifest-runs _ _ _ _ _ (c .before .before .before .before .before .before .before .before .before .before .before .before .before .before .before .before .before .before .before .pre .0 .0) s ask ready noted _ (c .before .before .before .before .before .before .before .before .before .before .before .before .before .gather .ensures) (c .before .before .before .before .before .before .before .before .before .enum-told .given .1) _ _ (c .before .before .before .before .before .before .before .before .choose-node .ensures) (c .before .before .before .before .run-items .ensures)
+returns-2 c = λ types s ask ready noted. manifest-runs types _ _ _ _ _ (c .before .before .before .before .before .before .before .before .before .before .before .before .before .before .before .before .before .before .before .pre .0 .0) s ask ready noted _ (c .before .before .before .before .before .before .before .before .before .before .before .before .before .gather .ensures) (c .before .before .before .before .before .before .before .before .before .enum-told .given .1) _ _ (c .before .before .before .before .before .before .before .before .choose-node .ensures) (c .before .before .before .before .run-items .ensures)
 
 pub run-prepared-spec : {M : Type 1} → statement M
 run-prepared-spec =

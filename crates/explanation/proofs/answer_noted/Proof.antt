@@ -20,7 +20,7 @@ same-length : tie.Need-same-length
 same-length c = search needs
 
 returns : tie.Need-returns
-returns c = answers-none _ _ _ _ (c .before .before .before .word .ensures) (c .before .before .if1 .taken) (c .before .at .ensures) (c .refused .ensures)
+returns c = answers-none _ _ _ _ _ (c .before .before .before .word .ensures) (c .before .before .if1 .taken) (c .before .at .ensures) (c .refused .ensures)
 
 cast-if2 : tie.Need-cast-if2
 cast-if2 c = search needs
@@ -29,7 +29,7 @@ same-length-2 : tie.Need-same-length-2
 same-length-2 c = search needs
 
 returns-2 : tie.Need-returns-2
-returns-2 c = answers-not _ _ _ _ (c .before .before .word .ensures) (c .if2 .taken)
+returns-2 c = answers-not _ _ _ _ _ (c .before .before .word .ensures) (c .if2 .taken)
 
 part-of-requires : tie.Need-part-of-requires
 part-of-requires c κs = search needs
@@ -44,7 +44,7 @@ same-length-4 : tie.Need-same-length-4
 same-length-4 c = search needs
 
 returns-3 : tie.Need-returns-3
-returns-3 c = answers-part _ _ _ _ (c .before .before .before .before .before .before .before .before .before .before .word .ensures) (c .before .before .before .before .before .before .before .before .before .if1 .left) (c .before .before .before .before .before .before .before .before .if2 .left) (c .before .before .before .before .before .before .before .part-of .ensures) (c .before .before .before .before .lowest-place .ensures)
+returns-3 c = answers-part _ _ _ _ _ (c .before .before .before .before .before .before .before .before .before .before .word .ensures) (c .before .before .before .before .before .before .before .before .before .if1 .left) (c .before .before .before .before .before .before .before .before .if2 .left) (c .before .before .before .before .before .before .before .part-of .ensures) (c .before .before .before .before .lowest-place .ensures)
 
 pub answer-noted-spec : {M : Type 1} → statement M
 answer-noted-spec =

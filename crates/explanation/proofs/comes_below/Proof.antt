@@ -26,7 +26,7 @@ same-length-2 : tie.Need-same-length-2
 same-length-2 c = search needs
 
 returns : tie.Need-returns
-returns c = comes (c .before .before .before .before .before .before .run-prepared .ensures _ nothingAsked (c .before .before .before .before .before .before .before .before .before .before .before .before .prepare-struck .ensures .0) (c .before .before .before .before .before .before .before .before .before .before .before .before .prepare-struck .ensures .1)) refl (c .before .before .before .before .before .before .before .before .before .before .before .before .before .before .before .before .before .before .pre .1 .1) (c .enum-told .given .1)
+returns c = comes (c .before .before .before .before .before .before .run-prepared .ensures _ _ nothingAsked (c .before .before .before .before .before .before .before .before .before .before .before .before .prepare-struck .ensures .0) (c .before .before .before .before .before .before .before .before .before .before .before .before .prepare-struck .ensures .1)) refl (c .before .before .before .before .before .before .before .before .before .before .before .before .before .before .before .before .before .before .before .pre .1 .1) (c .enum-told .given .1)
 
 same-length-3 : tie.Need-same-length-3
 same-length-3 c = search needs
@@ -35,7 +35,7 @@ same-length-4 : tie.Need-same-length-4
 same-length-4 c = search needs
 
 returns-2 : tie.Need-returns-2
-returns-2 c = comes-not (c .before .before .before .before .before .before .run-prepared .ensures _ nothingAsked (c .before .before .before .before .before .before .before .before .before .before .before .before .prepare-struck .ensures .0) (c .before .before .before .before .before .before .before .before .before .before .before .before .prepare-struck .ensures .1)) refl (c .before .before .before .before .before .before .before .before .before .before .before .before .before .before .before .before .before .before .pre .1 .1) (c .enum-told2 .given .1)
+returns-2 c = comes-not (c .before .before .before .before .before .before .run-prepared .ensures _ _ nothingAsked (c .before .before .before .before .before .before .before .before .before .before .before .before .prepare-struck .ensures .0) (c .before .before .before .before .before .before .before .before .before .before .before .before .prepare-struck .ensures .1)) refl (c .before .before .before .before .before .before .before .before .before .before .before .before .before .before .before .before .before .before .before .pre .1 .1) (c .enum-told2 .given .1)
 
 pub comes-below-spec : {M : Type 1} → statement M
 comes-below-spec =

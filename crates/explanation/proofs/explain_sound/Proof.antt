@@ -16,7 +16,7 @@ slice-aggregate-run-asking : tie.Need-slice-aggregate-run-asking
 slice-aggregate-run-asking c = search needs
 
 run-asking-requires : tie.Need-run-asking-requires
-run-asking-requires c κs = let b = before-sound _ (c .before .before .before .before .before .before .before .before .before .pre .1) in (((b .sound, b .short), (c .before .before .before .before .before .before .before .before .before .pre .0, refl)), numbers-small _ _ _ _ (c .before .before .numbers-of .ensures) (few-strings _ (b .sound)))
+run-asking-requires c κs = let b = before-sound _ (c .before .before .before .before .before .before .before .before .before .before .pre .1 .1) in (((c .before .before .before .before .before .before .before .before .before .before .pre .1 .0, (b .sound, b .short)), (c .before .before .before .before .before .before .before .before .before .before .pre .0, refl)), numbers-small _ _ _ _ (c .before .before .numbers-of .ensures) (few-strings _ (b .sound)))
 
 enum-known-r : tie.Need-enum-known-r
 enum-known-r c = search needs
@@ -31,19 +31,19 @@ slice-aggregate-answer-noted : tie.Need-slice-aggregate-answer-noted
 slice-aggregate-answer-noted c = search needs
 
 answer-noted-requires : tie.Need-answer-noted-requires
-answer-noted-requires c κs = let b = before-sound _ (c .before .before .before .before .before .before .before .before .before .before .before .before .before .before .before .before .before .pre .1) in ((b .sound, b .short), (omega (arith, c .before .before .before .before .before .before .before .before .before .before .before .before .before .before .before .before .before .pre .0, c .before .before .before .before .before .before .before .run-asking .kept .1 .1 .1 .1 .1 .0), c .before .before .before .before .before .before .before .run-asking .kept .1 .1 .1 .1 .0))
+answer-noted-requires c κs = let b = before-sound _ (c .before .before .before .before .before .before .before .before .before .before .before .before .before .before .before .before .before .before .pre .1 .1) in ((c .before .before .before .before .before .before .before .before .before .before .before .before .before .before .before .before .before .before .pre .1 .0, (b .sound, b .short)), (omega (arith, c .before .before .before .before .before .before .before .before .before .before .before .before .before .before .before .before .before .before .pre .0, c .before .before .before .before .before .before .before .run-asking .kept .1 .1 .1 .1 .1 .1 .0), c .before .before .before .before .before .before .before .run-asking .kept .1 .1 .1 .1 .1 .0))
 
 same-length : tie.Need-same-length
 same-length c = search needs
 
 returns : tie.Need-returns
-returns c = run-refused _ _ _ _ _ _ _ (c .before .before .before .before .before .before .before .before .before .before .before .before .before .before .before .before .before .pre .0) (c .before .before .before .before .before .before .before .before .before .before .before .before .before .before .before .before .before .pre .1) (c .before .before .before .before .before .before .before .before .before .before .numbers-of .ensures) (c .before .before .before .before .before .before .before .run-asking .ensures) (c .before .before .r .given .1) (c .refused .ensures)
+returns c = run-refused _ _ _ _ _ _ _ _ (c .before .before .before .before .before .before .before .before .before .before .before .before .before .before .before .before .before .before .pre .0) (c .before .before .before .before .before .before .before .before .before .before .before .before .before .before .before .before .before .before .pre .1 .0) (c .before .before .before .before .before .before .before .before .before .before .before .before .before .before .before .before .before .before .pre .1 .1) (c .before .before .before .before .before .before .before .before .before .before .numbers-of .ensures) (c .before .before .before .before .before .before .before .run-asking .ensures) (c .before .before .r .given .1) (c .refused .ensures)
 
 same-length-2 : tie.Need-same-length-2
 same-length-2 c = search needs
 
 returns-2 : tie.Need-returns-2
-returns-2 c = run-answers _ _ _ _ _ _ _ (c .before .before .before .before .before .before .before .before .before .before .before .before .before .before .before .before .before .before .before .before .before .pre .0) (c .before .before .before .before .before .before .before .before .before .before .before .before .before .before .before .before .before .before .before .before .before .pre .1) (c .before .before .before .before .before .before .before .before .before .before .before .before .before .before .numbers-of .ensures) (c .before .before .before .before .before .before .before .before .before .before .before .run-asking .ensures) (record { below = λ i. omega (arith, c .before .before .before .before .before .before .before .before .before .before .before .before .before .before .before .before .before .before .before .before .shared-slice-known .given i) }) (omega arith) (c .before .before .before .before .before .before .enum-told .given .1) (c .before .before .before .answer-noted .ensures)
+returns-2 c = run-answers _ _ _ _ _ _ _ _ (c .before .before .before .before .before .before .before .before .before .before .before .before .before .before .before .before .before .before .before .before .before .before .pre .0) (c .before .before .before .before .before .before .before .before .before .before .before .before .before .before .before .before .before .before .before .before .before .before .pre .1 .0) (c .before .before .before .before .before .before .before .before .before .before .before .before .before .before .before .before .before .before .before .before .before .before .pre .1 .1) (c .before .before .before .before .before .before .before .before .before .before .before .before .before .before .numbers-of .ensures) (c .before .before .before .before .before .before .before .before .before .before .before .run-asking .ensures) (record { below = λ i. omega (arith, c .before .before .before .before .before .before .before .before .before .before .before .before .before .before .before .before .before .before .before .before .shared-slice-known2 .given i) }) (omega arith) (c .before .before .before .before .before .before .enum-told .given .1) (c .before .before .before .answer-noted .ensures)
 
 pub explain-sound-spec : {M : Type 1} → statement M
 explain-sound-spec =

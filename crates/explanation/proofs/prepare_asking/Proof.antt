@@ -18,7 +18,7 @@ enum-known-numbers : tie.Need-enum-known-numbers
 enum-known-numbers c = search needs
 
 add-set-word : tie.Need-add-set-word
-add-set-word c = omega (arith, subst Small (c .before .before .numbers .given .1) (c .before .before .before .before .before .before .before .before .before .before .pre .1))
+add-set-word c = omega (arith, subst Small (c .before .before .numbers .given .1) (c .before .before .before .before .before .before .before .before .before .before .before .pre .1))
 
 set-word-requires : tie.Need-set-word-requires
 set-word-requires c κs = search needs

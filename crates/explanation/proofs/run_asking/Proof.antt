@@ -18,7 +18,7 @@ same-length-2 : tie.Need-same-length-2
 same-length-2 c = search needs
 
 returns : tie.Need-returns
-returns c = ask-ends (c .before .before .before .before .run-prepared .ensures _ _ (c .before .before .before .before .before .before .before .before .before .before .prepare-asking .ensures .0) (c .before .before .before .before .before .before .before .before .before .before .prepare-asking .ensures .1)) refl (c .before .before .before .before .before .before .before .before .before .before .before .before .before .before .before .before .pre .0 .1 .1)
+returns c = ask-ends (c .before .before .before .before .run-prepared .ensures _ _ _ (c .before .before .before .before .before .before .before .before .before .before .prepare-asking .ensures .0) (c .before .before .before .before .before .before .before .before .before .before .prepare-asking .ensures .1)) refl (c .before .before .before .before .before .before .before .before .before .before .before .before .before .before .before .before .before .pre .0 .1 .1)
 
 pub run-asking-spec : {M : Type 1} → statement M
 run-asking-spec =

@@ -1,18 +1,16 @@
 -- The order of strings: it is strict, and of two strings that differ one comes first.
-use Prim.Native.Nat.{ℕ, _<_}
-use mathlib.Core.Path.{_≡_, refl, sym, ap₂, _∙_}
+use Prim.Native.Nat.{ℕ, zero, suc, _+_, _-_, _<_}
+use mathlib.Core.Path.{_≡_, refl, sym, ap, ap₂, _∙_}
 use mathlib.Core.Bool.{Bool, true, false, _&&_}
 use mathlib.Core.List.{List, [], _∷_}
 use mathlib.Core.Logic.{_⊎_, inl, inr}
 use native.Mathlib.Omega.{arith}
 use lib.Dec.{ltb, eqb}
 use borrow.Author.Tests.{ltb-true, ltb-false, lt-ltb, le-ltb, eq-eqb, ne-eqb}
 use Rattle.rules.specs.Bytes.{pick}
 use Rattle.rules.specs.Check.{ascends}
 use Rattle.rules.specs.Compile.{sameBytes}
 use Rattle.rules.proofs.Within.{false-not-true}
-use Rattle.interner.specs.Strings.{orderOf}
-use Rattle.interner.specs.declared.Order.the-variants.{Before, Same, After}
 
 -- the first bytes decide, or they are the same and what follows decides
 decided : (a b : ℕ) (x y : List ℕ) → ascends (a ∷ x) (b ∷ y) ≡ true → (a < b) ⊎ ((a ≡ b) × (ascends x y ≡ true))
@@ -65,7 +63,7 @@ not-back x y e = go (ascends y x) refl
     go false i = i
 
 -- of two strings that differ, one comes first
-neither-first : (x y : List ℕ) → ascends x y ≡ false → ascends y x ≡ false → x ≡ y
+pub neither-first : (x y : List ℕ) → ascends x y ≡ false → ascends y x ≡ false → x ≡ y
 unfolding ascends
 neither-first [] [] e f = refl
 neither-first [] (b ∷ y) e f = false-not-true (sym e)
@@ -99,32 +97,14 @@ unfolding sameBytes
 own-bytes [] = refl
 own-bytes (a ∷ x) = rw (eq-eqb a a refl, own-bytes x)
 
--- ---- What a comparison says
+-- strings each of which comes before the next come before all behind them
+far-rises : (f : ℕ → List ℕ) (n : ℕ) → ((i : ℕ) → i + 1 < n → ascends (f i) (f (suc i)) ≡ true) → (i d : ℕ) → i + d + 1 < n → ascends (f i) (f (suc (i + d))) ≡ true
+far-rises f n next i zero l = let same : i + 0 ≡ i = omega arith in rw same (next i (omega arith))
+far-rises f n next i (suc d) l =
+    let same : i + suc d ≡ suc (i + d) = omega arith in
+    rw same (before-both (f i) (f (suc (i + d))) (f (suc (suc (i + d)))) (far-rises f n next i d (omega arith)) (next (suc (i + d)) (omega arith)))
 
-module _ (x y : List ℕ) where
-  pub told-before : Before ≡ orderOf x y → ascends x y ≡ true
-  unfolding orderOf
-  told-before h = go (ascends x y) (ascends y x) h
-    where
-      go : (a b : Bool) → Before ≡ pick a Before (pick b After Same) → a ≡ true
-      go true b h = refl
-      go false true h = let z : _≡_ {A = ℕ} 0 1 = cc in absurd (omega arith)
-      go false false h = let z : _≡_ {A = ℕ} 0 1 = cc in absurd (omega arith)
-
-  pub told-after : After ≡ orderOf x y → ascends y x ≡ true
-  unfolding orderOf
-  told-after h = go (ascends x y) (ascends y x) h
-    where
-      go : (a b : Bool) → After ≡ pick a Before (pick b After Same) → b ≡ true
-      go a true h = refl
-      go true false h = let z : _≡_ {A = ℕ} 0 1 = cc in absurd (omega arith)
-      go false false h = let z : _≡_ {A = ℕ} 0 1 = cc in absurd (omega arith)
-
-  pub told-same : Same ≡ orderOf x y → x ≡ y
-  unfolding orderOf
-  told-same h = go (ascends x y) refl (ascends y x) refl h
-    where
-      go : (a : Bool) → ascends x y ≡ a → (b : Bool) → ascends y x ≡ b → Same ≡ pick a Before (pick b After Same) → x ≡ y
-      go true i b j h = let z : _≡_ {A = ℕ} 0 1 = cc in absurd (omega arith)
-      go false i true j h = let z : _≡_ {A = ℕ} 0 1 = cc in absurd (omega arith)
-      go false i false j h = neither-first x y i j
+pub all-rise : (f : ℕ → List ℕ) (n : ℕ) → ((i : ℕ) → i + 1 < n → ascends (f i) (f (suc i)) ≡ true) → (i j : ℕ) → i < j → j < n → ascends (f i) (f j) ≡ true
+all-rise f n next i j l h =
+    let place : suc (i + (j - suc i)) ≡ j = omega arith in
+    ap (λ (k : ℕ). ascends (f i) (f k)) (sym place) ∙ far-rises f n next i (j - suc i) (omega arith)
