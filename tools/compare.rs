@@ -7,6 +7,7 @@
 include!("reference.rs");
 mod ask;
 mod compare_texts;
+mod compare_types;
 mod compare_whys;
 mod hand_made;
 mod hand_made_questions;
@@ -16,6 +17,7 @@ mod hand_made_trees;
 mod rigbanut;
 mod rooms;
 mod tally;
+mod types_calls;
 
 use answer::Answer;
 use case::Case;
@@ -31,6 +33,7 @@ struct Asked {
     compiles: bool,
     texts: bool,
     questions: bool,
+    types: bool,
 }
 
 impl Asked {
@@ -40,7 +43,7 @@ impl Asked {
             [seed, count, kind] => ([seed, count], Some(kind.as_str())),
             _ => return None,
         };
-        if !matches!(kind, None | Some("compile" | "texts" | "why")) {
+        if !matches!(kind, None | Some("compile" | "texts" | "why" | "types")) {
             return None;
         }
         let wants = |word: &str| kind.map_or(true, |kind| kind == word);
@@ -50,6 +53,7 @@ impl Asked {
             compiles: wants("compile"),
             texts: wants("texts"),
             questions: wants("why"),
+            types: wants("types"),
         })
     }
 }
@@ -57,7 +61,7 @@ impl Asked {
 fn main() -> ExitCode {
     let words: Vec<String> = std::env::args().skip(1).collect();
     let Some(asked) = Asked::of(&words) else {
-        eprintln!("use: tools/compare SEED COUNT [compile|texts|why]");
+        eprintln!("use: tools/compare SEED COUNT [compile|texts|why|types]");
         return ExitCode::from(2);
     };
     match compare_all(&asked) {
@@ -87,6 +91,11 @@ fn compare_all(asked: &Asked) -> Result<(), String> {
             "{}",
             compare_whys::compare_all(asked.seed, asked.count, &mut rooms)?
         );
+    }
+    if asked.types {
+        for tally in compare_types::compare_all(asked.seed, asked.count, &mut rooms)? {
+            println!("{}", tally.summary());
+        }
     }
     Ok(())
 }

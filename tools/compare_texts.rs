@@ -134,7 +134,7 @@ impl Texts<'_> {
 }
 
 /// What a call leaves: what it wrote and zeros, or zeros; the memory zero.
-fn leave(written: &Written, out: &mut [u8], work: &mut [u8]) {
+pub fn leave(written: &Written, out: &mut [u8], work: &mut [u8]) {
     out.fill(0);
     work.fill(0);
     if let Ok(bytes) = written {
@@ -158,6 +158,16 @@ fn in_the_same_words(written: &Written) -> rigbanut::Written {
 /// less.
 fn lend_otherwise(random: &mut Random, case: &TextCase, written: &Written) -> TextCase {
     let needed = written.as_ref().map_or(case.output, |bytes| bytes.len());
+    let [output, memory] = other_lengths(random, needed);
+    TextCase {
+        output,
+        memory,
+        ..case.clone()
+    }
+}
+
+/// Lengths of output and memory for a case that needs so much output.
+pub fn other_lengths(random: &mut Random, needed: usize) -> [usize; 2] {
     let output = match random.below(8) {
         0 => 0,
         1 => random.below(100),
@@ -175,9 +185,5 @@ fn lend_otherwise(random: &mut Random, case: &TextCase, written: &Written) -> Te
         3 => 65_535,
         _ => random.below(65_536),
     };
-    TextCase {
-        output,
-        memory,
-        ..case.clone()
-    }
+    [output, memory]
 }

@@ -67,6 +67,7 @@ pub fn compare_all(seed: u64, count: u64, rooms: &mut Rooms) -> Result<String, S
 /// A question about the last attribute of the catalog, and the first label of its set; or about any, where there is none.
 fn about(compiled: Case) -> WhyCase {
     let mut case = WhyCase {
+        types: compiled.types,
         device: compiled.device,
         kind: b"kiosk".to_vec(),
         title: b"front".to_vec(),

@@ -18,6 +18,7 @@ pub const HAND_MADE_QUESTIONS: [HandMade; 4] = [
 /// The fee, at the kiosk of a device of the example.
 pub fn example() -> WhyCase {
     WhyCase {
+        types: None,
         device: b"hill-desk".to_vec(),
         kind: b"kiosk".to_vec(),
         title: b"front".to_vec(),

@@ -3,6 +3,8 @@
 
 #[path = "../reference/src/answer.rs"]
 mod answer;
+#[path = "../reference/src/any_case.rs"]
+mod any_case;
 #[path = "../reference/src/arrange.rs"]
 mod arrange;
 #[path = "../reference/src/assemble.rs"]
@@ -59,6 +61,22 @@ mod text_trees;
 mod text_trips;
 #[path = "../reference/src/tree.rs"]
 mod tree;
+#[path = "../reference/src/types.rs"]
+mod types;
+#[path = "../reference/src/types_faults.rs"]
+mod types_faults;
+#[path = "../reference/src/types_generate.rs"]
+mod types_generate;
+#[path = "../reference/src/types_lists.rs"]
+mod types_lists;
+#[path = "../reference/src/types_named.rs"]
+mod types_named;
+#[path = "../reference/src/types_shapes.rs"]
+mod types_shapes;
+#[path = "../reference/src/types_tally.rs"]
+mod types_tally;
+#[path = "../reference/src/types_words.rs"]
+mod types_words;
 #[path = "../reference/src/walk.rs"]
 mod walk;
 #[path = "../reference/src/watch.rs"]

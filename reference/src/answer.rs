@@ -1,7 +1,7 @@
 //! What a compile answers: a catalog, or one numbered refusal and its place.
 
-/// The offset of a field in the manifest. A manifest has at most 65,535 bytes,
-/// so every offset in it fits in 16 bits.
+/// The offset of a field in the manifest, or in the list of types for 28. A
+/// manifest has at most 65,535 bytes, so every offset in it fits in 16 bits.
 pub type Place = u16;
 
 /// What [`crate::compile::compile`] gives back.
@@ -67,6 +67,9 @@ pub enum Reason {
     /// 27. The catalog has no such attribute. Only a question meets it; 24 to 26
     /// are of the text notation.
     NoAttribute = 27,
+    /// 28. The lent list of types breaks one of its rules. Its place is an offset
+    /// in the list.
+    TypeList = 28,
 }
 
 impl Reason {

@@ -1,14 +1,17 @@
 //! A case for a compile, its line in batch format, and its answer's line.
 
 use crate::answer::{Answer, Refusal};
-use crate::compile::compile;
+use crate::compile::{admit, compile_with_types, read};
 use crate::machine::{self, Finished};
 use crate::tree::Tree;
+use crate::types::Types;
 use crate::watch::Nobody;
 
 /// What one compile is given.
 #[derive(Clone, Debug, PartialEq, Eq)]
 pub struct Case {
+    /// The list of types, if one is lent.
+    pub types: Option<Vec<u8>>,
     pub device: Vec<u8>,
     pub limit: u16,
     pub output: usize,
@@ -26,6 +29,7 @@ impl Case {
     /// A case with limit 65,535, output 65,535 and memory 65,536, for "desk".
     pub fn of(manifest: Vec<u8>) -> Case {
         Case {
+            types: None,
             device: b"desk".to_vec(),
             limit: u16::MAX,
             output: 65_535,
@@ -35,21 +39,26 @@ impl Case {
     }
 
     /// Device, limit, output length, memory length and manifest, separated by
-    /// single spaces.
+    /// single spaces; the list before them.
     pub fn line(&self) -> String {
-        let (device, manifest) = (to_hex(&self.device), to_hex(&self.manifest));
+        let (list, device) = (list_word(&self.types), to_hex(&self.device));
         format!(
-            "{device} {} {} {} {manifest}",
-            self.limit, self.output, self.memory
+            "{list}{device} {} {} {} {}",
+            self.limit,
+            self.output,
+            self.memory,
+            to_hex(&self.manifest)
         )
     }
 
     pub fn from_line(line: &str) -> Result<Case, String> {
+        let (types, line) = take_list(line)?;
         let parts: Vec<&str> = line.split(' ').collect();
         let [device, limit, output, memory, manifest] = parts[..] else {
             return Err(format!("a line has five parts, not {}", parts.len()));
         };
         Ok(Case {
+            types,
             device: from_hex(device)?,
             limit: limit.parse().map_err(|_| format!("no limit: {limit}"))?,
             output: length(output)?,
@@ -63,7 +72,7 @@ impl Case {
     pub fn compile(&self) -> Result<(Answer, Vec<u8>), String> {
         let mut out = vec![0xA5; self.output];
         let mut work = vec![0x5A; self.memory];
-        let answer = compile(&self.manifest, &self.device, self.limit, &mut out, &mut work);
+        let answer = self.compile_into(&mut out, &mut work);
         check_lent(&answer, &out, &work)?;
         if let Answer::Catalog { length, .. } = answer {
             out.truncate(usize::from(length));
@@ -71,9 +80,21 @@ impl Case {
         Ok((answer, out))
     }
 
+    /// Compiles into what is lent, whatever the lengths of this case.
+    pub fn compile_into(&self, out: &mut [u8], work: &mut [u8]) -> Answer {
+        let types = self.types.as_deref();
+        compile_with_types(types, &self.manifest, &self.device, self.limit, out, work)
+    }
+
+    /// The built-in types and the tree, or a refusal before anything runs.
+    pub fn read(&self) -> Result<(Types<'_>, Tree<'_>), Refusal> {
+        let types = admit(self.types.as_deref(), self.memory)?;
+        Ok((types, read(&self.manifest)?))
+    }
+
     /// Runs a tree with what this case lends.
-    pub fn run(&self, tree: &Tree) -> Outcome {
-        self.outcome(|out| machine::run(tree, &self.device, self.limit, out, &Nobody))
+    pub fn run(&self, tree: &Tree, types: &Types) -> Outcome {
+        self.outcome(|out| machine::run(tree, types, &self.device, self.limit, out, &Nobody))
     }
 
     /// What running gives with the output of this case.
@@ -102,6 +123,26 @@ fn check_lent(answer: &Answer, out: &[u8], work: &[u8]) -> Result<(), String> {
         return Err("the working memory is not zero".to_string());
     }
     Ok(())
+}
+
+/// `types LIST ` if a list is lent: what stands before a line of any sort.
+pub fn list_word(types: &Option<Vec<u8>>) -> String {
+    match types {
+        Some(list) => format!("types {} ", to_hex(list)),
+        None => String::new(),
+    }
+}
+
+/// The list before a line of any sort, if there is one, and the rest of it. No
+/// line without a list begins with this word.
+pub fn take_list(line: &str) -> Result<(Option<Vec<u8>>, &str), String> {
+    let Some(behind) = line.strip_prefix("types ") else {
+        return Ok((None, line));
+    };
+    match behind.split_once(' ') {
+        Some((list, rest)) => Ok((Some(from_hex(list)?), rest)),
+        None => Err("no case behind the list".to_string()),
+    }
 }
 
 /// `ok STEPS HEX` or `refused NUMBER PLACE`.

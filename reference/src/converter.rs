@@ -5,9 +5,10 @@
 //! before the next one is looked at.
 
 use crate::assemble::*;
-use crate::compile::LEAST_MEMORY;
+use crate::compile::admit;
 use crate::lexer::{Lexeme, Lexer, Token};
 use crate::text_answer::{outside, past_line_255, Refused, Written, LONGEST};
+use crate::types::Types;
 use std::collections::BTreeSet;
 
 /// "the deepest field is at depth 32, where items have depth 1".
@@ -17,28 +18,20 @@ const MOST_BRACKETS: usize = 32;
 /// "at most 1,024 different strings".
 const MOST_STRINGS: usize = 1024;
 
-/// The eight built-in types of document 01.
-const BUILT_IN: [&str; 8] = [
-    "kiosk", "tablet", "printer", "scanner", "gate", "screen", "plan", "wall",
-];
-
-pub fn is_built_in(name: &[u8]) -> bool {
-    BUILT_IN.iter().any(|known| known.as_bytes() == name)
+/// The manifest of a text, with the eight built-in types, for an output and a
+/// memory of these lengths.
+pub fn convert(text: &[u8], output: usize, memory: usize) -> Written {
+    convert_with_types(None, text, output, memory)
 }
 
-/// The manifest of a text, for an output and a memory of these lengths.
-pub fn convert(text: &[u8], output: usize, memory: usize) -> Written {
-    if memory < LEAST_MEMORY {
-        return Err(Refused {
-            number: 1,
-            place: 0,
-            why: "",
-        });
-    }
+/// The manifest of a text, with the types of a list if one is lent: "the text
+/// tools take it too".
+pub fn convert_with_types(types: Option<&[u8]>, text: &[u8], output: usize, memory: usize) -> Written {
+    let types = admit(types, memory)?;
     if text.len() > LONGEST {
         return Err(outside(0, "a text over 65,535 bytes"));
     }
-    let mut parser = Parser::new(text);
+    let mut parser = Parser::new(text, types);
     let items = parser.manifest()?;
     if let Some(place) = parser.late {
         return Err(past_line_255(place));
@@ -68,6 +61,7 @@ fn table_size(strings: &BTreeSet<Vec<u8>>) -> usize {
 }
 
 struct Parser<'t> {
+    types: Types<'t>,
     lexer: Lexer<'t>,
     /// The token looked at and not yet taken.
     ahead: Option<Lexeme<'t>>,
@@ -126,8 +120,9 @@ fn misplaced(lexeme: &Lexeme) -> Refused {
 
 /// The pieces everything is read with.
 impl<'t> Parser<'t> {
-    fn new(text: &'t [u8]) -> Parser<'t> {
+    fn new(text: &'t [u8], types: Types<'t>) -> Parser<'t> {
         Parser {
+            types,
             lexer: Lexer::new(text),
             ahead: None,
             strings: BTreeSet::new(),
@@ -389,7 +384,7 @@ impl<'t> Parser<'t> {
         let title = self.expression(depth + 1)?;
         self.sign(":")?;
         let attributes = self.attributes(depth + 1)?;
-        Ok(match is_built_in(kind) {
+        Ok(match self.types.holds(kind) {
             true => built_in(kind, title, attributes),
             false => defined(kind, title, attributes),
         })

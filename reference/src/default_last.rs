@@ -1,18 +1,17 @@
 //! Which cases tell that a default is tried last.
 
 use crate::case::Case;
-use crate::compile;
 use crate::tree::*;
 
 /// Whether the answer would be another if a default matched where it is
 /// reached, so that the patterns behind it were never tried.
 pub fn tells(case: &Case) -> bool {
-    let Ok(mut tree) = compile::read(&case.manifest, case.memory) else {
+    let Ok((types, mut tree)) = case.read() else {
         return false;
     };
-    let answer = case.run(&tree);
+    let answer = case.run(&tree, &types);
     tree.items.iter_mut().for_each(cut_item);
-    case.run(&tree) != answer
+    case.run(&tree, &types) != answer
 }
 
 /// Cuts off what stands behind a default. A condition keeps its effect, which

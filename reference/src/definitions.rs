@@ -3,11 +3,7 @@
 
 use crate::answer::{Reason, Refusal};
 use crate::tree::{Definition, Item, Name, Sort, Tree};
-
-/// "Built-in types".
-const BUILT_IN: [&[u8]; 8] = [
-    b"kiosk", b"tablet", b"printer", b"scanner", b"gate", b"screen", b"plan", b"wall",
-];
+use crate::types::Types;
 
 /// What a name stands for. Both tables have one place for each string, and
 /// every name is below their length.
@@ -19,8 +15,8 @@ pub struct Definitions<'t> {
 impl<'t> Definitions<'t> {
     /// Those of every item, or 8 "at the first item, by place, whose name an
     /// earlier item defines or that is a built-in type's".
-    pub fn gather(tree: &'t Tree) -> Result<Definitions<'t>, Refusal> {
-        let mut definitions = Definitions::none(tree);
+    pub fn gather(tree: &'t Tree, types: &Types) -> Result<Definitions<'t>, Refusal> {
+        let mut definitions = Definitions::none(tree, types);
         for item in &tree.items {
             if let Item::Definition(definition) = item {
                 definitions.add(definition)?;
@@ -30,10 +26,9 @@ impl<'t> Definitions<'t> {
     }
 
     /// No definition yet, only the built-in types.
-    pub fn none(tree: &Tree) -> Definitions<'t> {
-        let is_built_in = |string: &&[u8]| BUILT_IN.contains(string);
+    pub fn none(tree: &Tree, types: &Types) -> Definitions<'t> {
         Definitions {
-            built_in: tree.strings.iter().map(is_built_in).collect(),
+            built_in: tree.strings.iter().map(|string| types.holds(string)).collect(),
             defined: vec![None; tree.strings.len()],
         }
     }

@@ -24,7 +24,7 @@ fn case(random: &mut Random) -> Case {
     }
     let way = random.weighted(&[840, 80, 60, 15, 5]);
     let bytes = damage(random, manifest, way);
-    let mut case = lend(random, bytes);
+    let mut case = lend(random, Case::of(bytes));
     if again && random.chance(300) {
         case.limit = random.pick(&[0, 0, 1, 2]);
     }
@@ -62,8 +62,7 @@ pub fn whole_program(random: &mut Random) -> Manifest {
 
 /// Chooses device, limit, output and memory; sometimes exactly what the case
 /// needs, or one less.
-fn lend(random: &mut Random, manifest: Vec<u8>) -> Case {
-    let mut case = Case::of(manifest);
+pub fn lend(random: &mut Random, mut case: Case) -> Case {
     if random.chance(500) {
         case.device = random.pick(&DEVICES).as_bytes().to_vec();
     }

@@ -6,6 +6,7 @@ use crate::definitions::Definitions;
 use crate::labels::Labels;
 use crate::scopes::{ScopeId, Scopes, NODE, TOP};
 use crate::tree::*;
+use crate::types::Types;
 use crate::watch::{Origin, Watch};
 
 /// "the deepest allowed for a declaration ... is 16".
@@ -82,12 +83,13 @@ pub struct Finished {
 /// then runs its items in order.
 pub fn run<W: Watch>(
     tree: &Tree,
+    types: &Types,
     device: &[u8],
     limit: u16,
     output: &mut [u8],
     watch: &W,
 ) -> Result<Finished, Refusal> {
-    let definitions = Definitions::gather(tree)?;
+    let definitions = Definitions::gather(tree, types)?;
     let mut machine = Machine::new(tree, definitions, device, limit, output, watch);
     for (at, item) in tree.items.iter().enumerate() {
         machine.item(at, item)?;

@@ -2,9 +2,9 @@
 //!
 //! It implements the scope paper (document 01), what is asked first in document
 //! 02 (default goes last, manifests as people write them, why a line counts,
-//! definitions anywhere) and our readings of both, and shares nothing with the
-//! compiler it is compared with. Plain Rust, edition 2021, the standard library
-//! only.
+//! definitions anywhere, our own type list) and our readings of both, and shares
+//! nothing with the compiler it is compared with. Plain Rust, edition 2021, the
+//! standard library only.
 //!
 //! Building, either way:
 //!
@@ -50,6 +50,12 @@
 //! reference why-named NAME          a special question as a why case
 //! reference why-named --list        the names of those
 //! reference time-why [NAME]         nanoseconds for one question of those, or of each
+//!
+//! reference types-batch < cases     a case of any sort with a list in; an answer to a line out
+//! reference types-generate SEED COUNT  random cases of every sort, each with a list
+//! reference types-histogram SEED COUNT how often each answer and reason occurs among them
+//! reference types-named NAME        a special case with a list
+//! reference types-named --list      the names of those
 //! ```
 //!
 //! A case is a line of five parts with single spaces between them: device,
@@ -67,16 +73,21 @@
 //! is 1 title expression, 2 path, 3 trail, 4 marks its expression read, 5 value;
 //! `not among`; or `refused NUMBER PLACE`.
 //!
-//! The modules, from the bottom: `answer` (answers, the 23 reasons and 27),
-//! `labels`, `tree` (the fields once read), `reader` (refusals 3, 4 and 5),
-//! `definitions` (those of the whole manifest, refusal 8), `catalog`, `watch`
-//! (who looks on), `scopes`, `machine` (how a manifest runs), `compile` (the
-//! call), `schedule` (the printer). For tests and random cases: `assemble`
-//! (manifests from nested fields), `random`, `program`, `shapes`, `arrange`
-//! (where definitions stand), `generate`, `special` and `named_definitions`
-//! (named inputs), `case` (batch lines), `default_last` (which cases tell that a
-//! default is tried last), `used_early` (which tell that definitions may stand
-//! anywhere), `modes` (what the arguments ask for).
+//! A line of any sort may have `types LIST ` before it: the list of types that
+//! is lent. Without it none is, which means the eight. Every `batch` takes such
+//! lines of its sort.
+//!
+//! The modules, from the bottom: `answer` (answers, the 23 reasons, 27 and 28),
+//! `types` (the built-in types and a lent list of them, refusal 28), `labels`,
+//! `tree` (the fields once read), `reader` (refusals 3, 4 and 5), `definitions`
+//! (those of the whole manifest, refusal 8), `catalog`, `watch` (who looks on),
+//! `scopes`, `machine` (how a manifest runs), `compile` (the call), `schedule`
+//! (the printer). For tests and random cases: `assemble` (manifests from nested
+//! fields), `random`, `program`, `shapes`, `arrange` (where definitions stand),
+//! `generate`, `special` and `named_definitions` (named inputs), `case` (batch
+//! lines), `default_last` (which cases tell that a default is tried last),
+//! `used_early` (which tell that definitions may stand anywhere), `modes` (what
+//! the arguments ask for).
 //!
 //! The text notation: `text_answer` (answers, refusals 24 to 26), `lexer`
 //! (tokens), `converter`, `walk` (a manifest's fields by offset), `printer`. For
@@ -90,8 +101,15 @@
 //! show), `why_named`, `why_places`, `why_definitions`, `why_large` (named
 //! questions: parts and refusals, places, definitions, large ones), `why_case`
 //! (lines), `why_modes`.
+//!
+//! Random cases with a list of types: `any_case` (a case of any sort),
+//! `types_words` (words that matter to a list), `types_lists` (good lists),
+//! `types_faults` (faulty ones), `types_shapes` (manifests for lists),
+//! `types_generate`, `types_tally` (what the answers show), `types_named` (named
+//! cases), `types_modes`.
 
 mod answer;
+mod any_case;
 mod arrange;
 mod assemble;
 mod case;
@@ -124,6 +142,15 @@ mod text_random;
 mod text_trees;
 mod text_trips;
 mod tree;
+mod types;
+mod types_faults;
+mod types_generate;
+mod types_lists;
+mod types_modes;
+mod types_named;
+mod types_shapes;
+mod types_tally;
+mod types_words;
 mod used_early;
 mod walk;
 mod watch;

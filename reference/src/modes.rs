@@ -11,6 +11,7 @@ use crate::schedule::schedule;
 use crate::special::{all_named, named};
 use crate::text_case::Call;
 use crate::text_modes;
+use crate::types_modes;
 use crate::used_early;
 use crate::walk;
 use crate::why_modes;
@@ -25,7 +26,8 @@ const USAGE: &str = "use: reference schedule | batch | default-last | used-early
                      round-trip SEED COUNT | text-named NAME | text-named --list | \
                      time-text [NAME] | why-batch | why-generate SEED COUNT | \
                      why-histogram SEED COUNT | why-named NAME | why-named --list | \
-                     time-why [NAME]";
+                     time-why [NAME] | types-batch | types-generate SEED COUNT | \
+                     types-histogram SEED COUNT | types-named NAME | types-named --list";
 
 pub fn run(arguments: &[String]) -> Result<(), String> {
     let words: Vec<&str> = arguments.iter().map(String::as_str).collect();
@@ -58,6 +60,11 @@ pub fn run(arguments: &[String]) -> Result<(), String> {
         ["why-named", name] => return why_modes::print_named(name),
         ["time-why"] => return why_modes::time_all(),
         ["time-why", name] => return why_modes::time(name),
+        ["types-batch"] => return types_modes::batch(),
+        ["types-generate", seed, count] => types_modes::generate(number(seed)?, number(count)?),
+        ["types-histogram", seed, count] => return types_modes::histogram(number(seed)?, number(count)?),
+        ["types-named", "--list"] => types_modes::list_names(),
+        ["types-named", name] => return types_modes::print_named(name),
         _ => return Err(USAGE.to_string()),
     };
     done.map_err(broken)

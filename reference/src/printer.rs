@@ -1,16 +1,23 @@
 //! From the tagged form back to text.
 
-use crate::compile::read;
-use crate::converter::is_built_in;
+use crate::compile::{admit, read};
 use crate::lexer::{is_name, keyword};
 use crate::text_answer::{unprintable, Refused, Written, LONGEST};
 use crate::tree::*;
+use crate::types::Types;
 use crate::walk::{fields, Met};
 
-/// The text of a manifest, for an output and a memory of these lengths.
+/// The text of a manifest, with the eight built-in types, for an output and a
+/// memory of these lengths.
 pub fn print(manifest: &[u8], output: usize, memory: usize) -> Written {
-    let tree = read(manifest, memory)?;
-    check(manifest, &tree.strings)?;
+    print_with_types(None, manifest, output, memory)
+}
+
+/// The text of a manifest, with the types of a list if one is lent.
+pub fn print_with_types(types: Option<&[u8]>, manifest: &[u8], output: usize, memory: usize) -> Written {
+    let types = admit(types, memory)?;
+    let tree = read(manifest)?;
+    check(manifest, &tree.strings, &types)?;
     let text = text_of(&tree);
     if text.len() > LONGEST {
         return Err(unprintable(0, "a text over 65,535 bytes"));
@@ -22,7 +29,7 @@ pub fn print(manifest: &[u8], output: usize, memory: usize) -> Written {
 }
 
 /// 26 "at the lowest field".
-fn check(manifest: &[u8], strings: &[&[u8]]) -> Result<(), Refused> {
+fn check(manifest: &[u8], strings: &[&[u8]], types: &Types) -> Result<(), Refused> {
     let mut label_before = 0;
     for met in fields(manifest) {
         let fault = match met.label() {
@@ -31,7 +38,7 @@ fn check(manifest: &[u8], strings: &[&[u8]]) -> Result<(), Refused> {
                 label_before = label;
                 None
             }
-            None => fault_of_names(&met, strings),
+            None => fault_of_names(&met, strings, types),
         };
         if let Some(why) = fault {
             return Err(unprintable(met.place, why));
@@ -43,7 +50,7 @@ fn check(manifest: &[u8], strings: &[&[u8]]) -> Result<(), Refused> {
 /// "a field other than 11 and 31 that holds a name the notation cannot spell
 /// (empty, keyword, other bytes); a 25 whose type is not in the list, a 27 whose
 /// type is".
-fn fault_of_names(met: &Met, strings: &[&[u8]]) -> Option<&'static str> {
+fn fault_of_names(met: &Met, strings: &[&[u8]], types: &Types) -> Option<&'static str> {
     if met.tag == 0x31 {
         return None;
     }
@@ -58,7 +65,7 @@ fn fault_of_names(met: &Met, strings: &[&[u8]]) -> Option<&'static str> {
         if !is_name(spelled) {
             return Some("other bytes in a name");
         }
-        match (met.tag, is_built_in(spelled)) {
+        match (met.tag, types.holds(spelled)) {
             (0x25, false) => return Some("a 25 of no built-in type"),
             (0x27, true) => return Some("a 27 of a built-in type"),
             _ => {}

@@ -1,8 +1,8 @@
 //! A case for the converter or the printer, its line, and its answer's line.
 
-use crate::case::{from_hex, length, to_hex};
-use crate::converter::convert;
-use crate::printer::print;
+use crate::case::{from_hex, length, list_word, take_list, to_hex};
+use crate::converter::convert_with_types;
+use crate::printer::print_with_types;
 use crate::text_answer::{Written, LONGEST};
 
 /// Which of the two is called.
@@ -15,6 +15,8 @@ pub enum Call {
 /// What one call is given.
 #[derive(Clone, Debug, PartialEq, Eq)]
 pub struct TextCase {
+    /// The list of types, if one is lent.
+    pub types: Option<Vec<u8>>,
     pub call: Call,
     pub output: usize,
     pub memory: usize,
@@ -26,6 +28,7 @@ impl TextCase {
     /// A case with as much output and memory as any call needs.
     pub fn of(call: Call, bytes: Vec<u8>) -> TextCase {
         TextCase {
+            types: None,
             call,
             output: LONGEST,
             memory: 65_536,
@@ -42,22 +45,24 @@ impl TextCase {
     }
 
     /// Call, output length, memory length and bytes, separated by single
-    /// spaces.
+    /// spaces; the list before them.
     pub fn line(&self) -> String {
         let call = match self.call {
             Call::Convert => "convert",
             Call::Print => "print",
         };
-        let bytes = to_hex(&self.bytes);
-        format!("{call} {} {} {bytes}", self.output, self.memory)
+        let (list, bytes) = (list_word(&self.types), to_hex(&self.bytes));
+        format!("{list}{call} {} {} {bytes}", self.output, self.memory)
     }
 
     pub fn from_line(line: &str) -> Result<TextCase, String> {
+        let (types, line) = take_list(line)?;
         let parts: Vec<&str> = line.split(' ').collect();
         let [call, output, memory, bytes] = parts[..] else {
             return Err(format!("a line has four parts, not {}", parts.len()));
         };
         Ok(TextCase {
+            types,
             call: match call {
                 "convert" => Call::Convert,
                 "print" => Call::Print,
@@ -70,9 +75,10 @@ impl TextCase {
     }
 
     pub fn answer(&self) -> Written {
+        let types = self.types.as_deref();
         match self.call {
-            Call::Convert => convert(&self.bytes, self.output, self.memory),
-            Call::Print => print(&self.bytes, self.output, self.memory),
+            Call::Convert => convert_with_types(types, &self.bytes, self.output, self.memory),
+            Call::Print => print_with_types(types, &self.bytes, self.output, self.memory),
         }
     }
 }

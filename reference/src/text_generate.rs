@@ -22,7 +22,7 @@ fn case(random: &mut Random) -> TextCase {
     case
 }
 
-fn any_text(random: &mut Random) -> Vec<u8> {
+pub fn any_text(random: &mut Random) -> Vec<u8> {
     match random.weighted(&[35, 20, 20, 25]) {
         0 => ordinary(random),
         1 => disordered(random),
@@ -131,7 +131,7 @@ fn damage_bytes(random: &mut Random, mut text: Vec<u8>) -> Vec<u8> {
 
 /// Sometimes as much output as the case needs, or one byte less; sometimes a
 /// memory at its limit.
-fn lend(random: &mut Random, case: &mut TextCase) {
+pub fn lend(random: &mut Random, case: &mut TextCase) {
     match random.weighted(&[84, 10, 4, 2]) {
         0 => {}
         1 => {

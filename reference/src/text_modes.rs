@@ -1,5 +1,8 @@
 //! What the arguments ask of the text notation.
 
+use crate::compile::LEAST_MEMORY;
+use crate::converter::convert;
+use crate::printer::print;
 use crate::text_answer::{Written, LONGEST};
 use crate::text_case::{written_line, Call, TextCase};
 use crate::text_generate::text_cases;
@@ -22,7 +25,11 @@ fn find(name: &str) -> Result<TextCase, String> {
 pub fn one(call: Call) -> Result<(), String> {
     let mut input = Vec::new();
     io::stdin().lock().read_to_end(&mut input).map_err(broken)?;
-    match TextCase::of(call, input).answer() {
+    let written = match call {
+        Call::Convert => convert(&input, LONGEST, LEAST_MEMORY),
+        Call::Print => print(&input, LONGEST, LEAST_MEMORY),
+    };
+    match written {
         Ok(bytes) => io::stdout().lock().write_all(&bytes).map_err(broken),
         Err(refused) => {
             eprintln!("refused {} at {}", refused.number, refused.place);

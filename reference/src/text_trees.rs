@@ -2,12 +2,12 @@
 //! and shapes made printable, and faults put into them again.
 
 use crate::assemble::*;
-use crate::converter::is_built_in;
 use crate::generate::whole_program;
 use crate::lexer::is_name;
 use crate::random::Random;
 use crate::shapes::shape;
 use crate::text_random::{some_name, some_string};
+use crate::types::Types;
 
 const NAMES: [&str; 10] = [
     "fee", "price", "open", "title", "a", "b", "x9", "y_z", "in", "unless",
@@ -18,16 +18,21 @@ const KINDS: [&str; 8] = [
 
 /// A manifest that the printer accepts, if its text is short enough.
 pub fn printable(random: &mut Random) -> Manifest {
-    let mut manifest = match random.weighted(&[60, 25, 15]) {
-        0 => any_tree(random),
-        1 => whole_program(random),
-        _ => shape(random),
-    };
-    repair(random, &mut manifest);
+    let mut manifest = unrepaired(random);
+    repair(random, &mut manifest, &Types::eight());
     if random.chance(200) {
         manifest = manifest.with(some_string(random));
     }
     manifest
+}
+
+/// A manifest of every form, a program or a shape, printable or not.
+pub fn unrepaired(random: &mut Random) -> Manifest {
+    match random.weighted(&[60, 25, 15]) {
+        0 => any_tree(random),
+        1 => whole_program(random),
+        _ => shape(random),
+    }
 }
 
 /// A manifest of every form, in which anything may stand where the fields let
@@ -163,7 +168,7 @@ fn any_constant(random: &mut Random) -> Field {
 }
 
 /// Calls for every field, by rising offset.
-fn each(fields: &mut [Field], call: &mut impl FnMut(&mut Field)) {
+pub fn each(fields: &mut [Field], call: &mut impl FnMut(&mut Field)) {
     for field in fields {
         each_in(field, call);
     }
@@ -199,7 +204,7 @@ fn names_of(field: &mut Field) -> Vec<&mut Vec<u8>> {
 }
 
 /// Makes labels rise, names spellable, and 25 and 27 what their type asks for.
-fn repair(random: &mut Random, manifest: &mut Manifest) {
+pub fn repair(random: &mut Random, manifest: &mut Manifest, types: &Types) {
     let mut count = 0;
     each(&mut manifest.items, &mut |field| {
         count += usize::from(label_of(field).is_some())
@@ -215,7 +220,7 @@ fn repair(random: &mut Random, manifest: &mut Manifest) {
             }
         }
         if matches!(field.tag, 0x25 | 0x27) {
-            let built_in = names_of(field).first().is_some_and(|name| is_built_in(name));
+            let built_in = names_of(field).first().is_some_and(|name| types.holds(name));
             field.tag = if built_in { 0x25 } else { 0x27 };
         }
     });

@@ -2,10 +2,10 @@
 
 use crate::answer::{Reason, Refusal};
 use crate::case::{Case, Outcome};
-use crate::compile;
 use crate::definitions::Definitions;
 use crate::machine::{Finished, Machine};
 use crate::tree::{Item, Tree};
+use crate::types::Types;
 use crate::watch::Nobody;
 
 /// Whether the answer would be another if a definition counted only from where
@@ -29,15 +29,15 @@ pub fn first_use(case: &Case) -> Option<u8> {
 
 /// The answer, and the one of the former rule; nothing where nothing runs.
 pub fn answers(case: &Case) -> Option<(Outcome, Outcome)> {
-    let tree = compile::read(&case.manifest, case.memory).ok()?;
-    let formerly = case.outcome(|out| run_formerly(&tree, case, out));
-    Some((case.run(&tree), formerly))
+    let (types, tree) = case.read().ok()?;
+    let formerly = case.outcome(|out| run_formerly(&tree, &types, case, out));
+    Some((case.run(&tree, &types), formerly))
 }
 
 /// "A definition must run before it is used" (document 01), and is refused 8
 /// where it stands.
-fn run_formerly(tree: &Tree, case: &Case, out: &mut [u8]) -> Result<Finished, Refusal> {
-    let none = Definitions::none(tree);
+fn run_formerly(tree: &Tree, types: &Types, case: &Case, out: &mut [u8]) -> Result<Finished, Refusal> {
+    let none = Definitions::none(tree, types);
     let mut machine = Machine::new(tree, none, &case.device, case.limit, out, &Nobody);
     for (at, item) in tree.items.iter().enumerate() {
         match item {

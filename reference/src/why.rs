@@ -39,32 +39,33 @@ pub enum Part {
 }
 
 /// Asks why a label is in the set of an attribute of the catalog that this
-/// manifest gives this device. `memory` is the length of the memory lent.
+/// manifest gives this device, by its type, title and name; "a type list may be
+/// lent". `memory` is the length of the memory lent.
 pub fn why(
+    types: Option<&[u8]>,
     manifest: &[u8],
     device: &[u8],
-    kind: &[u8],
-    title: &[u8],
-    attribute: &[u8],
+    strings: [&[u8]; 3],
     label: u8,
     memory: usize,
 ) -> Why {
-    let strings = [kind, title, attribute];
-    answer(manifest, device, strings, label, memory).unwrap_or_else(Why::Refused)
+    answer(types, manifest, device, strings, label, memory).unwrap_or_else(Why::Refused)
 }
 
 /// 27 "follows all of the compile's own refusals".
 fn answer(
+    types: Option<&[u8]>,
     manifest: &[u8],
     device: &[u8],
     strings: [&[u8]; 3],
     label: u8,
     memory: usize,
 ) -> Result<Why, Refusal> {
-    let tree = compile::read(manifest, memory)?;
+    let types = compile::admit(types, memory)?;
+    let tree = compile::read(manifest)?;
     let watcher = Watcher::new(Asked::find(&tree, strings), label);
     let mut catalog = vec![0; usize::from(LIMIT)];
-    machine::run(&tree, device, LIMIT, &mut catalog, &watcher)?;
+    machine::run(&tree, &types, device, LIMIT, &mut catalog, &watcher)?;
     watcher.answer().ok_or(Reason::NoAttribute.at(0))
 }
 

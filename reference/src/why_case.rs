@@ -1,7 +1,7 @@
 //! A question, its line, and its answer's line.
 
 use crate::answer::Answer;
-use crate::case::{from_hex, length, to_hex, Case};
+use crate::case::{from_hex, length, list_word, take_list, to_hex, Case};
 use crate::catalog;
 use crate::compile;
 use crate::labels::Labels;
@@ -10,6 +10,8 @@ use crate::why::{why, Why};
 /// What one question is given.
 #[derive(Clone, Debug, PartialEq, Eq)]
 pub struct WhyCase {
+    /// The list of types, if one is lent.
+    pub types: Option<Vec<u8>>,
     pub device: Vec<u8>,
     pub kind: Vec<u8>,
     pub title: Vec<u8>,
@@ -29,20 +31,22 @@ pub struct Resource {
 
 impl WhyCase {
     /// `why`, device, type, title, attribute, label, memory length and
-    /// manifest, separated by single spaces.
+    /// manifest, separated by single spaces; the list before them.
     pub fn line(&self) -> String {
         let strings = [&self.device, &self.kind, &self.title, &self.attribute];
         let strings = strings.map(|string| to_hex(string)).join(" ");
-        let (label, memory) = (self.label, self.memory);
-        format!("why {strings} {label} {memory} {}", to_hex(&self.manifest))
+        let (list, label, memory) = (list_word(&self.types), self.label, self.memory);
+        format!("{list}why {strings} {label} {memory} {}", to_hex(&self.manifest))
     }
 
     pub fn from_line(line: &str) -> Result<WhyCase, String> {
+        let (types, line) = take_list(line)?;
         let parts: Vec<&str> = line.split(' ').collect();
         let ["why", device, kind, title, attribute, label, memory, manifest] = parts[..] else {
             return Err("a line has eight parts, the first of them 'why'".to_string());
         };
         Ok(WhyCase {
+            types,
             device: from_hex(device)?,
             kind: from_hex(kind)?,
             title: from_hex(title)?,
@@ -55,11 +59,10 @@ impl WhyCase {
 
     pub fn answer(&self) -> Why {
         why(
+            self.types.as_deref(),
             &self.manifest,
             &self.device,
-            &self.kind,
-            &self.title,
-            &self.attribute,
+            [&self.kind, &self.title, &self.attribute],
             self.label,
             self.memory,
         )
@@ -68,11 +71,12 @@ impl WhyCase {
     /// What the catalog holds; nothing if the manifest is refused.
     pub fn resources(&self) -> Vec<Resource> {
         let compiling = Case {
+            types: self.types.clone(),
             device: self.device.clone(),
             memory: self.memory,
             ..Case::of(self.manifest.clone())
         };
-        let tree = compile::read(&self.manifest, self.memory);
+        let tree = compile::read(&self.manifest);
         let (Ok(tree), Ok((Answer::Catalog { .. }, bytes))) = (tree, compiling.compile()) else {
             return Vec::new();
         };

@@ -30,25 +30,34 @@ struct Shown {
 fn case(random: &mut Random) -> WhyCase {
     let tries = if random.chance(60) { 0 } else { 5 };
     for _ in 0..tries {
-        let mut case = any_manifest(random);
-        let shown = attributes(&case);
-        if !shown.is_empty() {
-            ask(random, &mut case, &shown);
-            lend(random, &mut case);
+        let manifest = some_manifest(random);
+        let mut case = of(random, manifest.build().bytes);
+        if is_asked(random, &mut case) {
             return case;
         }
     }
-    let mut case = careless(random);
-    lend(random, &mut case);
-    case
+    careless(random)
 }
 
-fn of(random: &mut Random, manifest: Vec<u8>) -> WhyCase {
+/// Asks about an attribute of the case's catalog; false if there is none.
+pub fn is_asked(random: &mut Random, case: &mut WhyCase) -> bool {
+    let shown = attributes(case);
+    if shown.is_empty() {
+        return false;
+    }
+    ask(random, case, &shown);
+    lend(random, case);
+    true
+}
+
+/// A question about nothing yet.
+pub fn of(random: &mut Random, manifest: Vec<u8>) -> WhyCase {
     let device = match random.chance(700) {
         true => "desk",
         false => random.pick(&DEVICES),
     };
     WhyCase {
+        types: None,
         device: device.as_bytes().to_vec(),
         kind: Vec::new(),
         title: Vec::new(),
@@ -59,13 +68,13 @@ fn of(random: &mut Random, manifest: Vec<u8>) -> WhyCase {
     }
 }
 
-fn any_manifest(random: &mut Random) -> WhyCase {
-    let manifest = match random.weighted(&[60, 28, 12]) {
+/// A manifest to ask about.
+pub fn some_manifest(random: &mut Random) -> Manifest {
+    match random.weighted(&[60, 28, 12]) {
         0 => counted(random),
         1 => relabelled(random, |random| program(random, 0)),
         _ => relabelled(random, shape),
-    };
-    of(random, manifest.build().bytes)
+    }
 }
 
 /// Mostly with few labels.
@@ -78,7 +87,7 @@ fn relabelled(random: &mut Random, make: fn(&mut Random) -> Manifest) -> Manifes
 }
 
 /// A manifest that is often refused, and strings of its table.
-fn careless(random: &mut Random) -> WhyCase {
+pub fn careless(random: &mut Random) -> WhyCase {
     let mut manifest = match random.chance(500) {
         true => whole_program(random),
         false => shape(random),
@@ -95,6 +104,7 @@ fn careless(random: &mut Random) -> WhyCase {
     case.title = string_of(random, &case.manifest);
     case.attribute = string_of(random, &case.manifest);
     case.label = random.label();
+    lend(random, &mut case);
     case
 }
 

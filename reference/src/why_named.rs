@@ -24,6 +24,7 @@ pub struct Asking {
 impl Asking {
     pub fn case(&self) -> WhyCase {
         WhyCase {
+            types: None,
             device: self.device.into(),
             kind: self.kind.into(),
             title: self.title.into(),

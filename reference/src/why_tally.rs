@@ -65,7 +65,7 @@ fn part_name(part: Part) -> &'static str {
 
 /// What a 27 lacks.
 fn missing(case: &WhyCase) -> &'static str {
-    let lacks = |string: &[u8]| match compile::read(&case.manifest, case.memory) {
+    let lacks = |string: &[u8]| match compile::read(&case.manifest) {
         Ok(tree) => tree.number_of(string).is_none(),
         Err(_) => false,
     };

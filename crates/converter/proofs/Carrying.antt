@@ -7,6 +7,7 @@ use lib.Dec.{eqb}
 use borrow.Author.Tests.{ne-eqb}
 use Prim.Native.Nat.{ℕ, _≤_, _<_}
 use Rattle.rules.proofs.Within.{false-not-true}
+use Rattle.rules.specs.Types.{Types}
 use Rattle.lexer.specs.declared.Token.{Token}
 use Rattle.notation.specs.Tokens.{lexeme, word, number, text, variable, topVariable, classVariable, mark, isAmong, aWord, aNumber, aText, aVariable, aQualified}
 use Rattle.notation.specs.Building.{constantNode, variableNode, spelled, resourceTag}
@@ -14,13 +15,13 @@ use Rattle.tree_builder.specs.Shows.{numberIn, AnInteger, ABoolean, AName}
 use Rattle.converter.specs.declared.actions.Names.{Names}
 use Rattle.converter.specs.Stepping.{Carried}
 
-module _ (r : Token) (ns : Names) (table : List (List ℕ)) where
+module _ (types : Types) (r : Token) (ns : Names) (table : List (List ℕ)) where
   -- no kind is another one
   not-among : {A : Type 0} (k : ℕ) (ks : List ℕ) → r .kind ≡ k → isAmong k ks ≡ false → isAmong (r .kind) ks ≡ true → A
   not-among k ks e none-is i = false-not-true (sym none-is ∙ ap (λ (n : ℕ). isAmong n ks) (sym e) ∙ i)
 
   -- a word
-  pub carried-word : (w : List ℕ) → r .kind ≡ aWord → ns .name ≡ numberIn table w → ns .resource ≡ resourceTag w → Carried r ns table (lexeme (r .start) (r .line) (word w))
+  pub carried-word : (w : List ℕ) → r .kind ≡ aWord → ns .name ≡ numberIn table w → ns .resource ≡ resourceTag types w → Carried types r ns table (lexeme (r .start) (r .line) (word w))
   unfolding constantNode spelled AName
   carried-word w e named-so tag =
       record {
@@ -32,7 +33,7 @@ module _ (r : Token) (ns : Names) (table : List (List ℕ)) where
       }
 
   -- a string in quotes
-  pub carried-text : (w : List ℕ) → r .kind ≡ aText → ns .name ≡ numberIn table w → Carried r ns table (lexeme (r .start) (r .line) (text w))
+  pub carried-text : (w : List ℕ) → r .kind ≡ aText → ns .name ≡ numberIn table w → Carried types r ns table (lexeme (r .start) (r .line) (text w))
   unfolding constantNode spelled AName
   carried-text w e named-so =
       record {
@@ -44,7 +45,7 @@ module _ (r : Token) (ns : Names) (table : List (List ℕ)) where
       }
 
   -- a number
-  pub carried-number : r .kind ≡ aNumber → Carried r ns table (lexeme (r .start) (r .line) (number (r .value)))
+  pub carried-number : r .kind ≡ aNumber → Carried types r ns table (lexeme (r .start) (r .line) (number (r .value)))
   unfolding AnInteger
   carried-number e =
       record {
@@ -56,7 +57,7 @@ module _ (r : Token) (ns : Names) (table : List (List ℕ)) where
       }
 
   -- $x
-  pub carried-variable : (w : List ℕ) → r .kind ≡ aVariable → ns .name ≡ numberIn table w → Carried r ns table (lexeme (r .start) (r .line) (variable w))
+  pub carried-variable : (w : List ℕ) → r .kind ≡ aVariable → ns .name ≡ numberIn table w → Carried types r ns table (lexeme (r .start) (r .line) (variable w))
   unfolding variableNode spelled AName
   carried-variable w e named-so =
       record {
@@ -68,7 +69,7 @@ module _ (r : Token) (ns : Names) (table : List (List ℕ)) where
       }
 
   -- $::x
-  pub carried-top : (w : List ℕ) → r .kind ≡ aQualified → r .«class_end» ≡ 0 → ns .name ≡ numberIn table w → Carried r ns table (lexeme (r .start) (r .line) (topVariable w))
+  pub carried-top : (w : List ℕ) → r .kind ≡ aQualified → r .«class_end» ≡ 0 → ns .name ≡ numberIn table w → Carried types r ns table (lexeme (r .start) (r .line) (topVariable w))
   unfolding variableNode
   carried-top w e no-class named-so =
       record {
@@ -80,7 +81,7 @@ module _ (r : Token) (ns : Names) (table : List (List ℕ)) where
       }
 
   -- $::a::x
-  pub carried-class : (c w : List ℕ) → r .kind ≡ aQualified → (r .«class_end» ≡ 0 → ⊥) → ns .class ≡ numberIn table c → ns .name ≡ numberIn table w → Carried r ns table (lexeme (r .start) (r .line) (classVariable c w))
+  pub carried-class : (c w : List ℕ) → r .kind ≡ aQualified → (r .«class_end» ≡ 0 → ⊥) → ns .class ≡ numberIn table c → ns .name ≡ numberIn table w → Carried types r ns table (lexeme (r .start) (r .line) (classVariable c w))
   unfolding variableNode
   carried-class c w e some-class class-so named-so =
       record {
@@ -96,7 +97,7 @@ module _ (r : Token) (ns : Names) (table : List (List ℕ)) where
     none-below : (k : ℕ) → k < 5 → eqb (r .kind) k ≡ false
     none-below k l = ne-eqb (r .kind) k (λ z. omega arith)
 
-    pub carried-mark : Carried r ns table (lexeme (r .start) (r .line) (mark (r .kind)))
+    pub carried-mark : Carried types r ns table (lexeme (r .start) (r .line) (mark (r .kind)))
     unfolding constantNode ABoolean
     carried-mark =
         let b0 = none-below 0 (omega arith) in

@@ -15,6 +15,10 @@ use Rattle.rules.specs.EditRule.{IsBytes}
 use Rattle.rules.specs.Fields.{none as noFields, write, writeAll}
 use Rattle.rules.specs.Outcome.{Outcome, refused, done, _>>=_, refuseIf}
 use Rattle.rules.proofs.Lists.{either-left, either-right}
+use Rattle.rules.specs.Compile.{checked}
+use Rattle.rules.specs.declared.Verdict.{Verdict}
+use Rattle.rules.specs.declared.Verdict.the-variants.{Sound, Fault}
+use Rattle.rules.specs.Types.{Types, checkTypes}
 use Rattle.notation.specs.declared.Answer.{Answer}
 use Rattle.notation.specs.Lexing.{tokens}
 use Rattle.notation.specs.Building.{Nodes, frame, build}
@@ -33,51 +37,55 @@ use Rattle.converter.proofs.SecondPass.{table-again, none-more}
 
 -- ---- The outcome, by what is found on the way
 
-module _ (t : List ℕ) (output memory : ℕ) where
-  pub short-memory : memory < 65536 → converted t output memory ≡ refused MemoryTooShort 0
+module _ (types : Types) (t : List ℕ) (output memory : ℕ) where
+  pub short-memory : memory < 65536 → converted types t output memory ≡ refused MemoryTooShort 0
   unfolding converted _>>=_ refuseIf
   short-memory h = rw (converted, lt-ltb memory 65536 h)
 
-  module _ (enough : 65536 ≤ memory) where
-    pub long-text : 65535 < length t → converted t output memory ≡ refused OutsideNotation 0
-    unfolding converted _>>=_ refuseIf
-    long-text h = rw (converted, le-ltb memory 65536 enough, lt-ltb 65535 (length t) h)
+  pub fault-of-types : {v : Verdict} {r : Reason} {p : ℕ} → 65536 ≤ memory → v ≡ checkTypes types → v ≡ Fault r p → converted types t output memory ≡ refused r p
+  unfolding converted _>>=_ refuseIf checked
+  fault-of-types h e f = rw (converted, le-ltb memory 65536 h, sym e, f)
+
+  module _ (enough : 65536 ≤ memory) (listed : checkTypes types ≡ Sound) where
+    pub long-text : 65535 < length t → converted types t output memory ≡ refused OutsideNotation 0
+    unfolding converted _>>=_ refuseIf checked
+    long-text h = rw (converted, le-ltb memory 65536 enough, listed, lt-ltb 65535 (length t) h)
 
     module _ (short : length t ≤ 65535) where
-      pub not-read : {r : Reason} {p : ℕ} → textItems (tokens t) ≡ refused r p → converted t output memory ≡ refused r p
-      unfolding converted _>>=_ refuseIf
-      not-read h = rw (converted, le-ltb memory 65536 enough, le-ltb 65535 (length t) short, h)
+      pub not-read : {r : Reason} {p : ℕ} → textItems types (tokens t) ≡ refused r p → converted types t output memory ≡ refused r p
+      unfolding converted _>>=_ refuseIf checked
+      not-read h = rw (converted, le-ltb memory 65536 enough, listed, le-ltb 65535 (length t) short, h)
 
-      module _ (items : Nodes) (read : textItems (tokens t) ≡ done items) where
-        pub late-constant : {p : ℕ} → lateAmong items ≡ some p → converted t output memory ≡ refused PastLine255 p
-        unfolding converted _>>=_ refuseIf refuseAt
-        late-constant h = rw (converted, le-ltb memory 65536 enough, le-ltb 65535 (length t) short, read, h)
+      module _ (items : Nodes) (read : textItems types (tokens t) ≡ done items) where
+        pub late-constant : {p : ℕ} → lateAmong items ≡ some p → converted types t output memory ≡ refused PastLine255 p
+        unfolding converted _>>=_ refuseIf refuseAt checked
+        late-constant h = rw (converted, le-ltb memory 65536 enough, listed, le-ltb 65535 (length t) short, read, h)
 
         module _ (early : lateAmong items ≡ none) where
-          pub too-long : tooLong (manifestBytes (tokens t) items) output ≡ true → converted t output memory ≡ refused OutsideNotation 0
-          unfolding converted _>>=_ refuseIf refuseAt
-          too-long h = rw (converted, le-ltb memory 65536 enough, le-ltb 65535 (length t) short, read, early, h)
+          pub too-long : tooLong (manifestBytes (tokens t) items) output ≡ true → converted types t output memory ≡ refused OutsideNotation 0
+          unfolding converted _>>=_ refuseIf refuseAt checked
+          too-long h = rw (converted, le-ltb memory 65536 enough, listed, le-ltb 65535 (length t) short, read, early, h)
 
-          pub all-fits : tooLong (manifestBytes (tokens t) items) output ≡ false → converted t output memory ≡ done (manifestBytes (tokens t) items)
-          unfolding converted _>>=_ refuseIf refuseAt
-          all-fits h = rw (converted, le-ltb memory 65536 enough, le-ltb 65535 (length t) short, read, early, h)
+          pub all-fits : tooLong (manifestBytes (tokens t) items) output ≡ false → converted types t output memory ≡ done (manifestBytes (tokens t) items)
+          unfolding converted _>>=_ refuseIf refuseAt checked
+          all-fits h = rw (converted, le-ltb memory 65536 enough, listed, le-ltb 65535 (length t) short, read, early, h)
 
 -- ---- What a call leaves
 
 -- bytes lent count by how many they are
-module _ (t : List ℕ) {out out₁ out′ work work₁ work′ : List ℕ} {a : Answer} where
-  pub converts : {o : Outcome (List ℕ)} → converted t (length out) (length work) ≡ o → length out₁ ≡ length out → length work₁ ≡ length work → Leaves o out₁ out′ work₁ work′ a → Converts t out out′ work work′ a
+module _ (types : Types) (t : List ℕ) {out out₁ out′ work work₁ work′ : List ℕ} {a : Answer} where
+  pub converts : {o : Outcome (List ℕ)} → converted types t (length out) (length work) ≡ o → length out₁ ≡ length out → length work₁ ≡ length work → Leaves o out₁ out′ work₁ work′ a → Converts types t out out′ work work′ a
   unfolding convert
   converts e same-out same-work x =
-      let left : Leaves (converted t (length out) (length work)) out out′ work work′ a = leaves-as e same-out same-work x in
+      let left : Leaves (converted types t (length out) (length work)) out out′ work work′ a = leaves-as e same-out same-work x in
       record { effect = left .effect }
 
-  pub converts-from : length out₁ ≡ length out → length work₁ ≡ length work → Leaves (converted t (length out₁) (length work₁)) out₁ out′ work₁ work′ a → Converts t out out′ work work′ a
-  converts-from same-out same-work x = converts (λ i. converted t (sym same-out i) (sym same-work i)) same-out same-work x
+  pub converts-from : length out₁ ≡ length out → length work₁ ≡ length work → Leaves (converted types t (length out₁) (length work₁)) out₁ out′ work₁ work′ a → Converts types t out out′ work work′ a
+  converts-from same-out same-work x = converts (λ i. converted types t (sym same-out i) (sym same-work i)) same-out same-work x
 
 -- ---- A text that was read whole
 
-module _ {t table : List ℕ} {count fill : ℕ} (x : Measured t table count fill) where
+module _ (types : Types) {t table : List ℕ} {count fill : ℕ} (x : Measured types t table count fill) where
   abbrev pub itemBytes : List ℕ
   itemBytes = writeAll (numberedOnto (strings t table count) (x .items) noFields)
 
@@ -109,13 +117,13 @@ module _ {t table : List ℕ} {count fill : ℕ} (x : Measured t table count fil
       within-both l h = rw (tooLong, le-ltb 65535 (length manifest) (omega (arith, manifest-size)), le-ltb output (length manifest) (omega (arith, manifest-size)))
 
       -- an output that begins with the manifest begins with what is asked for
-      pub written : (memory : ℕ) {out : List ℕ} → 65536 ≤ memory → before + fill ≤ 65535 → before + fill ≤ output → Begins t out → converted t output memory ≡ done (take (before + fill) out)
+      pub written : (memory : ℕ) {out : List ℕ} → 65536 ≤ memory → before + fill ≤ 65535 → before + fill ≤ output → Begins types t out → converted types t output memory ≡ done (take (before + fill) out)
       written memory {out} enough short room begins =
           let first : take (before + fill) out ≡ manifest = ap (λ (n : ℕ). take n out) (sym manifest-size) ∙ begins .manifest (x .items) (x .read) in
-          all-fits t output memory enough (x .short) (x .items) (x .read) (x .early) (within-both short room) ∙ ap done (sym first)
+          all-fits types t output memory enough (x .listed) (x .short) (x .items) (x .read) (x .early) (within-both short room) ∙ ap done (sym first)
 
       -- what writing it asks for
-      pub fitting : (out : List ℕ) → IsBytes t → output ≡ length out → before + fill ≤ 65535 → before + fill ≤ output → Fitting t table count before out
+      pub fitting : (out : List ℕ) → IsBytes t → output ≡ length out → before + fill ≤ 65535 → before + fill ≤ output → Fitting types t table count before out
       fitting out bytes here short room =
           let fits : tooLong manifest (length out) ≡ false = rw here at (within-both short room) in
           record {
@@ -123,25 +131,25 @@ module _ {t table : List ℕ} {count fill : ℕ} (x : Measured t table count fil
             measured = x;
             table-size = table-size;
             fits = fits;
-            bytes = converted-manifest t manifest (length out) 65536 bytes (all-fits t (length out) 65536 (omega arith) (x .short) (x .items) (x .read) (x .early) fits) .bytes;
+            bytes = converted-manifest types t manifest (length out) 65536 bytes (all-fits types t (length out) 65536 (omega arith) (x .listed) (x .short) (x .items) (x .read) (x .early) fits) .bytes;
           }
 
 -- ---- The table, and the items behind it
 
-module _ {t table : List ℕ} {count before : ℕ} {out : List ℕ} (f : Fitting t table count before out) where
-  abbrev measured : Measured t table count (f .fill)
+module _ (types : Types) {t table : List ℕ} {count before : ℕ} {out : List ℕ} (f : Fitting types t table count before out) where
+  abbrev measured : Measured types t table count (f .fill)
   measured = f .measured
 
   -- it is short and fits
   size-low : (before + f .fill ≤ 65535) × (before + f .fill ≤ length out)
   unfolding tooLong
   size-low =
-      let size = manifest-size measured (f .table-size) in
-      let n : ℕ = length (manifest measured) in
+      let size = manifest-size types measured (f .table-size) in
+      let n : ℕ = length (manifest types measured) in
       (omega (arith, size, ltb-false 65535 n (either-left (ltb 65535 n) (ltb (length out) n) (f .fits))), omega (arith, size, ltb-false (length out) n (either-right (ltb 65535 n) (ltb (length out) n) (f .fits))))
 
   pub writable : Writable t table count out
-  writable = record { measurable = measurable measured; fits = omega (arith, size-low .1, f .table-size); short = omega (arith, size-low .0, f .table-size) }
+  writable = record { measurable = measurable types measured; fits = omega (arith, size-low .1, f .table-size); short = omega (arith, size-low .0, f .table-size) }
 
   pub items-fit : before + f .fill ≤ length out
   items-fit = size-low .1
@@ -153,11 +161,11 @@ module _ {t table : List ℕ} {count before : ℕ} {out : List ℕ} (f : Fitting
   passable part = record { short = measured .short; enterable = measured .enterable; known = λ h. table-stays }
 
   -- the second pass finds the same items
-  pub items-again : readText (reading (tokens t)) (crowdedAt (tokens t) (strings t table count)) ≡ done (measured .items)
+  pub items-again : readText (reading types (tokens t)) (crowdedAt (tokens t) (strings t table count)) ≡ done (measured .items)
   unfolding textItems readText
   items-again =
       let few : length (tableBehind (tokens t) []) ≤ 1024 = omega (arith, ap length (measured .table-is), strings-counted t table count, measured .enterable .small) in
-      ap (readText (reading (tokens t))) (ap (crowdedAt (tokens t)) (measured .table-is) ∙ none-more (tokens t) few) ∙ none-crowded (reading (tokens t)) (crowdedAt (tokens t) []) (measured .read)
+      ap (readText (reading types (tokens t))) (ap (crowdedAt (tokens t)) (measured .table-is) ∙ none-more (tokens t) few) ∙ none-crowded (reading types (tokens t)) (crowdedAt (tokens t) []) (measured .read)
     where
       none-crowded : (y : Ended) (o : Option ℕ) → readText y o ≡ done (measured .items) → readText y none ≡ done (measured .items)
       none-crowded (built (build b (frame p u h ks) fs)) none e = e
@@ -166,19 +174,19 @@ module _ {t table : List ℕ} {count before : ℕ} {out : List ℕ} (f : Fitting
       none-crowded (fault p) (some q) e = refused-not-done e
 
   -- their numbers are bytes
-  pub items-bytes : IsBytes (itemBytes measured)
+  pub items-bytes : IsBytes (itemBytes types measured)
   items-bytes =
-      let behind : drop before (manifest measured) ≡ itemBytes measured = ap (drop before) (manifest-parts measured) ∙ drop-at (tableBytes t table count) (itemBytes measured) before (sym (f .table-size)) in
-      rw behind at (later-bytes before (manifest measured) (f .bytes))
+      let behind : drop before (manifest types measured) ≡ itemBytes types measured = ap (drop before) (manifest-parts types measured) ∙ drop-at (tableBytes t table count) (itemBytes types measured) before (sym (f .table-size)) in
+      rw behind at (later-bytes before (manifest types measured) (f .bytes))
 
   -- the items stand behind the table
-  pub begins-so : {out₁ : List ℕ} (part : List ℕ) → out₁ ≡ atStart (tableBytes t table count) out → take (f .fill) part ≡ itemBytes measured → Begins t (take before out₁ ++ part)
+  pub begins-so : {out₁ : List ℕ} (part : List ℕ) → out₁ ≡ atStart (tableBytes t table count) out → take (f .fill) part ≡ itemBytes types measured → Begins types t (take before out₁ ++ part)
   begins-so {out₁} part e items-stand =
       let tb : List ℕ = tableBytes t table count in
       let first : take before out₁ ≡ tb = ap (take before) e ∙ take-at tb (drop (length tb) out) before (sym (f .table-size)) in
-      let size : length (manifest measured) ≡ length tb + f .fill = omega (arith, manifest-size measured (f .table-size), f .table-size) in
-      let whole : take (length (manifest measured)) (take before out₁ ++ part) ≡ manifest measured =
-      ap (λ (l : List ℕ). take (length (manifest measured)) (l ++ part)) first ∙ ap (λ (n : ℕ). take n (tb ++ part)) size ∙ take-append-add tb part (f .fill) ∙ ap (λ (l : List ℕ). tb ++ l) items-stand ∙ sym (manifest-parts measured) in
+      let size : length (manifest types measured) ≡ length tb + f .fill = omega (arith, manifest-size types measured (f .table-size), f .table-size) in
+      let whole : take (length (manifest types measured)) (take before out₁ ++ part) ≡ manifest types measured =
+      ap (λ (l : List ℕ). take (length (manifest types measured)) (l ++ part)) first ∙ ap (λ (n : ℕ). take n (tb ++ part)) size ∙ take-append-add tb part (f .fill) ∙ ap (λ (l : List ℕ). tb ++ l) items-stand ∙ sym (manifest-parts types measured) in
       record { manifest = λ items e. let same : measured .items ≡ items = done-same (sym (measured .read) ∙ e) in rw same at whole }
     where
       done-same : {a b : Nodes} → _≡_ {A = Outcome Nodes} (done a) (done b) → a ≡ b

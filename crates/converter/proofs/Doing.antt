@@ -19,23 +19,23 @@ use Rattle.tree_builder.specs.declared.Step.{Step}
 use Rattle.tree_builder.specs.Shows.{Does, IsWord}
 use Rattle.converter.specs.declared.actions.Names.{Names}
 use Rattle.rules.proofs.Within.{false-not-true}
-use Rattle.converter.specs.Doing.{ConstantAt, Suits, isConstant, WordRead}
+use Rattle.converter.specs.Doing.{DoesFor, ConstantAt, Suits, isConstant, WordRead}
 
 -- what is done by a code that stands for an action
 abbrev pub DoneBy : (t : Token) (ns : Names) (s : Building) (m out : List ℕ) (r : Step) (m′ out′ : List ℕ) → Action → Type 0
-DoneBy t ns s m out r m′ out′ a = Does (Suits t a ns) a s m out r m′ out′ × WordRead a t r
+DoneBy t ns s m out r m′ out′ a = DoesFor t ns a s m out r m′ out′ × WordRead a t r
 
 module _ (t : Token) (ns : Names) (s : Building) (m out : List ℕ) (r : Step) (m′ out′ : List ℕ) (n : ℕ) (a : Action) (e : actionOf n ≡ a) where
   pub by-code : DoneBy t ns s m out r m′ out′ a → DoneBy t ns s m out r m′ out′ (actionOf n)
   by-code done = subst (DoneBy t ns s m out r m′ out′) (sym e) done
 
   -- an action that reads no constant
-  pub by-other : isConstant a ≡ false → Does (Suits t a ns) a s m out r m′ out′ → DoneBy t ns s m out r m′ out′ (actionOf n)
+  pub by-other : isConstant a ≡ false → DoesFor t ns a s m out r m′ out′ → DoneBy t ns s m out r m′ out′ (actionOf n)
   unfolding WordRead
   by-other other does = by-code (does, λ one k. false-not-true (sym other ∙ one))
 
 -- the same by a code that is known
-pub by-known : (t : Token) (ns : Names) (s : Building) (m out : List ℕ) (r : Step) (m′ out′ : List ℕ) (n k : ℕ) (a : Action) → n ≡ k → actionOf k ≡ a → isConstant a ≡ false → Does (Suits t a ns) a s m out r m′ out′ → DoneBy t ns s m out r m′ out′ (actionOf n)
+pub by-known : (t : Token) (ns : Names) (s : Building) (m out : List ℕ) (r : Step) (m′ out′ : List ℕ) (n k : ℕ) (a : Action) → n ≡ k → actionOf k ≡ a → isConstant a ≡ false → DoesFor t ns a s m out r m′ out′ → DoneBy t ns s m out r m′ out′ (actionOf n)
 by-known t ns s m out r m′ out′ n k a i e other does = by-other t ns s m out r m′ out′ n a (ap actionOf i ∙ e) other does
 
 -- the action that reads one

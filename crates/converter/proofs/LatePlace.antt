@@ -9,6 +9,7 @@ use lib.ListN.{length}
 use Prim.Native.Nat.{ℕ, suc, _+_, _≤_}
 use Rattle.rules.specs.Bytes.{pick}
 use Rattle.rules.specs.Format.{isConstant}
+use Rattle.rules.specs.Types.{Types}
 use Rattle.notation.specs.Lexing.{tokens, lineBehind}
 use Rattle.notation.specs.Building.{Node, Nodes, frame, build}
 use Rattle.notation.specs.Grammar.{built, reading}
@@ -46,6 +47,6 @@ module _ (n : ℕ) where
     late-among noField q e = none-not-some e
     late-among (alsoField {ks} {k} each last) q e = either-of (lateAmong ks) (lateIn k) q (λ i. late-among each q i) (λ i. late-in last q i) e
 
-pub late-place : (t : List ℕ) (items : Nodes) → reading (tokens t) ≡ built (build 0 (frame 0 0 [] items) []) → (q : ℕ) → lateAmong items ≡ some q → q ≤ length t
-late-place t items whole q e =
-    late-among (length t) (tokens-give-constants (Low (length t)) (tokens t) items (tokens-at (Low (length t)) t (bytes-low (length t) t 0 0 (omega arith))) whole) q e
+pub late-place : (types : Types) (t : List ℕ) (items : Nodes) → reading types (tokens t) ≡ built (build 0 (frame 0 0 [] items) []) → (q : ℕ) → lateAmong items ≡ some q → q ≤ length t
+late-place types t items whole q e =
+    late-among (length t) (tokens-give-constants types (Low (length t)) (tokens t) items (tokens-at (Low (length t)) t (bytes-low (length t) t 0 0 (omega arith))) whole) q e

@@ -9,6 +9,7 @@ use borrow.Author.Tests.{eqb-true}
 use Prim.Native.Nat.{ℕ, suc}
 use Rattle.rules.specs.Bytes.{pick}
 use Rattle.rules.proofs.Lists.{both-left, both-right}
+use Rattle.rules.specs.Types.{Types}
 use Rattle.lexer.specs.declared.Token.{Token}
 use Rattle.notation.specs.Tokens.{Lexeme, isAmong, aWord, aNumber, aText, aVariable, aQualified, trueWord, falseWord, leftSquare, question, leftBrace, rightBrace}
 use Rattle.notation.specs.Lexing.{find}
@@ -157,8 +158,8 @@ row-plain s q ds ss h = both-right (rowFits s q (row ds ss)) (allPlain ss) (row-
 
 -- ---- What a token in hand is for its row's actions
 
-module _ (t : Token) (ns : Names) (table : List (List ℕ)) (x : Lexeme) (h : Carried t ns table x) where
-  suits-one : (a : Action) → fits (t .kind) a ≡ true → Suits t a ns table x
+module _ (types : Types) (t : Token) (ns : Names) (table : List (List ℕ)) (x : Lexeme) (h : Carried types t ns table x) where
+  suits-one : (a : Action) → fits (t .kind) a ≡ true → Suits types t a ns table x
   unfolding Suits
   suits-one (begin u) e = tt
   suits-one beginResource e = h .resource e
@@ -173,7 +174,7 @@ module _ (t : Token) (ns : Names) (table : List (List ℕ)) (x : Lexeme) (h : Ca
   suits-one enter e = tt
   suits-one leave e = tt
 
-  pub suits-all : (ds : List Action) → allFit (t .kind) ds ≡ true → SuitsAll t ns ds table x
+  pub suits-all : (ds : List Action) → allFit (t .kind) ds ≡ true → SuitsAll types t ns ds table x
   unfolding SuitsAll
   suits-all [] e = tt
   suits-all (a ∷ ds) e = (suits-one a (both-left (fits (t .kind) a) (allFit (t .kind) ds) e), suits-all ds (both-right (fits (t .kind) a) (allFit (t .kind) ds) e))

@@ -12,15 +12,16 @@ use Rattle.lexer.specs.declared.Token.{Token}
 use Rattle.notation.specs.Building.{Build, Action, acts}
 use Rattle.rules.proofs.Lists.{both-right}
 use Rattle.rules.proofs.Within.{false-not-true}
+use Rattle.rules.specs.Types.{Types}
 use Rattle.parse_table.specs.Codes.{actionOf, actionsIn}
 use Rattle.parse_table.proofs.Answers.{first-action, no-action}
 use Rattle.tree_builder.specs.declared.Building.{Building}
 use Rattle.tree_builder.specs.declared.Step.{Step}
 use Rattle.tree_builder.specs.declared.Step.the-variants.{Did, No}
-use Rattle.tree_builder.specs.Shows.{Answers, Does, IsWord}
+use Rattle.tree_builder.specs.Shows.{Answers, DoesAt, IsWord}
 use Rattle.tree_builder.proofs.Ready.{ready}
 use Rattle.converter.specs.declared.actions.Names.{Names}
-use Rattle.converter.specs.Doing.{Suits, SuitsAll, Able, filled, AllAnswered, isInstead, noInstead, WordRead, onlyConstant, noAction, WordsRead, DoesAll, Stands}
+use Rattle.converter.specs.Doing.{Suits, SuitsAll, Able, filled, AllAnswered, isInstead, noInstead, WordRead, onlyConstant, noAction, WordsRead, DoesAllAt, StandsAt}
 
 -- from a lower fill
 pub filled-more : (ds : List Action) (a b : ℕ) → a ≤ b → filled a ds ≤ filled b ds
@@ -85,41 +86,41 @@ module _ (t : Token) (s : Building) where
 
 -- ---- What is done
 
-module _ (t : Token) (ns : Names) (s : Building) (m out : List ℕ) where
+module _ (types : Types) (t : Token) (ns : Names) (s : Building) (m out : List ℕ) where
   -- no action is left
-  pub none-done : (n : ℕ) → n ≡ 0 → DoesAll t ns (actionsIn n) s m out (Did s) m out
-  unfolding DoesAll AllAnswered acts
-  none-done n e = subst (λ (ds : List Action). DoesAll t ns ds s m out (Did s) m out) (sym (ap actionsIn e ∙ no-action)) (λ table f x su sh. record { made = f; is = refl; shows = sh; grown = omega arith })
+  pub none-done : (n : ℕ) → n ≡ 0 → DoesAllAt types t ns (actionsIn n) s m out (Did s) m out
+  unfolding DoesAllAt AllAnswered acts
+  none-done n e = subst (λ (ds : List Action). DoesAllAt types t ns ds s m out (Did s) m out) (sym (ap actionsIn e ∙ no-action)) (λ table f x su sh. record { made = f; is = refl; shows = sh; grown = omega arith })
 
   module _ (a : Action) (ds : List Action) where
     -- nothing comes of the first one
-    stopped : (m′ out′ : List ℕ) → Does (Suits t a ns) a s m out No m′ out′ → DoesAll t ns (a ∷ ds) s m out No m′ out′
-    unfolding Does Answers DoesAll SuitsAll AllAnswered acts
+    stopped : (m′ out′ : List ℕ) → DoesAt types (Suits types t a ns) a s m out No m′ out′ → DoesAllAt types t ns (a ∷ ds) s m out No m′ out′
+    unfolding DoesAt Answers DoesAllAt SuitsAll AllAnswered acts
     stopped m′ out′ does table f x su sh = rw (acts, does table f x (su .0) sh)
 
     -- the first one is done, and the others behind it
-    both-done : (next : Building) (m₁ out₁ : List ℕ) (r : Step) (m₂ out₂ : List ℕ) → Does (Suits t a ns) a s m out (Did next) m₁ out₁ → DoesAll t ns ds next m₁ out₁ r m₂ out₂ → DoesAll t ns (a ∷ ds) s m out r m₂ out₂
-    unfolding Does Answers DoesAll SuitsAll acts
+    both-done : (next : Building) (m₁ out₁ : List ℕ) (r : Step) (m₂ out₂ : List ℕ) → DoesAt types (Suits types t a ns) a s m out (Did next) m₁ out₁ → DoesAllAt types t ns ds next m₁ out₁ r m₂ out₂ → DoesAllAt types t ns (a ∷ ds) s m out r m₂ out₂
+    unfolding DoesAt Answers DoesAllAt SuitsAll acts
     both-done next m₁ out₁ r m₂ out₂ does others table f x su sh =
         let w = does table f x (su .0) sh in
-        rw (acts, w .is) (answered-more table (filled (next .fill) ds) (filled (s .fill + 12) ds) (filled-more ds (next .fill) (s .fill + 12) (w .grown)) r m₂ out₂ (acts ds x (w .made)) (others table (w .made) x (su .1) (w .shows)))
+        rw (acts, w .is) (answered-more table (filled (next .fill) ds) (filled (s .fill + 12) ds) (filled-more ds (next .fill) (s .fill + 12) (w .grown)) r m₂ out₂ (acts types ds x (w .made)) (others table (w .made) x (su .1) (w .shows)))
 
   module _ (n : ℕ) (some-left : n ≡ 0 → ⊥) (small : n < 2 ^ 32) where
     -- what the first action answers
     abbrev pub FirstDoes : Step → (m₁ out₁ : List ℕ) → Type 0
-    FirstDoes a m₁ out₁ = Does (Suits t (actionOf (n % 256)) ns) (actionOf (n % 256)) s m out a m₁ out₁
+    FirstDoes a m₁ out₁ = DoesAt types (Suits types t (actionOf (n % 256)) ns) (actionOf (n % 256)) s m out a m₁ out₁
 
-    pub first-stopped : (a : Step) (m₁ out₁ : List ℕ) → a ≡ No → FirstDoes a m₁ out₁ → DoesAll t ns (actionsIn n) s m out No m₁ out₁
+    pub first-stopped : (a : Step) (m₁ out₁ : List ℕ) → a ≡ No → FirstDoes a m₁ out₁ → DoesAllAt types t ns (actionsIn n) s m out No m₁ out₁
     first-stopped a m₁ out₁ e does =
         rw (first-action n small some-left) (stopped (actionOf (n % 256)) (actionsIn (n / 256)) m₁ out₁ (subst (λ (b : Step). FirstDoes b m₁ out₁) e does))
 
-    pub then-others : (a : Step) (next : Building) (m₁ out₁ : List ℕ) (r : Step) (m₂ out₂ : List ℕ) → a ≡ Did next → FirstDoes a m₁ out₁ → DoesAll t ns (actionsIn (n / 256)) next m₁ out₁ r m₂ out₂ → DoesAll t ns (actionsIn n) s m out r m₂ out₂
+    pub then-others : (a : Step) (next : Building) (m₁ out₁ : List ℕ) (r : Step) (m₂ out₂ : List ℕ) → a ≡ Did next → FirstDoes a m₁ out₁ → DoesAllAt types t ns (actionsIn (n / 256)) next m₁ out₁ r m₂ out₂ → DoesAllAt types t ns (actionsIn n) s m out r m₂ out₂
     then-others a next m₁ out₁ r m₂ out₂ e does others =
         rw (first-action n small some-left)
         (both-done (actionOf (n % 256)) (actionsIn (n / 256)) next m₁ out₁ r m₂ out₂ (subst (λ (b : Step). FirstDoes b m₁ out₁) e does) others)
 
-    module _ (h : Stands m out s n t ns) where
-      suits-both : SuitsAll t ns (actionOf (n % 256) ∷ actionsIn (n / 256)) (h .table) (h .token)
+    module _ (h : StandsAt types m out s n t ns) where
+      suits-both : SuitsAll types t ns (actionOf (n % 256) ∷ actionsIn (n / 256)) (h .table) (h .token)
       suits-both = rw (first-action n small some-left) at (h .suits)
 
       low-both : filled (s .fill) (actionOf (n % 256) ∷ actionsIn (n / 256)) ≤ 1048576
@@ -136,8 +137,8 @@ module _ (t : Token) (ns : Names) (s : Building) (m out : List ℕ) where
           }
 
       -- and then the others
-      pub stands-next : (a : Step) (next : Building) (m₁ out₁ : List ℕ) → a ≡ Did next → FirstDoes a m₁ out₁ → length m₁ ≡ length m → Stands m₁ out₁ next (n / 256) t ns
-      unfolding Does Answers SuitsAll
+      pub stands-next : (a : Step) (next : Building) (m₁ out₁ : List ℕ) → a ≡ Did next → FirstDoes a m₁ out₁ → length m₁ ≡ length m → StandsAt types m₁ out₁ next (n / 256) t ns
+      unfolding DoesAt Answers SuitsAll
       stands-next a next m₁ out₁ e given size =
           let does : FirstDoes (Did next) m₁ out₁ = subst (λ (b : Step). FirstDoes b m₁ out₁) e given in
           let w = does (h .table) (h .tree) (h .token) (suits-both .0) (h .shows) in
@@ -160,10 +161,10 @@ module _ (t : Token) (ns : Names) (s : Building) (m out : List ℕ) where
 
 module _ (t : Token) (s : Building) (n : ℕ) (some-left : n ≡ 0 → ⊥) (small : n < 2 ^ 32) (only : n / 256 ≡ 0) where
   -- what it answers is the answer
-  pub only-done : (ns : Names) (m out : List ℕ) (a : Step) (m₁ out₁ : List ℕ) → FirstDoes t ns s m out n some-left small a m₁ out₁ → DoesAll t ns (actionsIn n) s m out a m₁ out₁
-  only-done ns m out No m₁ out₁ does = first-stopped t ns s m out n some-left small No m₁ out₁ refl does
-  only-done ns m out (Did next) m₁ out₁ does =
-      then-others t ns s m out n some-left small (Did next) next m₁ out₁ (Did next) m₁ out₁ refl does (none-done t ns next m₁ out₁ (n / 256) only)
+  pub only-done : (types : Types) (ns : Names) (m out : List ℕ) (a : Step) (m₁ out₁ : List ℕ) → FirstDoes types t ns s m out n some-left small a m₁ out₁ → DoesAllAt types t ns (actionsIn n) s m out a m₁ out₁
+  only-done types ns m out No m₁ out₁ does = first-stopped types t ns s m out n some-left small No m₁ out₁ refl does
+  only-done types ns m out (Did next) m₁ out₁ does =
+      then-others types t ns s m out n some-left small (Did next) next m₁ out₁ (Did next) m₁ out₁ refl does (none-done types t ns next m₁ out₁ (n / 256) only)
 
   pub only-reads : (a : Step) → WordRead (actionOf (n % 256)) t a → WordsRead (actionsIn n) t s a
   only-reads No read = stopped-reads t s n some-left small

@@ -8,6 +8,7 @@ use native.Mathlib.Omega.{arith}
 use borrow.Author.Tests.{ne-eqb, leb-true}
 use Prim.Native.Nat.{ℕ}
 use Rattle.rules.proofs.Lists.{both-left, both-right}
+use Rattle.rules.specs.Types.{Types}
 use Rattle.notation.specs.Tokens.{Lexeme, kind, tokenOf, endOfText, malformed}
 use Rattle.notation.specs.Building.{Build, acts}
 use Rattle.notation.specs.Grammar.{Entry, arm, attribute, parameter, Symbol, sign, aName, expression, operators, readOrWord, closeBracket, one, maybe, further, statements, block, otherwise, branches, items, classRest, parameters, defaultValue, aConstant, inherits, parent, devices, device, moreDevices, ends, Row, row, binds, rowOf, leftOut, manifest, stuck, to, toward, step}
@@ -70,31 +71,31 @@ not-taken ends p = (refl, refl)
 pub not-stuck : {A : Type 0} {k : List Symbol} {g : Build} → stuck ≡ to k g → A
 not-stuck e = let z : _≡_ {A = ℕ} 0 1 = cc in absurd (omega arith)
 
-module _ (x : Lexeme) where
+module _ (types : Types) (x : Lexeme) where
   -- the symbol for the end takes nothing else, and may not be left out
-  end-alone : (k : List Symbol) (f : Build) → (kind (tokenOf x) ≡ endOfText → ⊥) → step (sign endOfText ∷ k) x f ≡ stuck
+  end-alone : (k : List Symbol) (f : Build) → (kind (tokenOf x) ≡ endOfText → ⊥) → step types (sign endOfText ∷ k) x f ≡ stuck
   unfolding rowOf leftBehind leftOut
-  end-alone k f other = step-left (sign endOfText) k x f (rw (ne-eqb (kind (tokenOf x)) endOfText other))
+  end-alone k f other = step-left types (sign endOfText) k x f (rw (ne-eqb (kind (tokenOf x)) endOfText other))
 
   -- a malformed piece
-  pub fault-stuck : {k : List Symbol} → ToEnd k → (f : Build) → kind (tokenOf x) ≡ malformed → step k x f ≡ stuck
+  pub fault-stuck : {k : List Symbol} → ToEnd k → (f : Build) → kind (tokenOf x) ≡ malformed → step types k x f ≡ stuck
   fault-stuck lowest f e = end-alone [] f (λ i. omega arith)
-  fault-stuck (on {s} {k} p below) f e = step-left s k x f (ap (rowOf s) e ∙ not-taken s p .1) ∙ go (leftBehind s x f) (λ g. fault-stuck below g e)
+  fault-stuck (on {s} {k} p below) f e = step-left types s k x f (ap (rowOf s) e ∙ not-taken s p .1) ∙ go (leftBehind types s x f) (λ g. fault-stuck below g e)
     where
-      go : (o : Option Build) → ((g : Build) → step k x g ≡ stuck) → onward k x o ≡ stuck
+      go : (o : Option Build) → ((g : Build) → step types k x g ≡ stuck) → onward types k x o ≡ stuck
       go none later = refl
       go (some g) later = later g
 
   module _ (k′ : List Symbol) (g : Build) where
     -- the end of the text
-    pub end-last : {k : List Symbol} → ToEnd k → (f : Build) → kind (tokenOf x) ≡ endOfText → step k x f ≡ to k′ g → k′ ≡ []
+    pub end-last : {k : List Symbol} → ToEnd k → (f : Build) → kind (tokenOf x) ≡ endOfText → step types k x f ≡ to k′ g → k′ ≡ []
     unfolding rowOf acts
     end-last lowest f e i =
-        let taken : step (sign endOfText ∷ []) x f ≡ to [] f = step-taken (sign endOfText) [] x f [] [] (rw e) in
+        let taken : step types (sign endOfText ∷ []) x f ≡ to [] f = step-taken types (sign endOfText) [] x f [] [] (rw e) in
         cc
-    end-last (on {s} {k} p below) f e i = go (leftBehind s x f) (λ h. end-last below h e) (sym (step-left s k x f (ap (rowOf s) e ∙ not-taken s p .0)) ∙ i)
+    end-last (on {s} {k} p below) f e i = go (leftBehind types s x f) (λ h. end-last below h e) (sym (step-left types s k x f (ap (rowOf s) e ∙ not-taken s p .0)) ∙ i)
       where
-        go : (o : Option Build) → ((h : Build) → step k x h ≡ to k′ g → k′ ≡ []) → onward k x o ≡ to k′ g → k′ ≡ []
+        go : (o : Option Build) → ((h : Build) → step types k x h ≡ to k′ g → k′ ≡ []) → onward types k x o ≡ to k′ g → k′ ≡ []
         go none later j = not-stuck j
         go (some h) later j = later h j
 
@@ -103,11 +104,11 @@ module _ (x : Lexeme) where
     all-on (s ∷ ss) k p h = on (both-left (isPlain s) (allPlain ss) p) (all-on ss k (both-right (isPlain s) (allPlain ss) p) h)
 
     -- any other token
-    pub step-to-end : {k : List Symbol} → ToEnd k → (f : Build) → (kind (tokenOf x) ≡ endOfText → ⊥) → step k x f ≡ to k′ g → ToEnd k′
+    pub step-to-end : {k : List Symbol} → ToEnd k → (f : Build) → (kind (tokenOf x) ≡ endOfText → ⊥) → step types k x f ≡ to k′ g → ToEnd k′
     step-to-end lowest f other i = not-stuck (sym (end-alone [] f other) ∙ i)
     step-to-end (on {s} {k} p below) f other i = by-row (λ h. step-to-end below h other) (rowOf s (kind (tokenOf x))) refl
       where
-        left : ((h : Build) → step k x h ≡ to k′ g → ToEnd k′) → (o : Option Build) → onward k x o ≡ to k′ g → ToEnd k′
+        left : ((h : Build) → step types k x h ≡ to k′ g → ToEnd k′) → (o : Option Build) → onward types k x o ≡ to k′ g → ToEnd k′
         left later none j = not-stuck j
         left later (some h) j = later h j
 
@@ -115,6 +116,6 @@ module _ (x : Lexeme) where
         taken ss q none j = not-stuck j
         taken ss q (some h) j = let same : ss ++ k ≡ k′ = cc in subst ToEnd same (all-on ss k q below)
 
-        by-row : ((h : Build) → step k x h ≡ to k′ g → ToEnd k′) → (o : Option Row) → rowOf s (kind (tokenOf x)) ≡ o → ToEnd k′
-        by-row later none e = left later (leftBehind s x f) (sym (step-left s k x f e) ∙ i)
-        by-row later (some (row ds ss)) e = taken ss (row-plain s (kind (tokenOf x)) ds ss e) (acts ds x f) (sym (step-taken s k x f ds ss e) ∙ i)
+        by-row : ((h : Build) → step types k x h ≡ to k′ g → ToEnd k′) → (o : Option Row) → rowOf s (kind (tokenOf x)) ≡ o → ToEnd k′
+        by-row later none e = left later (leftBehind types s x f) (sym (step-left types s k x f e) ∙ i)
+        by-row later (some (row ds ss)) e = taken ss (row-plain s (kind (tokenOf x)) ds ss e) (acts types ds x f) (sym (step-taken types s k x f ds ss e) ∙ i)

@@ -12,6 +12,7 @@ use Prim.Native.Nat.{ℕ, zero, suc, _+_, _*_, _≤_}
 use Rattle.wire.specs.Numbers.{highBytes}
 use Rattle.rules.specs.Bytes.{pick}
 use Rattle.rules.specs.Fields.{none as noFields, wrap, write, writeAll}
+use Rattle.rules.specs.Types.{Types}
 use Rattle.notation.specs.Tokens.{word, number, text, variable, topVariable, classVariable, mark, Lexeme, lexeme, kind, tokenOf, placeOf, question, leftBrace, rightBrace}
 use Rattle.notation.specs.Building.{Piece, byte, name, Node, node, Nodes, empty, _▸_, height, leaf, spelled, resourceTag, constantNode, variableNode, behindLabel, inFront, Frame, frame, Build, build, Action, begin, beginResource, around, instead, close, constant, read, named, parentFirst, void, enter, leave, added, addedFirst, begun, act, acts}
 use Rattle.notation.specs.Grammar.{Entry, arm, attribute, parameter, Symbol, sign, aName, expression, operators, readOrWord, closeBracket, one, maybe, further, statements, block, otherwise, branches, items, classRest, parameters, defaultValue, aConstant, inherits, parent, devices, device, moreDevices, ends, Row, row, operatorByte, operatorRow, operatorIn, binds, rowOf, leftOut, manifest, to, step}
@@ -66,7 +67,7 @@ debt-first = refl
 
 -- ---- The bytes of a tree in the making
 
-module _ (table : List (List ℕ)) where
+module _ (types : Types) (table : List (List ℕ)) where
   abbrev pub size : Build → ℕ
   size (build b (frame p t h ks) fs) = length (openBytes table t h ks fs)
 
@@ -180,10 +181,10 @@ module _ (table : List (List ℕ)) where
   begins p t (build b (frame q u h ks) fs) g e = tested (leb (length fs + 1) 32) _ g _ (omega (arith, inner-size t [] empty q u h ks fs, no-head, no-parts)) e
 
   module _ (x : Lexeme) where
-    act-size : (a : Action) (f g : Build) → act a x f ≡ some g → size g ≤ size f + cost a
+    act-size : (a : Action) (f g : Build) → act types a x f ≡ some g → size g ≤ size f + cost a
     unfolding act addedFirst
     act-size (begin t) f g e = begins (placeOf x) t f g e
-    act-size beginResource f g e = begins (placeOf x) (resourceTag (spelled (tokenOf x))) f g e
+    act-size beginResource f g e = begins (placeOf x) (resourceTag types (spelled (tokenOf x))) f g e
     act-size (around t h) (build b (frame q u i empty) fs) g e = none-not-some e
     act-size (around t h) (build b (frame q u i (ks ▸ k)) fs) g e =
         tested (leb (suc (length fs) + height k) 32) _ g _ (omega (arith, inner-size t h (empty ▸ k) q u i ks fs, more-parts empty k, no-parts, head-most h, more-size u i ks k fs)) e
@@ -206,12 +207,12 @@ module _ (table : List (List ℕ)) where
     act-size leave (build zero f fs) g e = none-not-some e
     act-size leave (build (suc b) (frame q u i ks) fs) g e = plainly _ g _ (omega arith) e
 
-    acts-size : (ds : List Action) (f g : Build) → acts ds x f ≡ some g → size g ≤ size f + costs ds
+    acts-size : (ds : List Action) (f g : Build) → acts types ds x f ≡ some g → size g ≤ size f + costs ds
     unfolding acts
     acts-size [] f g e = plainly f g _ (omega arith) e
-    acts-size (a ∷ ds) f g e = go (act a x f) refl (λ h i. acts-size ds h g i) e
+    acts-size (a ∷ ds) f g e = go (act types a x f) refl (λ h i. acts-size ds h g i) e
       where
-        go : (o : Option Build) → act a x f ≡ o → ((h : Build) → acts ds x h ≡ some g → size g ≤ size h + costs ds) → _≡_ {A = Option Build} (elim o as (λ q. Option Build) [ none ↦ none | some h ↦ acts ds x h ]) (some g) → size g ≤ size f + costs (a ∷ ds)
+        go : (o : Option Build) → act types a x f ≡ o → ((h : Build) → acts types ds x h ≡ some g → size g ≤ size h + costs ds) → _≡_ {A = Option Build} (elim o as (λ q. Option Build) [ none ↦ none | some h ↦ acts types ds x h ]) (some g) → size g ≤ size f + costs (a ∷ ds)
         go none h others e = none-not-some e
         go (some i) h others e = omega (arith, act-size a f i h, others i e)
 
@@ -268,30 +269,30 @@ row-small ends q r h = none-not-some h
 
 -- ---- A step
 
-module _ (table : List (List ℕ)) where
+module _ (types : Types) (table : List (List ℕ)) where
   -- no more than so many bytes, with those that are owed
   abbrev UpTo : ℕ → List Symbol → Build → Type 0
-  UpTo n k f = size table f + debt k ≤ n
+  UpTo n k f = size types table f + debt k ≤ n
 
   module _ (n : ℕ) (x : Lexeme) (s : Symbol) (k : List Symbol) (f g : Build) (ds : List Action) where
-    out-up-to : leftOut s ≡ some ds → acts ds x f ≡ some g → UpTo n (s ∷ k) f → UpTo n k g
-    out-up-to l i h = omega (arith, h, ap owed l, acts-size table x ds f g i)
+    out-up-to : leftOut s ≡ some ds → acts types ds x f ≡ some g → UpTo n (s ∷ k) f → UpTo n k g
+    out-up-to l i h = omega (arith, h, ap owed l, acts-size types table x ds f g i)
 
-    row-up-to : (ss : List Symbol) → rowOf s (kind (tokenOf x)) ≡ some (row ds ss) → acts ds x f ≡ some g → UpTo n (s ∷ k) f → UpTo (n + 15) (ss ++ k) g
-    row-up-to ss r i h = omega (arith, h, debt-append ss k, leb-true (costs ds + debt ss) 15 (row-small s (kind (tokenOf x)) (row ds ss) r), acts-size table x ds f g i)
+    row-up-to : (ss : List Symbol) → rowOf s (kind (tokenOf x)) ≡ some (row ds ss) → acts types ds x f ≡ some g → UpTo n (s ∷ k) f → UpTo (n + 15) (ss ++ k) g
+    row-up-to ss r i h = omega (arith, h, debt-append ss k, leb-true (costs ds + debt ss) 15 (row-small s (kind (tokenOf x)) (row ds ss) r), acts-size types table x ds f g i)
 
-  pub step-size : (k : List Symbol) (x : Lexeme) (f : Build) (k′ : List Symbol) (g : Build) → step k x f ≡ to k′ g → size table g + debt k′ ≤ size table f + debt k + 15
+  pub step-size : (k : List Symbol) (x : Lexeme) (f : Build) (k′ : List Symbol) (g : Build) → step types k x f ≡ to k′ g → size types table g + debt k′ ≤ size types table f + debt k + 15
   step-size k x f k′ g e =
-      let n : ℕ = size table f + debt k in
-      step-through (UpTo n) (UpTo (n + 15)) x (λ s k f g ds l i h. out-up-to n x s k f g ds l i h) (λ s k f g ds ss r i h. row-up-to n x s k f g ds ss r i h) k f k′ g e (omega arith)
+      let n : ℕ = size types table f + debt k in
+      step-through types (UpTo n) (UpTo (n + 15)) x (λ s k f g ds l i h. out-up-to n x s k f g ds l i h) (λ s k f g ds ss r i h. row-up-to n x s k f g ds ss r i h) k f k′ g e (omega arith)
 
   -- a state that shows a tree is filled so far
-  pub filled-so : (s : Building) (m out : List ℕ) (f : Build) → Shows table s m out f → s .fill ≡ size table f
+  pub filled-so : (s : Building) (m out : List ℕ) (f : Build) → Shows table s m out f → s .fill ≡ size types table f
   unfolding Shows
   filled-so s m out (build b (frame p t h ks) fs) w = w .fill
 
   -- so a step fills by 15 bytes at most
-  pub step-fill : (s s′ : Building) (m out m′ out′ : List ℕ) (k : List Symbol) (x : Lexeme) (f : Build) (k′ : List Symbol) (g : Build) → Shows table s m out f → Shows table s′ m′ out′ g → step k x f ≡ to k′ g → s′ .fill + debt k′ ≤ s .fill + debt k + 15
+  pub step-fill : (s s′ : Building) (m out m′ out′ : List ℕ) (k : List Symbol) (x : Lexeme) (f : Build) (k′ : List Symbol) (g : Build) → Shows table s m out f → Shows table s′ m′ out′ g → step types k x f ≡ to k′ g → s′ .fill + debt k′ ≤ s .fill + debt k + 15
   step-fill s s′ m out m′ out′ k x f k′ g w w′ e = omega (arith, filled-so s m out f w, filled-so s′ m′ out′ g w′, step-size k x f k′ g e)
 
 -- with a token for each byte of a text and more, there is room for every action of a step

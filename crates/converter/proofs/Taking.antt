@@ -11,6 +11,7 @@ use Prim.Native.Nat.{ℕ, zero, suc, _+_, _-_, _*_, _/_, _%_, _^_, _≤_, _<_}
 use Rattle.rules.specs.Bytes.{byte, pick}
 use Rattle.rules.proofs.Lists.{both-left, both-right}
 use Rattle.rules.proofs.Within.{false-not-true}
+use Rattle.rules.specs.Types.{Types}
 use Rattle.lexer.specs.declared.Token.{Token}
 use Rattle.notation.specs.Tokens.{Lexeme, kind, tokenOf, aWord}
 use Rattle.notation.specs.Building.{Build, Action, instead, acts}
@@ -25,8 +26,8 @@ use Rattle.parse_table.specs.declared.rows.Row.{Row}
 use Rattle.parse_table.proofs.Answers.{row-taken, first-action, no-action, on-top, push-room}
 use Rattle.converter.specs.declared.actions.Names.{Names}
 use Rattle.converter.specs.declared.steps.Taken.the-variants.{To, Stuck}
-use Rattle.converter.specs.Doing.{filled, AllAnswered, isInstead, noInstead, onlyConstant, WordsRead, DoesAll, Stands}
-use Rattle.converter.specs.Stepping.{isReadOrWord, noneBehindWord, WordOnTop, WordFor, TakenSo, Steppable, Steps, TakenRow}
+use Rattle.converter.specs.Doing.{filled, AllAnswered, isInstead, noInstead, onlyConstant, WordsRead, DoesAllAt, StandsAt}
+use Rattle.converter.specs.Stepping.{isReadOrWord, noneBehindWord, WordOnTop, WordFor, TakenSo, SteppableAt, StepsAt, TakenRow}
 use Rattle.converter.proofs.Sequence.{nine-instead}
 use Rattle.converter.proofs.RowFacts.{fits, allFit, insteadFirst, wordFirst, rowFits, row-fits, suits-all}
 
@@ -77,9 +78,9 @@ instead-kind k n small h nine =
     go false e i = false-not-true i
 
 -- a step by a row
-pub step-taken : (y : Symbol) (k : List Symbol) (x : Lexeme) (f : Build) (ds : List Action) (ss : List Symbol) → rowOf y (kind (tokenOf x)) ≡ some (row ds ss) → step (y ∷ k) x f ≡ toward (ss ++ k) (acts ds x f)
+pub step-taken : (types : Types) (y : Symbol) (k : List Symbol) (x : Lexeme) (f : Build) (ds : List Action) (ss : List Symbol) → rowOf y (kind (tokenOf x)) ≡ some (row ds ss) → step types (y ∷ k) x f ≡ toward (ss ++ k) (acts types ds x f)
 unfolding step acts
-step-taken y k x f ds ss e = rw (step, e)
+step-taken types y k x f ds ss e = rw (step, e)
 
 -- no symbol behind a word among two lists
 none-both : (ss k : List Symbol) → noneBehindWord ss ≡ true → noneBehindWord k ≡ true → noneBehindWord (ss ++ k) ≡ true
@@ -104,7 +105,7 @@ words-after q ds (y ∷ ss) k s w n h =
       none-both ss k others n,
     )
 
-module _ (st m out : List ℕ) (s : Building) (top : ℕ) (t : Token) (ns : Names) (w : Row) (q : TakenRow st top t w) where
+module _ (types : Types) (st m out : List ℕ) (s : Building) (top : ℕ) (t : Token) (ns : Names) (w : Row) (q : TakenRow st top t w) where
   abbrev topSymbol : Symbol
   topSymbol = symbolOf (byte st (top - 1))
 
@@ -130,7 +131,7 @@ module _ (st m out : List ℕ) (s : Building) (top : ℕ) (t : Token) (ns : Name
   fit₃ = wordFirst (t .kind) (actionsIn (w .actions)) (symbolsIn (w .symbols))
 
   -- the actions may be done
-  pub stands-row : w .actions < 2 ^ 32 → Steppable st m out s top t ns → Stands m out s (w .actions) t ns
+  pub stands-row : w .actions < 2 ^ 32 → SteppableAt types st m out s top t ns → StandsAt types m out s (w .actions) t ns
   unfolding WordFor
   stands-row small h =
       let z = h .standing in
@@ -141,7 +142,7 @@ module _ (st m out : List ℕ) (s : Building) (top : ℕ) (t : Token) (ns : Name
         tree = h .tree;
         token = h .token;
         shows = z .shows;
-        suits = suits-all t ns (h .table) (h .token) (z .carried) (actionsIn (w .actions)) (both-left fit₁ (fit₂ && fit₃) fit);
+        suits = suits-all types t ns (h .table) (h .token) (z .carried) (actionsIn (w .actions)) (both-left fit₁ (fit₂ && fit₃) fit);
         slots = h .slots;
         low = omega (arith, z .low, filled-four (s .fill) (w .actions));
         place = h .place;
@@ -150,27 +151,27 @@ module _ (st m out : List ℕ) (s : Building) (top : ℕ) (t : Token) (ns : Name
       }
 
   -- there is room for the symbols
-  pub row-room : Steppable st m out s top t ns → (0 < top) × (top + 7 ≤ length st)
+  pub row-room : SteppableAt types st m out s top t ns → (0 < top) × (top + 7 ≤ length st)
   row-room h = (q .some-top, push-room st top (h .tree) (h .standing .kept) (h .room))
 
   module _ (x : Lexeme) (f : Build) (same : kind (tokenOf x) ≡ t .kind) where
-    one-step : step (stackOf st top) x f ≡ toward (symbolsIn (w .symbols) ++ below) (acts (actionsIn (w .actions)) x f)
-    one-step = ap (λ (k : List Symbol). step k x f) stacked ∙ step-taken topSymbol below x f (actionsIn (w .actions)) (symbolsIn (w .symbols)) (ap (rowOf topSymbol) same ∙ found)
+    one-step : step types (stackOf st top) x f ≡ toward (symbolsIn (w .symbols) ++ below) (acts types (actionsIn (w .actions)) x f)
+    one-step = ap (λ (k : List Symbol). step types k x f) stacked ∙ step-taken types topSymbol below x f (actionsIn (w .actions)) (symbolsIn (w .symbols)) (ap (rowOf topSymbol) same ∙ found)
 
   -- nothing comes of the actions
-  pub row-stuck : (a : Step) (st′ m′ out′ : List ℕ) → a ≡ No → DoesAll t ns (actionsIn (w .actions)) s m out a m′ out′ → Steps t ns s top st m out Stuck st′ m′ out′
-  unfolding Steps TakenSo DoesAll AllAnswered
+  pub row-stuck : (a : Step) (st′ m′ out′ : List ℕ) → a ≡ No → DoesAllAt types t ns (actionsIn (w .actions)) s m out a m′ out′ → StepsAt types t ns s top st m out Stuck st′ m′ out′
+  unfolding StepsAt TakenSo DoesAllAt AllAnswered
   row-stuck a st′ m′ out′ e given table f x z =
-      let does : DoesAll t ns (actionsIn (w .actions)) s m out No m′ out′ = subst (λ (b : Step). DoesAll t ns (actionsIn (w .actions)) s m out b m′ out′) e given in
-      let nothing = does table f x (suits-all t ns table x (z .carried) (actionsIn (w .actions)) (both-left fit₁ (fit₂ && fit₃) fit)) (z .shows) in
+      let does : DoesAllAt types t ns (actionsIn (w .actions)) s m out No m′ out′ = subst (λ (b : Step). DoesAllAt types t ns (actionsIn (w .actions)) s m out b m′ out′) e given in
+      let nothing = does table f x (suits-all types t ns table x (z .carried) (actionsIn (w .actions)) (both-left fit₁ (fit₂ && fit₃) fit)) (z .shows) in
       one-step x f (z .carried .same-kind) ∙ ap (toward (symbolsIn (w .symbols) ++ below)) nothing
 
   -- they are done, and the symbols are put
-  pub row-onward : (a : Step) (next : Building) (above : ℕ) (st′ m′ out′ : List ℕ) → a ≡ Did next → DoesAll t ns (actionsIn (w .actions)) s m out a m′ out′ → WordsRead (actionsIn (w .actions)) t s a → Pushed st st′ top (w .symbols) above → Steps t ns s top st m out (To (record { top = above; building = next })) st′ m′ out′
-  unfolding Steps TakenSo DoesAll AllAnswered WordFor IsWord
+  pub row-onward : (a : Step) (next : Building) (above : ℕ) (st′ m′ out′ : List ℕ) → a ≡ Did next → DoesAllAt types t ns (actionsIn (w .actions)) s m out a m′ out′ → WordsRead (actionsIn (w .actions)) t s a → Pushed st st′ top (w .symbols) above → StepsAt types t ns s top st m out (To (record { top = above; building = next })) st′ m′ out′
+  unfolding StepsAt TakenSo DoesAllAt AllAnswered WordFor IsWord
   row-onward a next above st′ m′ out′ e given reads pushed table f x z =
-      let does : DoesAll t ns (actionsIn (w .actions)) s m out (Did next) m′ out′ = subst (λ (b : Step). DoesAll t ns (actionsIn (w .actions)) s m out b m′ out′) e given in
-      let made = does table f x (suits-all t ns table x (z .carried) (actionsIn (w .actions)) (both-left fit₁ (fit₂ && fit₃) fit)) (z .shows) in
+      let does : DoesAllAt types t ns (actionsIn (w .actions)) s m out (Did next) m′ out′ = subst (λ (b : Step). DoesAllAt types t ns (actionsIn (w .actions)) s m out b m′ out′) e given in
+      let made = does table f x (suits-all types t ns table x (z .carried) (actionsIn (w .actions)) (both-left fit₁ (fit₂ && fit₃) fit)) (z .shows) in
       let words : WordFor (t .kind) (topSymbol ∷ below) s = subst (λ (k : List Symbol). WordFor (t .kind) k s) stacked (z .words) in
       let word : onlyConstant (actionsIn (w .actions)) ≡ true → t .kind ≡ aWord → next .word ≡ true = λ one k. subst IsWord e (reads .word one k) in
       let after = words-after (t .kind) (actionsIn (w .actions)) (symbolsIn (w .symbols)) below next (both-right fit₂ fit₃ (both-right fit₁ (fit₂ && fit₃) fit)) (words .1) word in

@@ -14,6 +14,7 @@ use Rattle.rules.specs.EditRule.{IsBytes}
 use Rattle.rules.specs.Fields.{write}
 use Rattle.rules.specs.Outcome.{refused, done}
 use Rattle.rules.specs.Ranges.{Each, noneLeft, also}
+use Rattle.rules.specs.Types.{Types}
 use Rattle.notation.specs.Tokens.{Lexeme, kind, tokenOf, placeOf}
 use Rattle.notation.specs.Lexing.{tokens}
 use Rattle.notation.specs.Building.{Nodes, frame, Build, build, start}
@@ -54,34 +55,34 @@ some-tokens : {A : Type 0} {x : Lexeme} {xs : List Lexeme} → x ∷ xs ≡ [] �
 some-tokens e = let z : _≡_ {A = ℕ} 0 1 = cc in absurd (omega arith)
 
 -- a token in a run
-run-stuck : (x : Lexeme) (xs : List Lexeme) (k : List Symbol) (f : Build) → step k x f ≡ stuck → run (x ∷ xs) k f ≡ fault (placeOf x)
+run-stuck : (types : Types) (x : Lexeme) (xs : List Lexeme) (k : List Symbol) (f : Build) → step types k x f ≡ stuck → run types (x ∷ xs) k f ≡ fault (placeOf x)
 unfolding run
-run-stuck x xs k f e = rw (run, e)
+run-stuck types x xs k f e = rw (run, e)
 
-run-on : (x : Lexeme) (xs : List Lexeme) (k : List Symbol) (f : Build) (k′ : List Symbol) (g : Build) → step k x f ≡ to k′ g → run (x ∷ xs) k f ≡ run xs k′ g
+run-on : (types : Types) (x : Lexeme) (xs : List Lexeme) (k : List Symbol) (f : Build) (k′ : List Symbol) (g : Build) → step types k x f ≡ to k′ g → run types (x ∷ xs) k f ≡ run types xs k′ g
 unfolding run
-run-on x xs k f k′ g e = rw (run, e)
+run-on types x xs k f k′ g e = rw (run, e)
 
 -- the end is reached
-ended : (xs : List Lexeme) (k : List Symbol) (f : Build) → xs ≡ [] → k ≡ [] → run xs k f ≡ built f
+ended : (types : Types) (xs : List Lexeme) (k : List Symbol) (f : Build) → xs ≡ [] → k ≡ [] → run types xs k f ≡ built f
 unfolding run
-ended xs k f e i = rw (e, i)
+ended types xs k f e i = rw (e, i)
 
-fault-behind : (n p : ℕ) {xs : List Lexeme} → Ending xs → Each (λ x. n ≤ placeOf x) xs → (k : List Symbol) → ToEnd k → (f : Build) → run xs k f ≡ fault p → n ≤ p
-fault-behind n p (atFault {x} {xs} i) (also low lows) k to-end f e =
-    let same = fault-same (sym (run-stuck x xs k f (fault-stuck x to-end f i)) ∙ e) in omega arith
-fault-behind n p (atEnd {x} i) (also low lows) k to-end f e = go (step k x f) refl
+fault-behind : (types : Types) (n p : ℕ) {xs : List Lexeme} → Ending xs → Each (λ x. n ≤ placeOf x) xs → (k : List Symbol) → ToEnd k → (f : Build) → run types xs k f ≡ fault p → n ≤ p
+fault-behind types n p (atFault {x} {xs} i) (also low lows) k to-end f e =
+    let same = fault-same (sym (run-stuck types x xs k f (fault-stuck types x to-end f i)) ∙ e) in omega arith
+fault-behind types n p (atEnd {x} i) (also low lows) k to-end f e = go (step types k x f) refl
   where
-    go : (o : Stepped) → step k x f ≡ o → n ≤ p
-    go stuck j = let same = fault-same (sym (run-stuck x [] k f j) ∙ e) in omega arith
+    go : (o : Stepped) → step types k x f ≡ o → n ≤ p
+    go stuck j = let same = fault-same (sym (run-stuck types x [] k f j) ∙ e) in omega arith
     go (to k′ g) j =
-        let none-left : k′ ≡ [] = end-last x k′ g to-end f i j in
-        built-not-fault (sym (ended [] k′ g refl none-left) ∙ sym (run-on x [] k f k′ g j) ∙ e)
-fault-behind n p (before {x} {xs} i later) (also low lows) k to-end f e = go (λ k′ g t j. fault-behind n p later lows k′ t g j) (step k x f) refl
+        let none-left : k′ ≡ [] = end-last types x k′ g to-end f i j in
+        built-not-fault (sym (ended types [] k′ g refl none-left) ∙ sym (run-on types x [] k f k′ g j) ∙ e)
+fault-behind types n p (before {x} {xs} i later) (also low lows) k to-end f e = go (λ k′ g t j. fault-behind types n p later lows k′ t g j) (step types k x f) refl
   where
-    go : ((k′ : List Symbol) (g : Build) → ToEnd k′ → run xs k′ g ≡ fault p → n ≤ p) → (o : Stepped) → step k x f ≡ o → n ≤ p
-    go on stuck j = let same = fault-same (sym (run-stuck x xs k f j) ∙ e) in omega arith
-    go on (to k′ g) j = on k′ g (step-to-end x k′ g to-end f i j) (sym (run-on x xs k f k′ g j) ∙ e)
+    go : ((k′ : List Symbol) (g : Build) → ToEnd k′ → run types xs k′ g ≡ fault p → n ≤ p) → (o : Stepped) → step types k x f ≡ o → n ≤ p
+    go on stuck j = let same = fault-same (sym (run-stuck types x xs k f j) ∙ e) in omega arith
+    go on (to k′ g) j = on k′ g (step-to-end types x k′ g to-end f i j) (sym (run-on types x xs k f k′ g j) ∙ e)
 
 -- whether a token brings one string too many
 crowded-here : (x : Lexeme) (xs : List Lexeme) (S : List (List ℕ)) → 1024 < length (enteredAll (stringsOf (tokenOf x)) S) → crowdedAt (x ∷ xs) S ≡ some (placeOf x)
@@ -127,9 +128,9 @@ none-entered : (xs : List Lexeme) (S : List (List ℕ)) → xs ≡ [] → tableB
 unfolding tableBehind
 none-entered xs S e = rw e
 
-outcome-of : (t : List ℕ) (S : List (List ℕ)) (ks : Nodes) → reading (tokens t) ≡ built (build 0 (frame 0 0 [] ks) []) → crowdedAt (tokens t) S ≡ none → readText (reading (tokens t)) (crowdedAt (tokens t) S) ≡ done ks
+outcome-of : (types : Types) (t : List ℕ) (S : List (List ℕ)) (ks : Nodes) → reading types (tokens t) ≡ built (build 0 (frame 0 0 [] ks) []) → crowdedAt (tokens t) S ≡ none → readText (reading types (tokens t)) (crowdedAt (tokens t) S) ≡ done ks
 unfolding readText
-outcome-of t S ks e i = rw (e, i)
+outcome-of types t S ks e i = rw (e, i)
 
 pub no-tokens : {A : Type 0} {xs : List Lexeme} → Ending xs → xs ≡ [] → A
 no-tokens (atFault {x} {xs} i) e = some-tokens e
@@ -139,17 +140,17 @@ no-tokens (before {x} {xs} i later) e = some-tokens e
 -- ---- The loop
 
 -- behind some tokens: what comes of the others comes of the text
-pub record Going (t : List ℕ) (S₀ : List (List ℕ)) (out m st tb : List ℕ) (p : Pass) : Type 0 where
+pub record Going (types : Types) (t : List ℕ) (S₀ : List (List ℕ)) (out m st tb : List ℕ) (p : Pass) : Type 0 where
   pub ready : Passable t out m st tb p
   pub to-end : ToEnd (symbolsOf st p)
   pub filled : p .machine .building .fill + debt (symbolsOf st p) ≤ 15 * p .at
-  pub same-run : reading (tokens t) ≡ run (tokensLeft t p) (symbolsOf st p) (ready .tree)
+  pub same-run : reading types (tokens t) ≡ run types (tokensLeft t p) (symbolsOf st p) (ready .tree)
   pub same-crowd : crowdedAt (tokens t) S₀ ≡ crowdedAt (tokensLeft t p) (stringsSoFar t tb p)
   pub same-table : tableBehind (tokens t) S₀ ≡ tableBehind (tokensLeft t p) (stringsSoFar t tb p)
 
 -- in the code: with the lengths of the slices as they were, and a text of bytes
-pub record Along (t : List ℕ) (S₀ : List (List ℕ)) (out₀ m₀ st₀ tb₀ out m st tb : List ℕ) (p : Pass) : Type 0 where
-  pub going : Going t S₀ out m st tb p
+pub record Along (types : Types) (t : List ℕ) (S₀ : List (List ℕ)) (out₀ m₀ st₀ tb₀ out m st tb : List ℕ) (p : Pass) : Type 0 where
+  pub going : Going types t S₀ out m st tb p
   pub bytes : IsBytes t
   pub out-size : length out ≡ length out₀
   pub frames-size : length m ≡ length m₀
@@ -157,17 +158,17 @@ pub record Along (t : List ℕ) (S₀ : List (List ℕ)) (out₀ m₀ st₀ tb�
   pub table-size : length tb ≡ length tb₀
 
 -- before the first token
-pub nothing-filled : (S : List (List ℕ)) → size S start ≡ 0
+pub nothing-filled : (types : Types) (S : List (List ℕ)) → size types S start ≡ 0
 unfolding openBytes headEnd aroundBytes opening partsBytes headBytes numbered write
-nothing-filled S = refl
+nothing-filled types S = refl
 
-unfoldable pub going-first : (t out m st₀ st tb : List ℕ) (count top : ℕ) (s : Building) → Readable t out m st₀ tb count → Pushed st₀ st 1 0x2c05 top → ((table : List (List ℕ)) (frames o : List ℕ) → Shows table s frames o start)
-    → Going t (strings t tb count) out m st tb (record { at = 0; line = 0; operand = true; machine = record { top = top; building = s }; count = count })
+unfoldable pub going-first : (types : Types) (t out m st₀ st tb : List ℕ) (count top : ℕ) (s : Building) → Readable t out m st₀ tb count → Pushed st₀ st 1 0x2c05 top → ((table : List (List ℕ)) (frames o : List ℕ) → Shows table s frames o start)
+    → Going types t (strings t tb count) out m st tb (record { at = 0; line = 0; operand = true; machine = record { top = top; building = s }; count = count })
 unfolding tokens reading stackOf WordOnTop
-going-first t out m st₀ st tb count top s h pushed fresh =
+going-first types t out m st₀ st tb count top s h pushed fresh =
     let symbols : stackOf st top ≡ manifest = pushed .symbols ∙ ap (λ (k : List Symbol). k) (rw manifest-coded) in
     let S : List (List ℕ) = strings t tb count in
-    let empty : s .fill ≡ 0 = filled-so S s m out start (fresh S m out) ∙ nothing-filled S in
+    let empty : s .fill ≡ 0 = filled-so types S s m out start (fresh S m out) ∙ nothing-filled types S in
     let few : top ≤ 8 = pushed .few in
     record {
       ready = record {
@@ -196,7 +197,7 @@ going-first t out m st₀ st tb count top s h pushed fresh =
     none-word : {A : Type 0} → _≡_ {A = Bool} false true → A
     none-word e = let z : _≡_ {A = ℕ} 0 1 = cc in absurd (omega arith)
 
-module _ (t : List ℕ) (S₀ : List (List ℕ)) (out m st tb : List ℕ) (p : Pass) (g : Going t S₀ out m st tb p) where
+module _ (types : Types) (t : List ℕ) (S₀ : List (List ℕ)) (out m st tb : List ℕ) (p : Pass) (g : Going types t S₀ out m st tb p) where
   abbrev xs : List Lexeme
   xs = tokensLeft t p
 
@@ -208,38 +209,38 @@ module _ (t : List ℕ) (S₀ : List (List ℕ)) (out m st tb : List ℕ) (p : P
 
   -- ---- The first token left is refused
 
-  pub text-refused : (place : ℕ) → TokenRefused t st tb p f place → ReadFault t S₀ place
+  pub text-refused : (place : ℕ) → TokenRefused types t st tb p f place → ReadFault types t S₀ place
   text-refused place w = record { read = same ∙ go (w .barred); low = w .small }
     where
-      same : readText (reading (tokens t)) (crowdedAt (tokens t) S₀) ≡ readText (run xs (symbolsOf st p) f) (crowdedAt xs S)
-      same = ap (λ (e : Ended). readText e (crowdedAt (tokens t) S₀)) (g .same-run) ∙ ap (readText (run xs (symbolsOf st p) f)) (g .same-crowd)
+      same : readText (reading types (tokens t)) (crowdedAt (tokens t) S₀) ≡ readText (run types xs (symbolsOf st p) f) (crowdedAt xs S)
+      same = ap (λ (e : Ended). readText e (crowdedAt (tokens t) S₀)) (g .same-run) ∙ ap (readText (run types xs (symbolsOf st p) f)) (g .same-crowd)
 
       behind : Each (λ x. place ≤ placeOf x) xs
       behind = subst (Each (λ x. place ≤ placeOf x)) (sym (w .same-tokens)) (tokens-behind t place (w .line) (p .operand))
 
-      stuck-here : step (symbolsOf st p) (w .token) f ≡ stuck → readText (run xs (symbolsOf st p) f) (crowdedAt xs S) ≡ refused OutsideNotation place
+      stuck-here : step types (symbolsOf st p) (w .token) f ≡ stuck → readText (run types xs (symbolsOf st p) f) (crowdedAt xs S) ≡ refused OutsideNotation place
       stuck-here e =
-          let faulty : run xs (symbolsOf st p) f ≡ fault place = ap (λ (ys : List Lexeme). run ys (symbolsOf st p) f) (w .first) ∙ run-stuck (w .token) (w .rest) (symbolsOf st p) f e ∙ ap fault (w .place-of) in
+          let faulty : run types xs (symbolsOf st p) f ≡ fault place = ap (λ (ys : List Lexeme). run types ys (symbolsOf st p) f) (w .first) ∙ run-stuck types (w .token) (w .rest) (symbolsOf st p) f e ∙ ap fault (w .place-of) in
           ap (λ (e : Ended). readText e (crowdedAt xs S)) faulty ∙ fault-first place (crowdedAt xs S) (λ q i. crowd-behind place q behind S i)
 
-      go : Barred (symbolsOf st p) (w .token) f S → readText (run xs (symbolsOf st p) f) (crowdedAt xs S) ≡ refused OutsideNotation place
-      go (isMalformed e) = stuck-here (fault-stuck (w .token) (g .to-end) f e)
+      go : Barred types (symbolsOf st p) (w .token) f S → readText (run types xs (symbolsOf st p) f) (crowdedAt xs S) ≡ refused OutsideNotation place
+      go (isMalformed e) = stuck-here (fault-stuck types (w .token) (g .to-end) f e)
       go (isStuck e) = stuck-here e
       go (isCrowded over) =
           let full : crowdedAt xs S ≡ some place = ap (λ (ys : List Lexeme). crowdedAt ys S) (w .first) ∙ crowded-here (w .token) (w .rest) S over ∙ ap some (w .place-of) in
-          ap (readText (run xs (symbolsOf st p) f)) full ∙ crowd-first (run xs (symbolsOf st p) f) place (λ q i. fault-behind place q (tokens-end t (p .at) (p .line) (p .operand)) behind (symbolsOf st p) (g .to-end) f i)
+          ap (readText (run types xs (symbolsOf st p) f)) full ∙ crowd-first (run types xs (symbolsOf st p) f) place (λ q i. fault-behind types place q (tokens-end t (p .at) (p .line) (p .operand)) behind (symbolsOf st p) (g .to-end) f i)
 
   -- ---- The first token left is taken
 
-  module _ (next : Pass) (out′ m′ st′ tb′ : List ℕ) (rest : List Lexeme) (w : TokenTaken t st tb p f next out′ m′ st′ tb′ rest) where
+  module _ (next : Pass) (out′ m′ st′ tb′ : List ℕ) (rest : List Lexeme) (w : TokenTaken types t st tb p f next out′ m′ st′ tb′ rest) where
     abbrev U : List (List ℕ)
     U = stringsSoFar t tb′ next
 
     abbrev k′ : List Symbol
     k′ = symbolsOf st′ next
 
-    pub run-next : reading (tokens t) ≡ run rest k′ (w .tree)
-    run-next = g .same-run ∙ ap (λ (ys : List Lexeme). run ys (symbolsOf st p) f) (w .first) ∙ run-on (w .token) rest (symbolsOf st p) f k′ (w .tree) (w .stepped)
+    pub run-next : reading types (tokens t) ≡ run types rest k′ (w .tree)
+    run-next = g .same-run ∙ ap (λ (ys : List Lexeme). run types ys (symbolsOf st p) f) (w .first) ∙ run-on types (w .token) rest (symbolsOf st p) f k′ (w .tree) (w .stepped)
 
     few : length (enteredAll (stringsOf (tokenOf (w .token))) S) ≤ 1024
     few = omega (arith, ap length (w .entered), strings-counted t tb′ (next .count), w .enterable .small)
@@ -251,23 +252,23 @@ module _ (t : List ℕ) (S₀ : List (List ℕ)) (out m st tb : List ℕ) (p : P
     unfolding tableBehind
     table-on = ap (λ (ys : List Lexeme). tableBehind ys S) (w .first) ∙ ap (tableBehind rest) (sym (w .entered))
 
-    same-size : (h : Build) → size U h ≡ size S h
+    same-size : (h : Build) → size types U h ≡ size types S h
     same-size (build b (frame q u i ks) fs) = open-same U S u i ks fs
 
     pub filled-next : next .machine .building .fill + debt k′ ≤ 15 * p .at + 15
     filled-next =
-        omega (arith, g .filled, filled-so S (p .machine .building) m out f (g .ready .stage .shows), filled-so U (next .machine .building) m′ out′ (w .tree) (w .shows), same-size (w .tree), step-size S (symbolsOf st p) (w .token) f k′ (w .tree) (w .stepped))
+        omega (arith, g .filled, filled-so types S (p .machine .building) m out f (g .ready .stage .shows), filled-so types U (next .machine .building) m′ out′ (w .tree) (w .shows), same-size (w .tree), step-size types S (symbolsOf st p) (w .token) f k′ (w .tree) (w .stepped))
 
     -- it was the end
-    pub text-whole : IsBytes t → rest ≡ [] → ReadWhole t S₀ out′ tb′ (next .count) (next .machine .building .late) (next .machine .building .fill)
+    pub text-whole : IsBytes t → rest ≡ [] → ReadWhole types t S₀ out′ tb′ (next .count) (next .machine .building .late) (next .machine .building .fill)
     text-whole bytes none-behind =
         let no-symbol : k′ ≡ [] = last-symbol (tokens-end t (p .at) (p .line) (p .operand)) (w .first ∙ ap (λ (ys : List Lexeme). w .token ∷ ys) none-behind) in
-        let whole : reading (tokens t) ≡ built (w .tree) = run-next ∙ ended rest k′ (w .tree) none-behind no-symbol in
-        let all = outermost t bytes (w .tree) whole in
+        let whole : reading types (tokens t) ≡ built (w .tree) = run-next ∙ ended types rest k′ (w .tree) none-behind no-symbol in
+        let all = outermost types t bytes (w .tree) whole in
         let shows : Shows U (next .machine .building) m′ out′ (build 0 (frame 0 0 [] (all .nodes)) []) = subst (Shows U (next .machine .building) m′ out′) (all .same) (w .shows) in
         record {
           items = all .nodes;
-          read = outcome-of t S₀ (all .nodes) (whole ∙ ap built (all .same)) (crowd-next ∙ none-crowded rest U none-behind);
+          read = outcome-of types t S₀ (all .nodes) (whole ∙ ap built (all .same)) (crowd-next ∙ none-crowded rest U none-behind);
           table-is = sym (g .same-table ∙ table-on ∙ none-entered rest U none-behind);
           rising = w .enterable .rising;
           few = w .enterable .small;
@@ -278,14 +279,14 @@ module _ (t : List ℕ) (S₀ : List (List ℕ)) (out m st tb : List ℕ) (p : P
         }
       where
         last-symbol : {ys : List Lexeme} → Ending ys → ys ≡ w .token ∷ [] → k′ ≡ []
-        last-symbol (atFault {x} {xs = zs} i) e = let same : x ≡ w .token = cc in not-stuck (sym (fault-stuck (w .token) (g .to-end) f (ap (λ (y : Lexeme). kind (tokenOf y)) (sym same) ∙ i)) ∙ w .stepped)
-        last-symbol (atEnd {x} i) e = let same : x ≡ w .token = cc in end-last (w .token) k′ (w .tree) (g .to-end) f (ap (λ (y : Lexeme). kind (tokenOf y)) (sym same) ∙ i) (w .stepped)
+        last-symbol (atFault {x} {xs = zs} i) e = let same : x ≡ w .token = cc in not-stuck (sym (fault-stuck types (w .token) (g .to-end) f (ap (λ (y : Lexeme). kind (tokenOf y)) (sym same) ∙ i)) ∙ w .stepped)
+        last-symbol (atEnd {x} i) e = let same : x ≡ w .token = cc in end-last types (w .token) k′ (w .tree) (g .to-end) f (ap (λ (y : Lexeme). kind (tokenOf y)) (sym same) ∙ i) (w .stepped)
         last-symbol (before {x} {xs = zs} i later) e = let none-left : zs ≡ [] = cc in no-tokens later none-left
 
     -- more tokens follow
-    unfoldable pub going-next : rest ≡ tokensLeft t next → p .at < next .at → length out′ ≡ length out → length m′ ≡ length m → length st′ ≡ length st → Going t S₀ out′ m′ st′ tb′ next
+    unfoldable pub going-next : rest ≡ tokensLeft t next → p .at < next .at → length out′ ≡ length out → length m′ ≡ length m → length st′ ≡ length st → Going types t S₀ out′ m′ st′ tb′ next
     going-next e forward out-size frames-size stack-size =
-        let kept = step-kept (symbolsOf st p) (w .token) f k′ (w .tree) (w .stepped) (g .ready .stage .kept) in
+        let kept = step-kept types (symbolsOf st p) (w .token) f k′ (w .tree) (w .stepped) (g .ready .stage .kept) in
         let filled : next .machine .building .fill + debt k′ ≤ 15 * next .at = omega (arith, filled-next) in
         record {
           ready = record {
@@ -304,9 +305,9 @@ module _ (t : List ℕ) (S₀ : List (List ℕ)) (out m st tb : List ℕ) (p : P
             within = w .within;
             line-bound = w .line-bound;
           };
-          to-end = step-to-end (w .token) k′ (w .tree) (g .to-end) f (λ i. no-tokens (tokens-end t (next .at) (next .line) (next .operand)) (sym e ∙ w .at-end i)) (w .stepped);
+          to-end = step-to-end types (w .token) k′ (w .tree) (g .to-end) f (λ i. no-tokens (tokens-end t (next .at) (next .line) (next .operand)) (sym e ∙ w .at-end i)) (w .stepped);
           filled = filled;
-          same-run = run-next ∙ ap (λ (ys : List Lexeme). run ys k′ (w .tree)) e;
+          same-run = run-next ∙ ap (λ (ys : List Lexeme). run types ys k′ (w .tree)) e;
           same-crowd = crowd-next ∙ ap (λ (ys : List Lexeme). crowdedAt ys U) e;
           same-table = g .same-table ∙ table-on ∙ ap (λ (ys : List Lexeme). tableBehind ys U) e;
         }
@@ -319,22 +320,22 @@ module _ (t : List ℕ) (S₀ : List (List ℕ)) (out m st tb : List ℕ) (p : P
 
 -- ---- In the code
 
-module _ (t : List ℕ) (S₀ : List (List ℕ)) (out₀ m₀ st₀ tb₀ out m st tb : List ℕ) (p : Pass) (g : Along t S₀ out₀ m₀ st₀ tb₀ out m st tb p) where
+module _ (types : Types) (t : List ℕ) (S₀ : List (List ℕ)) (out₀ m₀ st₀ tb₀ out m st tb : List ℕ) (p : Pass) (g : Along types t S₀ out₀ m₀ st₀ tb₀ out m st tb p) where
   -- what reading a token answers
-  module _ (a : Read) (out′ m′ st′ tb′ : List ℕ) (reads : ReadsToken t out m st tb p a out′ m′ st′ tb′) where
-    pub answer : (b : Read) → a ≡ b → ReadSo t st tb p (g .going .ready .tree) b out′ m′ st′ tb′
-    answer b e = subst (λ (r : Read). ReadSo t st tb p (g .going .ready .tree) r out′ m′ st′ tb′) e (reads (g .going .ready .tree) (g .going .ready .stage))
+  module _ (a : Read) (out′ m′ st′ tb′ : List ℕ) (reads : ReadsToken types t out m st tb p a out′ m′ st′ tb′) where
+    pub answer : (b : Read) → a ≡ b → ReadSo types t st tb p (g .going .ready .tree) b out′ m′ st′ tb′
+    answer b e = subst (λ (r : Read). ReadSo types t st tb p (g .going .ready .tree) r out′ m′ st′ tb′) e (reads (g .going .ready .tree) (g .going .ready .stage))
 
     pub forward : (next : Pass) → a ≡ On next → length t - next .at < length t - p .at
     unfolding ReadSo
     forward next e = let w = answer (On next) e in omega (arith, w .1, w .0 .within)
 
-    unfoldable pub along-next : (next : Pass) → a ≡ On next → length out′ ≡ length out → length m′ ≡ length m → length st′ ≡ length st → length tb′ ≡ length tb → Along t S₀ out₀ m₀ st₀ tb₀ out′ m′ st′ tb′ next
+    unfoldable pub along-next : (next : Pass) → a ≡ On next → length out′ ≡ length out → length m′ ≡ length m → length st′ ≡ length st → length tb′ ≡ length tb → Along types t S₀ out₀ m₀ st₀ tb₀ out′ m′ st′ tb′ next
     unfolding ReadSo
     along-next next e out-size frames-size stack-size table-size =
         let w = answer (On next) e in
         record {
-          going = going-next t S₀ out m st tb p (g .going) next out′ m′ st′ tb′ (tokensLeft t next) (w .0) refl (w .1) out-size frames-size stack-size;
+          going = going-next types t S₀ out m st tb p (g .going) next out′ m′ st′ tb′ (tokensLeft t next) (w .0) refl (w .1) out-size frames-size stack-size;
           bytes = g .bytes;
           out-size = out-size ∙ g .out-size;
           frames-size = frames-size ∙ g .frames-size;
@@ -342,10 +343,10 @@ module _ (t : List ℕ) (S₀ : List (List ℕ)) (out₀ m₀ st₀ tb₀ out m 
           table-size = table-size ∙ g .table-size;
         }
 
-    pub whole-read : (last : Pass) → a ≡ Done last → TextRead t S₀ (Whole (last .count) (last .machine .building .late) (last .machine .building .fill)) out′ tb′
+    pub whole-read : (last : Pass) → a ≡ Done last → TextRead types t S₀ (Whole (last .count) (last .machine .building .late) (last .machine .building .fill)) out′ tb′
     unfolding ReadSo TextRead
-    whole-read last e = text-whole t S₀ out m st tb p (g .going) last out′ m′ st′ tb′ [] (answer (Done last) e) (g .bytes) refl
+    whole-read last e = text-whole types t S₀ out m st tb p (g .going) last out′ m′ st′ tb′ [] (answer (Done last) e) (g .bytes) refl
 
-    pub refused-read : (place : ℕ) → a ≡ Fault place → TextRead t S₀ (TextFault place) out′ tb′
+    pub refused-read : (place : ℕ) → a ≡ Fault place → TextRead types t S₀ (TextFault place) out′ tb′
     unfolding ReadSo TextRead
-    refused-read place e = text-refused t S₀ out m st tb p (g .going) place (answer (Fault place) e)
+    refused-read place e = text-refused types t S₀ out m st tb p (g .going) place (answer (Fault place) e)

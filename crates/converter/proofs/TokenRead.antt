@@ -10,6 +10,7 @@ use borrow.Author.Tests.{eqb-true, eqb-false, eq-eqb, ne-eqb}
 use Prim.Native.Nat.{ℕ, _≤_, _<_}
 use Rattle.rules.specs.Bytes.{pick}
 use Rattle.rules.specs.Ranges.{Each, noneLeft, also}
+use Rattle.rules.specs.Types.{Types}
 use Rattle.lexer.specs.declared.Token.{Token}
 use Rattle.lexer.specs.Found.{tokensFrom, tokenIn, Found}
 use Rattle.notation.specs.Tokens as tokens
@@ -29,7 +30,7 @@ use Rattle.converter.specs.declared.steps.Taken.{Taken}
 use Rattle.converter.specs.declared.steps.Taken.the-variants.{To, Stuck}
 use Rattle.converter.specs.declared.text.Pass.{Pass}
 use Rattle.converter.specs.Entering.{EnteredFor}
-use Rattle.converter.specs.Stepping.{WordOnTop, WordFor, Standing, TakenSo, Steppable, Steps}
+use Rattle.converter.specs.Stepping.{WordOnTop, WordFor, Standing, TakenSo, SteppableAt, StepsAt}
 use Rattle.converter.specs.Reading.{withoutWord, wordFor, tokensLeft, symbolsOf, stringsSoFar, Stage, Passable, TokenTaken, Barred, isMalformed, isStuck, isCrowded, TokenRefused}
 use Rattle.converter.proofs.Passing.{any-kind}
 use Rattle.converter.proofs.Entering.{known-again, first-of}
@@ -83,7 +84,7 @@ other-table : (S U : List (List ℕ)) (s : Building) (m out : List ℕ) (f : Bui
 other-table S U s m [] f same e w = shows-same S U s m f e w
 other-table S U s m (b ∷ out) f same e w = subst (λ (T : List (List ℕ)). Shows T s m (b ∷ out) f) (sym (same (omega arith))) w
 
-module _ (t out m st tb : List ℕ) (p : Pass) (h : Passable t out m st tb p) (r : Token) (found : Found t (p .at) (p .line) (p .operand) r) where
+module _ (types : Types) (t out m st tb : List ℕ) (p : Pass) (h : Passable t out m st tb p) (r : Token) (found : Found t (p .at) (p .line) (p .operand) r) where
   -- the token in the text, and the strings before it
   abbrev this : Lexeme
   this = lexeme (r .start) (r .line) (tokenIn t r)
@@ -91,7 +92,7 @@ module _ (t out m st tb : List ℕ) (p : Pass) (h : Passable t out m st tb p) (r
   abbrev S : List (List ℕ)
   S = stringsSoFar t tb p
 
-  refused-at : (f : Build) (y : Lexeme) (rest : List Lexeme) → tokensLeft t p ≡ y ∷ rest → placeOf y ≡ r .start → Barred (symbolsOf st p) y f S → TokenRefused t st tb p f (r .start)
+  refused-at : (f : Build) (y : Lexeme) (rest : List Lexeme) → tokensLeft t p ≡ y ∷ rest → placeOf y ≡ r .start → Barred types (symbolsOf st p) y f S → TokenRefused types t st tb p f (r .start)
   refused-at f y rest first place why =
       record {
         token = y;
@@ -105,7 +106,7 @@ module _ (t out m st tb : List ℕ) (p : Pass) (h : Passable t out m st tb p) (r
       }
 
   -- a malformed piece
-  pub malformed-refused : r .kind ≡ malformed → (f : Build) → TokenRefused t st tb p f (r .start)
+  pub malformed-refused : r .kind ≡ malformed → (f : Build) → TokenRefused types t st tb p f (r .start)
   malformed-refused e f = let b = found .at-fault e in refused-at f (lexeme (r .start) (r .line) (mark malformed)) (b .rest) (b .begins) refl (isMalformed refl)
 
   module _ (formed : r .kind ≡ malformed → ⊥) where
@@ -125,10 +126,10 @@ module _ (t out m st tb : List ℕ) (p : Pass) (h : Passable t out m st tb p) (r
 
     module _ (tb′ : List ℕ) (n : Numbered) (entered : EnteredFor t tb (p .count) r tb′ n) where
       -- one string too many
-      pub crowded-refused : 1024 < n .count → (f : Build) → TokenRefused t st tb p f (r .start)
+      pub crowded-refused : 1024 < n .count → (f : Build) → TokenRefused types t st tb p f (r .start)
       crowded-refused over f = refused-at f this behind this-first refl (isCrowded (entered .crowded over))
 
-      module _ (few : n .count ≤ 1024) (tag : ℕ) (tagged : r .kind ≡ aWord → tag ≡ resourceTag (slice (r .start) (r .end) t)) (s : Building) (is : s ≡ wordFor (r .kind) (p .machine .building)) where
+      module _ (few : n .count ≤ 1024) (tag : ℕ) (tagged : r .kind ≡ aWord → tag ≡ resourceTag types (slice (r .start) (r .end) t)) (s : Building) (is : s ≡ wordFor (r .kind) (p .machine .building)) where
         abbrev U : List (List ℕ)
         U = strings t tb′ (n .count)
 
@@ -151,36 +152,36 @@ module _ (t out m st tb : List ℕ) (p : Pass) (h : Passable t out m st tb p) (r
               go true e = subst (λ (T : List (List ℕ)). Shows T (p .machine .building) m out f) (sym (no-more (eqb-true (r .kind) leftSquare e))) (g .shows)
               go false e = other-table S U (withoutWord (p .machine .building)) m out f same-strings refl (word-forgotten S (p .machine .building) m out f (g .shows))
 
-          pub standing : Standing st m out s (p .machine .top) r names U f this
+          pub standing : Standing types st m out s (p .machine .top) r names U f this
           standing =
               record {
                 shows = subst (λ (b : Building). Shows U b m out f) (sym is) shown;
-                carried = entered .carried few tag tagged;
+                carried = entered .carried few types tag tagged;
                 kept = g .kept;
                 words = subst (λ (b : Building). WordFor (r .kind) (symbolsOf st p) b) (sym is) (words-for (r .kind) (symbolsOf st p) (p .machine .building) (g .words));
                 low = omega (arith, g .low, ap (λ (b : Building). b .fill) is, same-fill (r .kind) (p .machine .building));
               }
 
         -- the step may be made
-        pub steppable : Steppable st m out s (p .machine .top) r names
+        pub steppable : SteppableAt types st m out s (p .machine .top) r names
         steppable = record { table = U; tree = h .tree; token = this; standing = standing (h .tree) (h .stage); slots = h .slots; room = h .room; place = omega (arith, found .forward, found .high, h .short) }
 
-        module _ (a : Taken) (st′ m′ out′ : List ℕ) (steps : Steps r names s (p .machine .top) st m out a st′ m′ out′) where
+        module _ (a : Taken) (st′ m′ out′ : List ℕ) (steps : StepsAt types r names s (p .machine .top) st m out a st′ m′ out′) where
           -- the token may not stand there
-          pub stuck-refused : a ≡ Stuck → (f : Build) → Stage t out m st tb p f → TokenRefused t st tb p f (r .start)
-          unfolding Steps TakenSo
+          pub stuck-refused : a ≡ Stuck → (f : Build) → Stage t out m st tb p f → TokenRefused types t st tb p f (r .start)
+          unfolding StepsAt TakenSo
           stuck-refused e f g =
-              let stays : Steps r names s (p .machine .top) st m out Stuck st′ m′ out′ = subst (λ (b : Taken). Steps r names s (p .machine .top) st m out b st′ m′ out′) e steps in
+              let stays : StepsAt types r names s (p .machine .top) st m out Stuck st′ m′ out′ = subst (λ (b : Taken). StepsAt types r names s (p .machine .top) st m out b st′ m′ out′) e steps in
               refused-at f this behind this-first refl (isStuck (stays U f this (standing f g)))
 
           module _ (machine : Machine) (e : a ≡ To machine) (o : Bool) (f : Build) (g : Stage t out m st tb p f) where
             abbrev next : Pass
             next = record { at = r .end; line = r .«line_behind»; operand = o; machine = machine; count = n .count }
 
-            taken : TokenTaken t st tb p f next out′ m′ st′ tb′ behind
-            unfolding Steps TakenSo
+            taken : TokenTaken types t st tb p f next out′ m′ st′ tb′ behind
+            unfolding StepsAt TakenSo
             taken =
-                let goes : Steps r names s (p .machine .top) st m out (To machine) st′ m′ out′ = subst (λ (b : Taken). Steps r names s (p .machine .top) st m out b st′ m′ out′) e steps in
+                let goes : StepsAt types r names s (p .machine .top) st m out (To machine) st′ m′ out′ = subst (λ (b : Taken). StepsAt types r names s (p .machine .top) st m out b st′ m′ out′) e steps in
                 let w = goes U f this (standing f g) in
                 let room = h .enterable .room in
                 let size = entered .size in
@@ -199,11 +200,11 @@ module _ (t out m st tb : List ℕ) (p : Pass) (h : Passable t out m st tb p) (r
                 }
 
             -- it was the end
-            pub taken-last : r .kind ≡ endOfText → TokenTaken t st tb p f next out′ m′ st′ tb′ []
+            pub taken-last : r .kind ≡ endOfText → TokenTaken types t st tb p f next out′ m′ st′ tb′ []
             taken-last k = rw (eq-eqb (r .kind) endOfText k) at taken
 
             -- more tokens follow
-            pub taken-on : o ≡ operandBehind (r .kind) → (r .kind ≡ endOfText → ⊥) → TokenTaken t st tb p f next out′ m′ st′ tb′ (tokensLeft t next) × (p .at < r .end)
+            pub taken-on : o ≡ operandBehind (r .kind) → (r .kind ≡ endOfText → ⊥) → TokenTaken types t st tb p f next out′ m′ st′ tb′ (tokensLeft t next) × (p .at < r .end)
             taken-on same k =
                 let other : behind ≡ tokensLeft t next = rw (ne-eqb (r .kind) endOfText k, same) in
-                (subst (TokenTaken t st tb p f next out′ m′ st′ tb′) other taken, omega (arith, found .low, found .some-byte k formed))
+                (subst (TokenTaken types t st tb p f next out′ m′ st′ tb′) other taken, omega (arith, found .low, found .some-byte k formed))

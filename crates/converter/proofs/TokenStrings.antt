@@ -8,7 +8,7 @@ use lib.ListN.{length, take, drop}
 use lib.Seq.{slice, take-add, drop-at, length-take-le}
 use borrow.Author.Tests.{eqb-true, eqb-false}
 use Prim.Native.Nat.{ℕ, _+_, _-_, _≤_, _<_}
-use Rattle.rules.specs.Types.{theEight}
+use Rattle.rules.specs.Types.{Types}
 use Rattle.rules.specs.Bytes.{pick}
 use Rattle.syntax.specs.Strings.{isBuiltInText}
 use Rattle.lexer.specs.declared.Token as found
@@ -32,16 +32,16 @@ namesOf n tag = record { class = n .class; name = n .name; resource = tag }
 
 module _ (t m₀ : List ℕ) (count : ℕ) (r : found.Token) (h : Spelled t m₀ count r) where
   -- the tag of a resource of its type
-  abbrev Tagged : ℕ → Type 0
-  Tagged tag = r .kind ≡ aWord → tag ≡ resourceTag (slice (r .start) (r .end) t)
+  abbrev Tagged : Types → ℕ → Type 0
+  Tagged types tag = r .kind ≡ aWord → tag ≡ resourceTag types (slice (r .start) (r .end) t)
 
   -- what is to be known of the token x
   abbrev CarriedBy : Numbered → List (List ℕ) → Token → Type 0
-  CarriedBy n table x = (tag : ℕ) → Tagged tag → Carried r (namesOf n tag) table (lexeme (r .start) (r .line) x)
+  CarriedBy n table x = (types : Types) (tag : ℕ) → Tagged types tag → Carried types r (namesOf n tag) table (lexeme (r .start) (r .line) x)
 
   module _ (x : Token) (is : tokenIn t r ≡ x) where
     as-meant : (n : Numbered) (table : List (List ℕ)) → CarriedBy n table x → CarriedBy n table (tokenIn t r)
-    as-meant n table carry tag tagged = subst (λ (y : Token). Carried r (namesOf n tag) table (lexeme (r .start) (r .line) y)) (sym is) (carry tag tagged)
+    as-meant n table carry types tag tagged = subst (λ (y : Token). Carried types r (namesOf n tag) table (lexeme (r .start) (r .line) y)) (sym is) (carry types tag tagged)
 
     -- a token of no string
     none-entered : stringsOf x ≡ [] → (n : Numbered) → n .count ≡ count → CarriedBy n (strings t m₀ (n .count)) x → EnteredFor t m₀ count r m₀ n
@@ -93,25 +93,25 @@ module _ (t m₀ : List ℕ) (count : ℕ) (r : found.Token) (h : Spelled t m₀
   unfolding stringsOf
   word-entered e m n k =
       let w = slice (r .start) (r .end) t in
-      one-entered (word w) (token-word t r e) w refl (r .start) (h .sized .word-size e .spelled) m n (λ table named tag tagged. carried-word r (namesOf n tag) table w e named (tagged e)) k
+      one-entered (word w) (token-word t r e) w refl (r .start) (h .sized .word-size e .spelled) m n (λ table named types tag tagged. carried-word types r (namesOf n tag) table w e named (tagged e)) k
 
   pub text-entered : r .kind ≡ aText → (m : List ℕ) (n : Numbered) → EnteredOne t m₀ count (stringFrom t (r .start)) m n → EnteredFor t m₀ count r m n
   unfolding stringsOf
   text-entered e m n k =
       let w = quotedAt t (r .start) in
-      one-entered (text w) (token-text t r e) w refl (r .start) (h .sized .text-spelled e) m n (λ table named tag tagged. carried-text r (namesOf n tag) table w e named) k
+      one-entered (text w) (token-text t r e) w refl (r .start) (h .sized .text-spelled e) m n (λ table named types tag tagged. carried-text types r (namesOf n tag) table w e named) k
 
   pub variable-entered : r .kind ≡ aVariable → (m : List ℕ) (n : Numbered) → EnteredOne t m₀ count (stringFrom t (r .start + 1)) m n → EnteredFor t m₀ count r m n
   unfolding stringsOf
   variable-entered e m n k =
       let w = slice (r .start + 1) (r .end) t in
-      one-entered (variable w) (token-variable t r e) w refl (r .start + 1) (h .sized .variable-size e .spelled) m n (λ table named tag tagged. carried-variable r (namesOf n tag) table w e named) k
+      one-entered (variable w) (token-variable t r e) w refl (r .start + 1) (h .sized .variable-size e .spelled) m n (λ table named types tag tagged. carried-variable types r (namesOf n tag) table w e named) k
 
   pub top-entered : r .kind ≡ aQualified → r .«class_end» ≡ 0 → (m : List ℕ) (n : Numbered) → EnteredOne t m₀ count (stringFrom t (r .start + 3)) m n → EnteredFor t m₀ count r m n
   unfolding stringsOf
   top-entered e no-class m n k =
       let w = slice (r .start + 3) (r .end) t in
-      one-entered (topVariable w) (token-top t r e no-class) w refl (r .start + 3) (h .sized .top-size e no-class .spelled) m n (λ table named tag tagged. carried-top r (namesOf n tag) table w e no-class named) k
+      one-entered (topVariable w) (token-top t r e no-class) w refl (r .start + 3) (h .sized .top-size e no-class .spelled) m n (λ table named types tag tagged. carried-top types r (namesOf n tag) table w e no-class named) k
 
   pub class-entered : r .kind ≡ aQualified → (r .«class_end» ≡ 0 → ⊥) → (m : List ℕ) (n : Numbered) → EnteredBoth t m₀ count (stringFrom t (r .start + 3)) (stringFrom t (r .«class_end» + 2)) m n → EnteredFor t m₀ count r m n
   unfolding stringsOf
@@ -119,7 +119,7 @@ module _ (t m₀ : List ℕ) (count : ℕ) (r : found.Token) (h : Spelled t m₀
       let v = slice (r .start + 3) (r .«class_end») t in
       let w = slice (r .«class_end» + 2) (r .end) t in
       let sized = h .sized .class-size e some-class in
-      two-entered (classVariable v w) (token-class t r e some-class) v w refl (r .start + 3) (r .«class_end» + 2) (sized .0 .spelled) (sized .1 .spelled) m n (λ table classed named tag tagged. carried-class r (namesOf n tag) table v w e some-class classed named) k
+      two-entered (classVariable v w) (token-class t r e some-class) v w refl (r .start + 3) (r .«class_end» + 2) (sized .0 .spelled) (sized .1 .spelled) m n (λ table classed named types tag tagged. carried-class types r (namesOf n tag) table v w e some-class classed named) k
 
   pub nothing-entered : (r .kind ≡ aWord → ⊥) → (r .kind ≡ aText → ⊥) → (r .kind ≡ aVariable → ⊥) → (r .kind ≡ aQualified → ⊥) → (n : Numbered) → n .count ≡ count → EnteredFor t m₀ count r m₀ n
   unfolding stringsOf
@@ -131,11 +131,11 @@ module _ (t m₀ : List ℕ) (count : ℕ) (r : found.Token) (h : Spelled t m₀
       go : (number-here : Bool) → eqb (r .kind) 1 ≡ number-here → EnteredFor t m₀ count r m₀ n
       go true e =
           let one = eqb-true (r .kind) 1 e in
-          none-entered (number (r .value)) (token-number t r one) refl n same (λ tag tagged. carried-number r (namesOf n tag) (strings t m₀ (n .count)) one)
+          none-entered (number (r .value)) (token-number t r one) refl n same (λ types tag tagged. carried-number types r (namesOf n tag) (strings t m₀ (n .count)) one)
       go false e =
           let other = eqb-false (r .kind) 1 e in
           let high : 5 ≤ r .kind = high-kind (r .kind) a other b c d in
-          none-entered (mark (r .kind)) (token-mark t r high) refl n same (λ tag tagged. carried-mark r (namesOf n tag) (strings t m₀ (n .count)) high)
+          none-entered (mark (r .kind)) (token-mark t r high) refl n same (λ types tag tagged. carried-mark types r (namesOf n tag) (strings t m₀ (n .count)) high)
 
 -- ---- The tag of a resource
 
@@ -145,6 +145,6 @@ part-of a e t low high =
     let parts : a + (e - a) ≡ e = omega arith in
     sym (ap (λ (n : ℕ). drop a (take n t)) (sym parts) ∙ ap (drop a) (take-add a (e - a) t) ∙ drop-at (take a t) (take (e - a) (drop a t)) a (length-take-le a t high))
 
-pub tag-of : (a e : ℕ) (t : List ℕ) → a ≤ e → e ≤ length t → (b : Bool) → isBuiltInText theEight (take (e - a) (drop a t)) ≡ b → pick b 0x25 0x27 ≡ resourceTag (slice a e t)
+pub tag-of : (types : Types) (a e : ℕ) (t : List ℕ) → a ≤ e → e ≤ length t → (b : Bool) → isBuiltInText types (take (e - a) (drop a t)) ≡ b → pick b 0x25 0x27 ≡ resourceTag types (slice a e t)
 unfolding isBuiltInText resourceTag
-tag-of a e t low high b h = ap (λ (c : Bool). pick c 0x25 0x27) (sym h) ∙ ap resourceTag (part-of a e t low (omega arith))
+tag-of types a e t low high b h = ap (λ (c : Bool). pick c 0x25 0x27) (sym h) ∙ ap (resourceTag types) (part-of a e t low (omega arith))

@@ -8,6 +8,8 @@ use lib.ListN.{length, take}
 use Rattle.rules.specs.EditRule.{IsBytes}
 use Rattle.rules.specs.Fields.{none as noFields, writeAll}
 use Rattle.rules.specs.Outcome.{done}
+use Rattle.rules.specs.Types.{Types, checkTypes}
+use Rattle.rules.specs.declared.Verdict.the-variants.{Sound}
 use Rattle.notation.specs.declared.Answer.{Answer}
 use Rattle.notation.specs.Lexing.{tokens}
 use Rattle.notation.specs.Building.{Nodes}
@@ -17,8 +19,8 @@ use Rattle.interner.specs.TableField.{tableBytes}
 use Rattle.converter.specs.Entering.{Enterable}
 
 -- the answer and all bytes lent are those of the definition
-pub record Converts (text outputBefore outputAfter memoryBefore memoryAfter : List ℕ) (answer : Answer) : Type 0 where
-  pub effect : record { answer = answer; outputAfter = outputAfter; memoryAfter = memoryAfter } ≡ convert text (length outputBefore) (length memoryBefore)
+pub record Converts (types : Types) (text outputBefore outputAfter memoryBefore memoryAfter : List ℕ) (answer : Answer) : Type 0 where
+  pub effect : record { answer = answer; outputAfter = outputAfter; memoryAfter = memoryAfter } ≡ convert types text (length outputBefore) (length memoryBefore)
 
 -- what one pass over a text asks for: where bytes are written, the table has all strings of the text
 pub record Passable (t out table : List ℕ) (count : ℕ) : Type 0 where
@@ -27,10 +29,11 @@ pub record Passable (t out table : List ℕ) (count : ℕ) : Type 0 where
   pub known : 0 < length out → tableBehind (tokens t) (strings t table count) ≡ strings t table count
 
 -- a text was read whole, and no constant is late: its items, the table of its strings, and how many bytes the items take
-pub record Measured (t table : List ℕ) (count fill : ℕ) : Type 0 where
+pub record Measured (types : Types) (t table : List ℕ) (count fill : ℕ) : Type 0 where
+  pub listed : checkTypes types ≡ Sound
   pub short : length t ≤ 65535
   pub items : Nodes
-  pub read : textItems (tokens t) ≡ done items
+  pub read : textItems types (tokens t) ≡ done items
   pub early : lateAmong items ≡ none
   pub table-is : strings t table count ≡ tableBehind (tokens t) []
   pub enterable : Enterable t table count
@@ -38,13 +41,13 @@ pub record Measured (t table : List ℕ) (count fill : ℕ) : Type 0 where
   pub low : fill ≤ 1000000
 
 -- its manifest fits, and its numbers are bytes; the items come behind the table
-pub record Fitting (t table : List ℕ) (count before : ℕ) (out : List ℕ) : Type 0 where
+pub record Fitting (types : Types) (t table : List ℕ) (count before : ℕ) (out : List ℕ) : Type 0 where
   pub fill : ℕ
-  pub measured : Measured t table count fill
+  pub measured : Measured types t table count fill
   pub table-size : before ≡ length (tableBytes t table count)
   pub fits : tooLong (manifestBytes (tokens t) (measured .items)) (length out) ≡ false
   pub bytes : IsBytes (manifestBytes (tokens t) (measured .items))
 
 -- the output begins with the manifest of the text
-pub record Begins (t out : List ℕ) : Type 0 where
-  pub manifest : (items : Nodes) → textItems (tokens t) ≡ done items → take (length (manifestBytes (tokens t) items)) out ≡ manifestBytes (tokens t) items
+pub record Begins (types : Types) (t out : List ℕ) : Type 0 where
+  pub manifest : (items : Nodes) → textItems types (tokens t) ≡ done items → take (length (manifestBytes (tokens t) items)) out ≡ manifestBytes (tokens t) items

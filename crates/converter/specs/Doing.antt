@@ -8,12 +8,13 @@ use mathlib.Core.List.{List, [], _∷_}
 use Rattle.lexer.specs.declared.Token.{Token}
 use Rattle.notation.specs.Tokens.{Lexeme, tokenOf, aWord, aNumber, aVariable, trueWord, falseWord}
 use Rattle.notation.specs.Building.{Build, acts, Action, begin, beginResource, around, instead, close, constant, read, named, parentFirst, void, enter, leave, spelled, resourceTag}
-use Rattle.tree_builder.specs.Shows.{AnInteger, ABoolean, AString, AVariable, AClassVariable, AName, Shows, IsWord, Ready}
+use Rattle.tree_builder.specs.Shows.{DoesAt, AnInteger, ABoolean, AString, AVariable, AClassVariable, AName, Shows, IsWord, Ready}
 use Rattle.tree_builder.specs.declared.Step.{Step}
 use Rattle.tree_builder.specs.declared.Step.the-variants.{Did, No}
 use Rattle.parse_table.specs.Codes.{actionsIn}
 use Rattle.tree_builder.specs.declared.Building.{Building}
 use Rattle.converter.specs.declared.actions.Names.{Names}
+use Rattle.rules.specs.Types.{Types}
 
 module _ (r : Token) where
   -- x is the constant r, and a string has the number n
@@ -29,20 +30,20 @@ module _ (r : Token) where
     pub top : (r .kind ≡ aVariable → ⊥) → r .«class_end» ≡ 0 → AVariable 0x14 (ns .name) table x
     pub qualified : (r .kind ≡ aVariable → ⊥) → (r .«class_end» ≡ 0 → ⊥) → AClassVariable (ns .class) (ns .name) table x
 
-  -- x is r, as far as an action looks at it
-  unfoldable pub Suits : Action → Names → List (List ℕ) → Lexeme → Type 0
-  Suits (begin t) ns table x = Unit {0}
-  Suits beginResource ns table x = ns .resource ≡ resourceTag (spelled (tokenOf x))
-  Suits (around t h) ns table x = Unit {0}
-  Suits (instead t) ns table x = Unit {0}
-  Suits close ns table x = Unit {0}
-  Suits constant ns table x = ConstantAt (ns .name) table x
-  Suits read ns table x = VariableAt ns table x
-  Suits named ns table x = AName (ns .name) table x
-  Suits parentFirst ns table x = AName (ns .name) table x
-  Suits (void t) ns table x = Unit {0}
-  Suits enter ns table x = Unit {0}
-  Suits leave ns table x = Unit {0}
+-- x is r, as far as an action looks at it
+unfoldable pub Suits : Types → Token → Action → Names → List (List ℕ) → Lexeme → Type 0
+Suits types r (begin t) ns table x = Unit {0}
+Suits types r beginResource ns table x = ns .resource ≡ resourceTag types (spelled (tokenOf x))
+Suits types r (around t h) ns table x = Unit {0}
+Suits types r (instead t) ns table x = Unit {0}
+Suits types r close ns table x = Unit {0}
+Suits types r constant ns table x = ConstantAt r (ns .name) table x
+Suits types r read ns table x = VariableAt r ns table x
+Suits types r named ns table x = AName (ns .name) table x
+Suits types r parentFirst ns table x = AName (ns .name) table x
+Suits types r (void t) ns table x = Unit {0}
+Suits types r enter ns table x = Unit {0}
+Suits types r leave ns table x = Unit {0}
 
 -- whether an action reads a constant; behind one that does, at a word, the state tells that a word was just read
 abbrev pub isConstant : Action → Bool
@@ -86,9 +87,9 @@ pub record Able (frames : List ℕ) (s : Building) (action : ℕ) (r : Token) : 
   pub word : action ≡ 9 → s .word ≡ true
 
 -- x is r, as far as some actions look at it
-unfoldable pub SuitsAll : Token → Names → List Action → List (List ℕ) → Lexeme → Type 0
-SuitsAll r ns [] table x = Unit {0}
-SuitsAll r ns (a ∷ ds) table x = Suits r a ns table x × SuitsAll r ns ds table x
+unfoldable pub SuitsAll : (types : Types) → Token → Names → List Action → List (List ℕ) → Lexeme → Type 0
+SuitsAll types r ns [] table x = Unit {0}
+SuitsAll types r ns (a ∷ ds) table x = Suits types r a ns table x × SuitsAll types r ns ds table x
 
 -- how far some actions fill the output at most
 abbrev pub filled : ℕ → List Action → ℕ
@@ -126,18 +127,30 @@ noInstead [] = true
 noInstead (a ∷ ds) = not (isInstead a) && noInstead ds
 
 -- some actions at any token that is r: what the answer says
-unfoldable pub DoesAll : Token → Names → List Action → Building → (frames out : List ℕ) → Step → (frames′ out′ : List ℕ) → Type 0
-DoesAll r ns ds s m out a m′ out′ = (table : List (List ℕ)) (f : Build) (x : Lexeme) → SuitsAll r ns ds table x → Shows table s m out f → AllAnswered table (filled (s .fill) ds) a m′ out′ (acts ds x f)
+unfoldable pub DoesAllAt : Types → Token → Names → List Action → Building → (frames out : List ℕ) → Step → (frames′ out′ : List ℕ) → Type 0
+DoesAllAt types r ns ds s m out a m′ out′ = (table : List (List ℕ)) (f : Build) (x : Lexeme) → SuitsAll types r ns ds table x → Shows table s m out f → AllAnswered table (filled (s .fill) ds) a m′ out′ (acts types ds x f)
+
+-- the same, whatever types are built in
+abbrev pub DoesAll : Token → Names → List Action → Building → (frames out : List ℕ) → Step → (frames′ out′ : List ℕ) → Type 0
+DoesAll r ns ds s m out a m′ out′ = (types : Types) → DoesAllAt types r ns ds s m out a m′ out′
+
+-- one action at any token that is r
+abbrev pub DoesFor : Token → Names → Action → Building → (frames out : List ℕ) → Step → (frames′ out′ : List ℕ) → Type 0
+DoesFor r ns a s m out st m′ out′ = (types : Types) → DoesAt types (Suits types r a ns) a s m out st m′ out′
 
 -- what some actions ask for: the state stands for a tree, and the token for x; a name comes in the place of a constant only where one was just read
-pub record Stands (frames out : List ℕ) (s : Building) (actions : ℕ) (r : Token) (ns : Names) : Type 0 where
+pub record StandsAt (types : Types) (frames out : List ℕ) (s : Building) (actions : ℕ) (r : Token) (ns : Names) : Type 0 where
   pub table : List (List ℕ)
   pub tree : Build
   pub token : Lexeme
   pub shows : Shows table s frames out tree
-  pub suits : SuitsAll r ns (actionsIn actions) table token
+  pub suits : SuitsAll types r ns (actionsIn actions) table token
   pub slots : 256 ≤ length frames
   pub low : filled (s .fill) (actionsIn actions) ≤ 1048576
   pub place : r .start ≤ 1048576
   pub word : actions % 256 ≡ 9 → s .word ≡ true
   pub once : noInstead (actionsIn (actions / 256)) ≡ true
+
+pub record Stands (frames out : List ℕ) (s : Building) (actions : ℕ) (r : Token) (ns : Names) : Type 0 where
+  pub types : Types
+  pub stands : StandsAt types frames out s actions r ns

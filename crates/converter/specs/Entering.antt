@@ -14,6 +14,7 @@ use Rattle.interner.specs.Table.{strings}
 use Rattle.tree_builder.specs.Shows.{numberIn}
 use Rattle.converter.specs.declared.strings.Numbered.{Numbered}
 use Rattle.converter.specs.Stepping.{Carried}
+use Rattle.rules.specs.Types.{Types}
 
 -- what it asks for: a table of strings that rise, with room for all that are allowed and one more
 pub record Enterable (t m : List ℕ) (count : ℕ) : Type 0 where
@@ -54,5 +55,5 @@ pub record EnteredFor (t m₀ : List ℕ) (count₀ : ℕ) (r : Token) (m : List
   pub rising : Rising (strings t m (n .count))
   pub crowded : 1024 < n .count → 1024 < length (enteredAll (stringsOf (tokenIn t r)) (strings t m₀ count₀))
   pub table : n .count ≤ 1024 → strings t m (n .count) ≡ enteredAll (stringsOf (tokenIn t r)) (strings t m₀ count₀)
-  pub carried : n .count ≤ 1024 → (tag : ℕ) → (r .kind ≡ aWord → tag ≡ resourceTag (slice (r .start) (r .end) t))
-      → Carried r (record { class = n .class; name = n .name; resource = tag }) (strings t m (n .count)) (lexeme (r .start) (r .line) (tokenIn t r))
+  pub carried : n .count ≤ 1024 → (types : Types) (tag : ℕ) → (r .kind ≡ aWord → tag ≡ resourceTag types (slice (r .start) (r .end) t))
+      → Carried types r (record { class = n .class; name = n .name; resource = tag }) (strings t m (n .count)) (lexeme (r .start) (r .line) (tokenIn t r))

@@ -10,6 +10,7 @@ use Rattle.rules.specs.Bytes.{pick}
 use Rattle.rules.specs.EditRule.{IsBytes}
 use Rattle.rules.specs.Fields.{none as noFields, writeAll}
 use Rattle.rules.specs.Outcome.{refused, done}
+use Rattle.rules.specs.Types.{Types}
 use Rattle.notation.specs.Tokens.{Lexeme, kind, tokenOf, placeOf, leftSquare, endOfText, malformed}
 use Rattle.notation.specs.Lexing.{tokens}
 use Rattle.notation.specs.Building.{Nodes, Build}
@@ -72,11 +73,11 @@ pub record Passable (t out frames stack table : List ℕ) (p : Pass) : Type 0 wh
   pub line-bound : p .line ≤ p .at
 
 -- the first token left is taken: a step of the machine, and its strings are in the table
-pub record TokenTaken (t stack₀ table₀ : List ℕ) (p : Pass) (tree₀ : Build) (next : Pass) (out frames stack table : List ℕ) (rest : List Lexeme) : Type 0 where
+pub record TokenTaken (types : Types) (t stack₀ table₀ : List ℕ) (p : Pass) (tree₀ : Build) (next : Pass) (out frames stack table : List ℕ) (rest : List Lexeme) : Type 0 where
   pub token : Lexeme
   pub first : tokensLeft t p ≡ token ∷ rest
   pub tree : Build
-  pub stepped : step (symbolsOf stack₀ p) token tree₀ ≡ to (symbolsOf stack next) tree
+  pub stepped : step types (symbolsOf stack₀ p) token tree₀ ≡ to (symbolsOf stack next) tree
   pub shows : Shows (stringsSoFar t table next) (next .machine .building) frames out tree
   pub words : WordOnTop (symbolsOf stack next) (next .machine .building)
   pub entered : stringsSoFar t table next ≡ enteredAll (stringsOf (tokenOf token)) (stringsSoFar t table₀ p)
@@ -86,30 +87,30 @@ pub record TokenTaken (t stack₀ table₀ : List ℕ) (p : Pass) (tree₀ : Bui
   pub line-bound : next .line ≤ next .at
 
 -- why a token may not stand there, or brings one string too many
-pub data Barred (symbols : List Symbol) (x : Lexeme) (tree : Build) (table : List (List ℕ)) : Type 0 where
-  isMalformed : kind (tokenOf x) ≡ malformed → Barred symbols x tree table
-  isStuck : step symbols x tree ≡ stuck → Barred symbols x tree table
-  isCrowded : 1024 < length (enteredAll (stringsOf (tokenOf x)) table) → Barred symbols x tree table
+pub data Barred (types : Types) (symbols : List Symbol) (x : Lexeme) (tree : Build) (table : List (List ℕ)) : Type 0 where
+  isMalformed : kind (tokenOf x) ≡ malformed → Barred types symbols x tree table
+  isStuck : step types symbols x tree ≡ stuck → Barred types symbols x tree table
+  isCrowded : 1024 < length (enteredAll (stringsOf (tokenOf x)) table) → Barred types symbols x tree table
 
 -- the first token left is refused; it stands at this place, and nothing but white space and comments comes before it
-pub record TokenRefused (t stack₀ table₀ : List ℕ) (p : Pass) (tree₀ : Build) (place : ℕ) : Type 0 where
+pub record TokenRefused (types : Types) (t stack₀ table₀ : List ℕ) (p : Pass) (tree₀ : Build) (place : ℕ) : Type 0 where
   pub token : Lexeme
   pub rest : List Lexeme
   pub first : tokensLeft t p ≡ token ∷ rest
   pub line : ℕ
   pub same-tokens : tokensLeft t p ≡ tokensFrom t place line (p .operand)
   pub place-of : placeOf token ≡ place
-  pub barred : Barred (symbolsOf stack₀ p) token tree₀ (stringsSoFar t table₀ p)
+  pub barred : Barred types (symbolsOf stack₀ p) token tree₀ (stringsSoFar t table₀ p)
   pub small : place < 65536
 
-unfoldable pub ReadSo : (t stack₀ table₀ : List ℕ) (p : Pass) (tree₀ : Build) → Read → (out frames stack table : List ℕ) → Type 0
-ReadSo t st₀ tb₀ p f (On next) out m st tb = TokenTaken t st₀ tb₀ p f next out m st tb (tokensLeft t next) × (p .at < next .at)
-ReadSo t st₀ tb₀ p f (Done last) out m st tb = TokenTaken t st₀ tb₀ p f last out m st tb []
-ReadSo t st₀ tb₀ p f (Fault q) out m st tb = TokenRefused t st₀ tb₀ p f q
+unfoldable pub ReadSo : (types : Types) (t stack₀ table₀ : List ℕ) (p : Pass) (tree₀ : Build) → Read → (out frames stack table : List ℕ) → Type 0
+ReadSo types t st₀ tb₀ p f (On next) out m st tb = TokenTaken types t st₀ tb₀ p f next out m st tb (tokensLeft t next) × (p .at < next .at)
+ReadSo types t st₀ tb₀ p f (Done last) out m st tb = TokenTaken types t st₀ tb₀ p f last out m st tb []
+ReadSo types t st₀ tb₀ p f (Fault q) out m st tb = TokenRefused types t st₀ tb₀ p f q
 
 -- what reading a token does, with whatever tree the pass stands at
-abbrev pub ReadsToken : (t out₀ frames₀ stack₀ table₀ : List ℕ) (p : Pass) → Read → (out frames stack table : List ℕ) → Type 0
-ReadsToken t out₀ m₀ st₀ tb₀ p r out m st tb = (tree : Build) → Stage t out₀ m₀ st₀ tb₀ p tree → ReadSo t st₀ tb₀ p tree r out m st tb
+abbrev pub ReadsToken : (types : Types) (t out₀ frames₀ stack₀ table₀ : List ℕ) (p : Pass) → Read → (out frames stack table : List ℕ) → Type 0
+ReadsToken types t out₀ m₀ st₀ tb₀ p r out m st tb = (tree : Build) → Stage t out₀ m₀ st₀ tb₀ p tree → ReadSo types t st₀ tb₀ p tree r out m st tb
 
 -- ---- All tokens
 
@@ -122,9 +123,9 @@ pub record Readable (t out frames stack table : List ℕ) (count : ℕ) : Type 0
   pub known : 0 < length out → tableBehind (tokens t) (strings t table count) ≡ strings t table count
 
 -- the whole text is read
-pub record ReadWhole (t : List ℕ) (before : List (List ℕ)) (out table : List ℕ) (count late fill : ℕ) : Type 0 where
+pub record ReadWhole (types : Types) (t : List ℕ) (before : List (List ℕ)) (out table : List ℕ) (count late fill : ℕ) : Type 0 where
   pub items : Nodes
-  pub read : readText (reading (tokens t)) (crowdedAt (tokens t) before) ≡ done items
+  pub read : readText (reading types (tokens t)) (crowdedAt (tokens t) before) ≡ done items
   pub table-is : strings t table count ≡ tableBehind (tokens t) before
   pub rising : Rising (strings t table count)
   pub few : count ≤ 1024
@@ -134,10 +135,10 @@ pub record ReadWhole (t : List ℕ) (before : List (List ℕ)) (out table : List
   pub written : fill ≤ length out → IsBytes (writeAll (numberedOnto (strings t table count) items noFields)) → take fill out ≡ writeAll (numberedOnto (strings t table count) items noFields)
 
 -- it is refused at a place
-pub record ReadFault (t : List ℕ) (before : List (List ℕ)) (place : ℕ) : Type 0 where
-  pub read : readText (reading (tokens t)) (crowdedAt (tokens t) before) ≡ refused OutsideNotation place
+pub record ReadFault (types : Types) (t : List ℕ) (before : List (List ℕ)) (place : ℕ) : Type 0 where
+  pub read : readText (reading types (tokens t)) (crowdedAt (tokens t) before) ≡ refused OutsideNotation place
   pub low : place < 65536
 
-unfoldable pub TextRead : (t : List ℕ) → (before : List (List ℕ)) → ReadText → (out table : List ℕ) → Type 0
-TextRead t before (Whole count late fill) out table = ReadWhole t before out table count late fill
-TextRead t before (TextFault place) out table = ReadFault t before place
+unfoldable pub TextRead : (types : Types) (t : List ℕ) → (before : List (List ℕ)) → ReadText → (out table : List ℕ) → Type 0
+TextRead types t before (Whole count late fill) out table = ReadWhole types t before out table count late fill
+TextRead types t before (TextFault place) out table = ReadFault types t before place

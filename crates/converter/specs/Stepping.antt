@@ -9,6 +9,7 @@ use Rattle.notation.specs.Tokens.{Lexeme, kind, tokenOf, isAmong, aWord, aNumbe
 use Rattle.notation.specs.Building.{Build, spelled, resourceTag}
 use Rattle.notation.specs.Grammar.{Symbol, sign, aName, expression, operators, readOrWord, closeBracket, one, maybe, further, statements, block, otherwise, branches, items, classRest, parameters, defaultValue, aConstant, inherits, parent, devices, device, moreDevices, ends, rowOf, Stepped, stuck, to, step}
 use Rattle.rules.specs.Bytes.{byte}
+use Rattle.rules.specs.Types.{Types}
 use Rattle.parse_table.specs.Codes.{rowIn}
 use Rattle.parse_table.specs.Stack.{stackOf}
 use Rattle.parse_table.specs.declared.rows.Row.{Row}
@@ -23,12 +24,12 @@ use Rattle.converter.specs.declared.actions.Names.{Names}
 use Rattle.converter.specs.Doing.{ConstantAt, VariableAt}
 
 -- the token x is r, and ns are the numbers of its strings
-pub record Carried (r : Token) (ns : Names) (table : List (List ℕ)) (x : Lexeme) : Type 0 where
+pub record Carried (types : Types) (r : Token) (ns : Names) (table : List (List ℕ)) (x : Lexeme) : Type 0 where
   pub same-kind : kind (tokenOf x) ≡ r .kind
   pub constants : isAmong (r .kind) (aWord ∷ aNumber ∷ aText ∷ trueWord ∷ falseWord ∷ []) ≡ true → ConstantAt r (ns .name) table x
   pub variables : isAmong (r .kind) (aVariable ∷ aQualified ∷ []) ≡ true → VariableAt r ns table x
   pub named : isAmong (r .kind) (aWord ∷ aText ∷ aVariable ∷ []) ≡ true → AName (ns .name) table x
-  pub resource : isAmong (r .kind) (aWord ∷ []) ≡ true → ns .resource ≡ resourceTag (spelled (tokenOf x))
+  pub resource : isAmong (r .kind) (aWord ∷ []) ≡ true → ns .resource ≡ resourceTag types (spelled (tokenOf x))
 
 -- ---- The symbol behind a bare word
 
@@ -75,9 +76,9 @@ WordFor k (y ∷ ys) s = (isReadOrWord y ≡ true → k ≡ leftSquare → s .wo
 -- ---- A step
 
 -- the stack, the tree and the token in hand are a state of the machine: these symbols, this tree, this token
-pub record Standing (stack frames out : List ℕ) (s : Building) (top : ℕ) (r : Token) (ns : Names) (table : List (List ℕ)) (f : Build) (x : Lexeme) : Type 0 where
+pub record Standing (types : Types) (stack frames out : List ℕ) (s : Building) (top : ℕ) (r : Token) (ns : Names) (table : List (List ℕ)) (f : Build) (x : Lexeme) : Type 0 where
   pub shows : Shows table s frames out f
-  pub carried : Carried r ns table x
+  pub carried : Carried types r ns table x
   pub kept : Kept (stackOf stack top) f
   pub words : WordFor (r .kind) (stackOf stack top) s
   pub low : s .fill + 12 * top ≤ 1000000
@@ -94,18 +95,26 @@ TakenSo table Stuck st m out o = o ≡ stuck
 TakenSo table (To n) st m out o = Onward table n st m out o
 
 -- what a step asks for
-pub record Steppable (stack frames out : List ℕ) (s : Building) (top : ℕ) (r : Token) (ns : Names) : Type 0 where
+pub record SteppableAt (types : Types) (stack frames out : List ℕ) (s : Building) (top : ℕ) (r : Token) (ns : Names) : Type 0 where
   pub table : List (List ℕ)
   pub tree : Build
   pub token : Lexeme
-  pub standing : Standing stack frames out s top r ns table tree token
+  pub standing : Standing types stack frames out s top r ns table tree token
   pub slots : 256 ≤ length frames
   pub room : 468 ≤ length stack
   pub place : r .start ≤ 1048576
 
+pub record Steppable (stack frames out : List ℕ) (s : Building) (top : ℕ) (r : Token) (ns : Names) : Type 0 where
+  pub types : Types
+  pub steppable : SteppableAt types stack frames out s top r ns
+
 -- what it does
-unfoldable pub Steps : Token → Names → Building → (top : ℕ) → (stack frames out : List ℕ) → Taken → (stack′ frames′ out′ : List ℕ) → Type 0
-Steps r ns s top st m out a st′ m′ out′ = (table : List (List ℕ)) (f : Build) (x : Lexeme) → Standing st m out s top r ns table f x → TakenSo table a st′ m′ out′ (step (stackOf st top) x f)
+unfoldable pub StepsAt : Types → Token → Names → Building → (top : ℕ) → (stack frames out : List ℕ) → Taken → (stack′ frames′ out′ : List ℕ) → Type 0
+StepsAt types r ns s top st m out a st′ m′ out′ = (table : List (List ℕ)) (f : Build) (x : Lexeme) → Standing types st m out s top r ns table f x → TakenSo table a st′ m′ out′ (step types (stackOf st top) x f)
+
+-- the same, whatever types are built in
+abbrev pub Steps : Token → Names → Building → (top : ℕ) → (stack frames out : List ℕ) → Taken → (stack′ frames′ out′ : List ℕ) → Type 0
+Steps r ns s top st m out a st′ m′ out′ = (types : Types) → StepsAt types r ns s top st m out a st′ m′ out′
 
 -- the row of the symbol on top takes the token
 pub record TakenRow (stack : List ℕ) (top : ℕ) (r : Token) (w : Row) : Type 0 where

@@ -5,7 +5,7 @@ ghost use Prim.Native.Nat.{ℕ, _≤_, _<_};
 ghost use Rattle.notation.specs.Building.{constant as constantAction, read as readAction};
 ghost use Rattle.parse_table.specs.Codes.{actionOf, actionsIn};
 ghost use Rattle.tree_builder.specs.Shows.{Does, IsWord, Ready};
-ghost use Rattle.converter.specs.Doing.{ConstantAt, VariableAt, Suits, WordRead, WordsRead, Able, Stands, DoesAll};
+ghost use Rattle.converter.specs.Doing.{ConstantAt, VariableAt, WordRead, WordsRead, Able, Stands, DoesAll, DoesFor};
 use lexer::Token;
 use notation::kinds::A_NUMBER;
 use notation::kinds::A_VARIABLE;
@@ -74,7 +74,7 @@ fn do_plain(
     names: Names,
 ) -> Step
     requires { ⌜ Able (now frames) s action token × (action < 0x10) ⌝ }
-    ensures { λ r. ⌜ Does (Suits token (actionOf action) names) (actionOf action) s (now (frames .entry)) (now (out .entry)) r (now (frames .exit)) (now (out .exit)) × WordRead (actionOf action) token r ⌝ }
+    ensures { λ r. ⌜ DoesFor token names (actionOf action) s (now (frames .entry)) (now (out .entry)) r (now (frames .exit)) (now (out .exit)) × WordRead (actionOf action) token r ⌝ }
 {
     match action {
         CONSTANT => add_constant(out, s, token, names.name),
@@ -100,7 +100,7 @@ fn do_action(
     names: Names,
 ) -> Step
     requires { ⌜ Able (now frames) s action token × (action < 0x100) ⌝ }
-    ensures { λ r. ⌜ Does (Suits token (actionOf action) names) (actionOf action) s (now (frames .entry)) (now (out .entry)) r (now (frames .exit)) (now (out .exit)) × WordRead (actionOf action) token r ⌝ }
+    ensures { λ r. ⌜ DoesFor token names (actionOf action) s (now (frames .entry)) (now (out .entry)) r (now (frames .exit)) (now (out .exit)) × WordRead (actionOf action) token r ⌝ }
 {
     if AROUND_PLUS <= action {
         return tree_builder::around_operator(out, frames, s, 0x16, (action - AROUND_PLUS) as u8);

@@ -5,6 +5,7 @@ ghost use lib.ListN.{length};
 ghost use lib.Seq.{slice};
 ghost use Rattle.notation.specs.Tokens.{aWord, operandBehind};
 ghost use Rattle.notation.specs.Building.{resourceTag};
+ghost use Rattle.type_list.specs.Listed.{chosen, Listed};
 ghost use Rattle.interner.specs.Table.{strings};
 ghost use Rattle.converter.specs.Entering.{Spelled, EnteredFor};
 ghost use Rattle.converter.specs.Reading.{wordFor, Passable, ReadsToken, Readable, TextRead};
@@ -31,9 +32,9 @@ use notation::kinds::RIGHT_SQUARE;
 use notation::kinds::TRUE_WORD;
 use parse_table::stack::MANIFEST;
 use parse_table::stack::push;
-use syntax::strings::is_built_in_text;
 use tree_builder::Building;
 use tree_builder::nothing;
+use type_list::is_type;
 
 // The strings of a token. A token without strings leaves the table as it is.
 fn enter_strings(text: &[u8], table: &mut [u8], count: usize, token: Token) -> Numbered
@@ -60,16 +61,16 @@ fn enter_strings(text: &[u8], table: &mut [u8], count: usize, token: Token) -> N
 }
 
 // The tag of a resource whose type is the token: 25 if the type is built in, else 27.
-fn resource_tag(text: &[u8], token: Token) -> u8
-    requires { ⌜ (token .start ≤ token .end) × (token .end ≤ length (now text)) ⌝ }
-    ensures { λ r. ⌜ (token .kind ≡ aWord → r ≡ resourceTag (slice (token .start) (token .end) (now (text .entry)))) ⌝ }
+fn resource_tag(types: &[u8], index: &[u8], listed: u16, text: &[u8], token: Token) -> u8
+    requires { ⌜ Listed (now types) (now index) listed × ((token .start ≤ token .end) × (token .end ≤ length (now text))) ⌝ }
+    ensures { λ r. ⌜ (token .kind ≡ aWord → r ≡ resourceTag (chosen (now (types .entry))) (slice (token .start) (token .end) (now (text .entry)))) ⌝ }
 {
     if token.kind != A_WORD {
         return 0x27;
     }
     let start = token.start;
     let end = token.end;
-    if is_built_in_text(&text[start..end]) {
+    if is_type(types, index, listed, &text[start..end]) {
         return 0x25;
     }
     0x27
@@ -119,6 +120,9 @@ pub enum Read {
 
 // One token.
 pub fn read_token(
+    types: &[u8],
+    index: &[u8],
+    listed: u16,
     text: &[u8],
     out: &mut [u8],
     frames: &mut [u8],
@@ -126,8 +130,8 @@ pub fn read_token(
     table: &mut [u8],
     pass: Pass,
 ) -> Read
-    requires { ⌜ Passable (now text) (now out) (now frames) (now stack) (now table) pass ⌝ }
-    ensures { λ r. ⌜ ReadsToken (now (text .entry)) (now (out .entry)) (now (frames .entry)) (now (stack .entry)) (now (table .entry)) pass r (now (out .exit)) (now (frames .exit)) (now (stack .exit)) (now (table .exit)) ⌝ }
+    requires { ⌜ Listed (now types) (now index) listed × Passable (now text) (now out) (now frames) (now stack) (now table) pass ⌝ }
+    ensures { λ r. ⌜ ReadsToken (chosen (now (types .entry))) (now (text .entry)) (now (out .entry)) (now (frames .entry)) (now (stack .entry)) (now (table .entry)) pass r (now (out .exit)) (now (frames .exit)) (now (stack .exit)) (now (table .exit)) ⌝ }
 {
     let token = next_token(text, pass.at, pass.line, pass.operand);
     if token.kind == MALFORMED {
@@ -140,7 +144,7 @@ pub fn read_token(
     let names = Names {
         class: numbers.class,
         name: numbers.name,
-        resource: resource_tag(text, token),
+        resource: resource_tag(types, index, listed, text, token),
     };
     let machine = pass.machine;
     let building = word_for(machine.building, token.kind);
@@ -174,6 +178,9 @@ pub enum ReadText {
 
 // All tokens of a text.
 pub fn read_text(
+    types: &[u8],
+    index: &[u8],
+    listed: u16,
     text: &[u8],
     out: &mut [u8],
     frames: &mut [u8],
@@ -181,8 +188,8 @@ pub fn read_text(
     table: &mut [u8],
     count: usize,
 ) -> ReadText
-    requires { ⌜ Readable (now text) (now out) (now frames) (now stack) (now table) count ⌝ }
-    ensures { λ r. ⌜ TextRead (now (text .entry)) (strings (now (text .entry)) (now (table .entry)) count) r (now (out .exit)) (now (table .exit)) ⌝ }
+    requires { ⌜ Listed (now types) (now index) listed × Readable (now text) (now out) (now frames) (now stack) (now table) count ⌝ }
+    ensures { λ r. ⌜ TextRead (chosen (now (types .entry))) (now (text .entry)) (strings (now (text .entry)) (now (table .entry)) count) r (now (out .exit)) (now (table .exit)) ⌝ }
 {
     let top = push(stack, 1, MANIFEST);
     let mut pass = Pass {
@@ -196,7 +203,7 @@ pub fn read_text(
         count: count,
     };
     loop {
-        match read_token(text, out, frames, stack, table, pass) {
+        match read_token(types, index, listed, text, out, frames, stack, table, pass) {
             Read::On(next) => pass = next,
             Read::Done(last) => {
                 let machine = last.machine;

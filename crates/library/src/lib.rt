@@ -77,7 +77,7 @@ fn text_word(answer: notation::Answer) -> u64
 // The manifest of a text.
 #[no_mangle]
 pub extern "C" fn rigbanut_convert(text: &[u8], out: &mut [u8], work: &mut [u8]) -> u64
-    ensures { λ r. ⌜ Tells (convert (now (text .entry)) (length (now (out .entry))) (length (now (work .entry)))) (now (out .exit)) (now (work .exit)) r ⌝ }
+    ensures { λ r. ⌜ Tells (convert theEight (now (text .entry)) (length (now (out .entry))) (length (now (work .entry)))) (now (out .exit)) (now (work .exit)) r ⌝ }
 {
     let answer = converter::convert(text, out, work);
     text_word(answer)
@@ -86,9 +86,36 @@ pub extern "C" fn rigbanut_convert(text: &[u8], out: &mut [u8], work: &mut [u8])
 // The text of a manifest.
 #[no_mangle]
 pub extern "C" fn rigbanut_print(manifest: &[u8], out: &mut [u8], work: &mut [u8]) -> u64
-    ensures { λ r. ⌜ Tells (print (now (manifest .entry)) (length (now (out .entry))) (length (now (work .entry)))) (now (out .exit)) (now (work .exit)) r ⌝ }
+    ensures { λ r. ⌜ Tells (print theEight (now (manifest .entry)) (length (now (out .entry))) (length (now (work .entry)))) (now (out .exit)) (now (work .exit)) r ⌝ }
 {
     let answer = printer::print(manifest, out, work);
+    text_word(answer)
+}
+
+// The same two with a list of types, which replaces the eight.
+#[no_mangle]
+pub extern "C" fn rigbanut_convert_with_types(
+    types: &[u8],
+    text: &[u8],
+    out: &mut [u8],
+    work: &mut [u8],
+) -> u64
+    ensures { λ r. ⌜ Tells (convert (lent (now (types .entry))) (now (text .entry)) (length (now (out .entry))) (length (now (work .entry)))) (now (out .exit)) (now (work .exit)) r ⌝ }
+{
+    let answer = converter::convert_with_types(types, text, out, work);
+    text_word(answer)
+}
+
+#[no_mangle]
+pub extern "C" fn rigbanut_print_with_types(
+    types: &[u8],
+    manifest: &[u8],
+    out: &mut [u8],
+    work: &mut [u8],
+) -> u64
+    ensures { λ r. ⌜ Tells (print (lent (now (types .entry))) (now (manifest .entry)) (length (now (out .entry))) (length (now (work .entry)))) (now (out .exit)) (now (work .exit)) r ⌝ }
+{
+    let answer = printer::print_with_types(types, manifest, out, work);
     text_word(answer)
 }
 

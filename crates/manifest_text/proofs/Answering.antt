@@ -8,6 +8,8 @@ use borrow.Author.Tests.{lt-ltb}
 use lib.Dec.{eqb}
 use lib.ListN.{length, take, length-append}
 use lib.Seq.{take-all, take-append-seam}
+use Rattle.rules.specs.Compile.{checked}
+use Rattle.rules.specs.Types.{theEight, checkTypes}
 use Rattle.values.specs.declared.Reason.{Reason}
 use Rattle.values.specs.declared.Reason.the-variants.{OutsideNotation, ManifestLength}
 use Rattle.values.specs.Numbers.{numberOf}
@@ -70,25 +72,25 @@ module _ (word : List ℕ) (number : ℕ) (bytes : List ℕ) where
 -- ---- 65,536 bytes of what is given are enough
 
 -- what is longer is refused for its length, whatever follows
-long-text : (given : List ℕ) → 65535 < length given → converted given 65535 65536 ≡ refused OutsideNotation 0
-unfolding converted refuseIf _>>=_
+long-text : (given : List ℕ) → 65535 < length given → converted theEight given 65535 65536 ≡ refused OutsideNotation 0
+unfolding converted checked checkTypes refuseIf _>>=_
 long-text given long = rw (lt-ltb 65535 (length given) long) refl
 
-long-manifest : (given : List ℕ) → 65535 < length given → printedText given 65535 65536 ≡ refused ManifestLength 0
-unfolding printedText refuseIf _>>=_
+long-manifest : (given : List ℕ) → 65535 < length given → printedText theEight given 65535 65536 ≡ refused ManifestLength 0
+unfolding printedText checked checkTypes refuseIf _>>=_
 long-manifest given long = rw (lt-ltb 65535 (length given) long, or-true (eqb (length given) 0)) refl
 
 same-effect : (f : List ℕ → Outcome (List ℕ)) {r : Reason} → ((given : List ℕ) → 65535 < length given → f given ≡ refused r 0) → (given : List ℕ) → effectText (effectOf 65535 65536 (f (take 65536 given))) ≡ effectText (effectOf 65535 65536 (f given))
 same-effect f long given = ap (λ (o : Outcome (List ℕ)). effectText (effectOf 65535 65536 o)) (same-beyond 65535 f long given)
 
 -- nothing is said of a place in a text that is too long
-same-told : (given : List ℕ) (field : ℕ) {room place : ℕ} → PlaceTold (take 65536 given) field room place → PlaceTold given field room place
+same-told : (given : List ℕ) (field : ℕ) {room place : ℕ} → PlaceTold theEight (take 65536 given) field room place → PlaceTold theEight given field room place
 same-told given field {room} {place} h = record { low = h .low; right = λ short. (rw (take-all 65536 given (omega arith)) at h) .right short }
 
 same-answer : (command : Command) (given answer : List ℕ) → Answers command (take 65536 given) answer → Answers command given answer
 unfolding Answers convert print
-same-answer Convert given answer h = h ∙ same-effect (λ t. converted t 65535 65536) long-text given
-same-answer Print given answer h = h ∙ same-effect (λ m. printedText m 65535 65536) long-manifest given
+same-answer Convert given answer h = h ∙ same-effect (λ t. converted theEight t 65535 65536) long-text given
+same-answer Print given answer h = h ∙ same-effect (λ m. printedText theEight m 65535 65536) long-manifest given
 same-answer (Place field) given answer h = record { place = h .place; told = same-told given field (h .told); line = h .line }
 same-answer Unknown given answer h = h
 

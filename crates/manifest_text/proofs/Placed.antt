@@ -5,6 +5,7 @@ use mathlib.Core.List.{List, []}
 use native.Mathlib.Omega.{arith}
 use lib.Dec.{lit≤}
 use lib.ListN.{length}
+use Rattle.rules.specs.Types.{theEight}
 use Rattle.rules.specs.Outcome.{done}
 use Rattle.notation.specs.Building.{Nodes}
 use Rattle.notation.specs.Lexing.{tokens}
@@ -19,15 +20,15 @@ use Rattle.manifest_text.specs.Answers.{placeLine, Answers}
 -- the manifest m is that of some items of the text, and for each of its fields that begins at the offset the answer has the place that it came with
 pub record Placed (given m : List ℕ) (offset : ℕ) (answer : List ℕ) : Type 0 where
   pub items : Nodes
-  pub read : textItems (tokens given) ≡ done items
+  pub read : textItems theEight (tokens given) ≡ done items
   pub same : manifestBytes (tokens given) items ≡ m
   pub told : (place : ℕ) → Begins (manifestFields (tableBehind (tokens given) []) items) offset place → answer ≡ placeLine place
 
-pub converted-placed : (given m : List ℕ) (offset : ℕ) (answer : List ℕ) → converted given 65535 65536 ≡ done m → Answers (Place offset) given answer → Placed given m offset answer
+pub converted-placed : (given m : List ℕ) (offset : ℕ) (answer : List ℕ) → converted theEight given 65535 65536 ≡ done m → Answers (Place offset) given answer → Placed given m offset answer
 unfolding Answers
 converted-placed given m offset answer e x =
-    let s = converted-steps given m 65535 65536 e in
-    let meant = converted-meant given m 65535 65536 e in
+    let s = converted-steps theEight given m 65535 65536 e in
+    let meant = converted-meant theEight given m 65535 65536 e in
     let short : length (manifestBytes (tokens given) (s .items)) ≤ 65535 = omega (arith, ap length (s .same), meant .manifestLength) in
     record {
       items = s .items;

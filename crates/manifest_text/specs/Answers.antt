@@ -4,6 +4,7 @@ use mathlib.Core.Path.{_≡_}
 use mathlib.Core.Bool.{Bool, true}
 use mathlib.Core.List.{List, [], _∷_, _++_}
 use lib.ListN.{length, take}
+use Rattle.rules.specs.Types.{theEight}
 use Rattle.values.specs.Numbers.{numberOf}
 use Rattle.rules.specs.Schedule.{decimal, refusalLine, beforeFeed, afterFeed}
 use Rattle.notation.specs.declared.Answer.{Answer}
@@ -43,15 +44,15 @@ placeLine place = numberedText (112 ∷ 108 ∷ 97 ∷ 99 ∷ 101 ∷ 32 ∷ [])
 -- the offset. It is left free, below 65,536, where the text is refused, where its manifest is longer than 65,535 bytes, and where no field begins at the offset
 pub record PlaceAnswer (given : List ℕ) (field : ℕ) (answer : List ℕ) : Type 0 where
   pub place : ℕ
-  pub told : PlaceTold given field 262144 place
+  pub told : PlaceTold theEight given field 262144 place
   pub line : answer ≡ placeLine place
 
 -- ---- Answers
 
 -- whether this is an answer. 65,535 bytes of output and 65,536 of memory are lent; for an unknown first line nothing is written
 unfoldable pub Answers : Command → (given answer : List ℕ) → Type 0
-Answers Convert given answer = answer ≡ effectText (convert given 65535 65536)
-Answers Print given answer = answer ≡ effectText (print given 65535 65536)
+Answers Convert given answer = answer ≡ effectText (convert theEight given 65535 65536)
+Answers Print given answer = answer ≡ effectText (print theEight given 65535 65536)
 Answers (Place field) given answer = PlaceAnswer given field answer
 Answers Unknown given answer = answer ≡ []
 

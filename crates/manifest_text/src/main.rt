@@ -8,6 +8,7 @@ ghost use mathlib.Core.List.{List};
 ghost use Prim.Native.Nat.{ℕ, _+_, _≤_};
 ghost use lib.ListN.{length};
 ghost use Rattle.values.specs.Numbers.{numberOf};
+ghost use Rattle.rules.specs.Types.{theEight};
 ghost use Rattle.rules.specs.Schedule.{refusalLine};
 ghost use Rattle.notation.specs.Convert.{convert};
 ghost use Rattle.notation.specs.Printer.{print};
@@ -106,14 +107,14 @@ fn command_of(line: &[u8]) -> Command
 // ---- The calls, with 65,535 bytes of output and 65,536 of memory
 
 fn convert_given(given: &[u8], out: &mut [u8; 65535]) -> Answer
-    ensures { λ r. ⌜ (r ≡ convert (now (given .entry)) 65535 65536 .answer) × (now (out .exit) ≡ convert (now (given .entry)) 65535 65536 .outputAfter) ⌝ }
+    ensures { λ r. ⌜ (r ≡ convert theEight (now (given .entry)) 65535 65536 .answer) × (now (out .exit) ≡ convert theEight (now (given .entry)) 65535 65536 .outputAfter) ⌝ }
 {
     let mut work = [0u8; 65536];
     converter::convert(given, out, &mut work)
 }
 
 fn print_given(given: &[u8], out: &mut [u8; 65535]) -> Answer
-    ensures { λ r. ⌜ (r ≡ print (now (given .entry)) 65535 65536 .answer) × (now (out .exit) ≡ print (now (given .entry)) 65535 65536 .outputAfter) ⌝ }
+    ensures { λ r. ⌜ (r ≡ print theEight (now (given .entry)) 65535 65536 .answer) × (now (out .exit) ≡ print theEight (now (given .entry)) 65535 65536 .outputAfter) ⌝ }
 {
     let mut work = [0u8; 65536];
     printer::print(given, out, &mut work)
@@ -121,10 +122,10 @@ fn print_given(given: &[u8], out: &mut [u8; 65535]) -> Answer
 
 // The place in a text of the field at an offset of its tagged form. The log is long enough for every text that is converted.
 fn place_given(given: &[u8], field: usize) -> usize
-    ensures { λ r. ⌜ PlaceTold (now (given .entry)) field 262144 r ⌝ }
+    ensures { λ r. ⌜ PlaceTold theEight (now (given .entry)) field 262144 r ⌝ }
 {
     let mut log = [0u8; 262144];
-    field_place(given, field, &mut log)
+    field_place(b"", given, field, &mut log)
 }
 
 // ---- Writing: `sent` bytes of an answer to `command` for `given` are written out. Nothing but `write` changes `sent`, or writes to standard output.

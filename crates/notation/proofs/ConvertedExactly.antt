@@ -9,6 +9,9 @@ use lib.ListN.{length}
 use borrow.Author.Tests.{ltb-false, le-ltb}
 use Rattle.rules.specs.Outcome.{done, _>>=_, refuseIf}
 use Rattle.rules.proofs.Lists.{either-left, either-right}
+use Rattle.rules.specs.Compile.{checked}
+use Rattle.rules.specs.declared.Verdict.the-variants.{Sound}
+use Rattle.rules.specs.Types.{Types, checkTypes}
 use Rattle.notation.specs.Lexing.{tokens}
 use Rattle.notation.specs.Building.{Nodes, frame, Build, build, start}
 use Rattle.notation.specs.Grammar.{Reads, manifest, Ended, built, fault, reading}
@@ -22,12 +25,13 @@ abbrev pub partsOf : Build → Nodes
 partsOf (build b (frame p t h ks) fs) = ks
 
 -- the grammar gives the text a tree; document 01's limits hold: strings, lines of constants, lengths of text and manifest; memory and output suffice; and m is the tree written
-pub record Meant (given : List ℕ) (outputLength memoryLength : ℕ) (m : List ℕ) : Type 0 where
+pub record Meant (types : Types) (given : List ℕ) (outputLength memoryLength : ℕ) (m : List ℕ) : Type 0 where
   pub tree : Build
-  pub reads : Reads manifest (tokens given) start tree
+  pub reads : Reads types manifest (tokens given) start tree
   pub fewStrings : crowdedAt (tokens given) [] ≡ none
   pub earlyLines : lateAmong (partsOf tree) ≡ none
   pub memory : 65536 ≤ memoryLength
+  pub listed : checkTypes types ≡ Sound
   pub textLength : length given ≤ 65535
   pub same : manifestBytes (tokens given) (partsOf tree) ≡ m
   pub manifestLength : length m ≤ 65535
@@ -48,19 +52,20 @@ read-whole (fault p) none items e = refused-not-done e
 read-whole (fault p) (some q) items e = refused-not-done e
 
 -- THE LAW: what converting gives is meant
-pub converted-meant : (given m : List ℕ) (outputLength memoryLength : ℕ) → converted given outputLength memoryLength ≡ done m → Meant given outputLength memoryLength m
+pub converted-meant : (types : Types) (given m : List ℕ) (outputLength memoryLength : ℕ) → converted types given outputLength memoryLength ≡ done m → Meant types given outputLength memoryLength m
 unfolding textItems tooLong
-converted-meant given m outputLength memoryLength e =
-    let s = converted-steps given m outputLength memoryLength e in
+converted-meant types given m outputLength memoryLength e =
+    let s = converted-steps types given m outputLength memoryLength e in
     let written : List ℕ = manifestBytes (tokens given) (s .items) in
-    let w = read-whole (reading (tokens given)) (crowdedAt (tokens given) []) (s .items) (s .read) in
+    let w = read-whole (reading types (tokens given)) (crowdedAt (tokens given) []) (s .items) (s .read) in
     let long = subst (λ (n : List ℕ). tooLong n outputLength ≡ false) (s .same) (s .long) in
     record {
       tree = w .tree;
-      reads = reading-sound (tokens given) (w .tree) (w .read);
+      reads = reading-sound types (tokens given) (w .tree) (w .read);
       fewStrings = w .few;
       earlyLines = rw (w .parts) (s .late);
       memory = ltb-false memoryLength 65536 (s .memory);
+      listed = s .listed;
       textLength = ltb-false 65535 (length given) (s .short);
       same = rw (w .parts) (s .same);
       manifestLength = ltb-false 65535 (length m) (either-left (ltb 65535 (length m)) (ltb outputLength (length m)) long);
@@ -72,10 +77,10 @@ unfolding readText
 parts-read (build b (frame p t h ks) fs) = refl
 
 -- THE LAW: what is meant is what converting gives
-pub meant-converted : (given m : List ℕ) (outputLength memoryLength : ℕ) → Meant given outputLength memoryLength m → converted given outputLength memoryLength ≡ done m
-unfolding converted textItems tooLong _>>=_ refuseIf refuseAt
-meant-converted given m outputLength memoryLength x =
+pub meant-converted : (types : Types) (given m : List ℕ) (outputLength memoryLength : ℕ) → Meant types given outputLength memoryLength m → converted types given outputLength memoryLength ≡ done m
+unfolding converted checked textItems tooLong _>>=_ refuseIf refuseAt
+meant-converted types given m outputLength memoryLength x =
     let written : List ℕ = manifestBytes (tokens given) (partsOf (x .tree)) in
     let few : ltb 65535 (length written) ≡ false = le-ltb 65535 (length written) (rw (x .same) (x .manifestLength)) in
     let fits : ltb outputLength (length written) ≡ false = le-ltb outputLength (length written) (rw (x .same) (x .outputFits)) in
-    rw (converted, le-ltb memoryLength 65536 (x .memory), le-ltb 65535 (length given) (x .textLength), reading-complete (x .reads), x .fewStrings, parts-read (x .tree), x .earlyLines, few, fits) (ap done (x .same))
+    rw (converted, le-ltb memoryLength 65536 (x .memory), x .listed, le-ltb 65535 (length given) (x .textLength), reading-complete types (x .reads), x .fewStrings, parts-read (x .tree), x .earlyLines, few, fits) (ap done (x .same))

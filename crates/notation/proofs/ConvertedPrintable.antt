@@ -9,6 +9,7 @@ use Rattle.rules.specs.Fields.{Fields, none as noFields, readAll, writeAll, inn
 use Rattle.rules.specs.Outcome.{done}
 use Rattle.rules.specs.Read.{stringsFrom, manifestFrom, manifestOf}
 use Rattle.rules.proofs.TypedBack.{unplacedAll}
+use Rattle.rules.specs.Types.{Types}
 use Rattle.notation.specs.Tokens.{Lexeme}
 use Rattle.notation.specs.Lexing.{tokens}
 use Rattle.notation.specs.Building.{Nodes}
@@ -33,29 +34,29 @@ unfolding manifestFields first inner
 strings-of table items = strings-back table
 
 -- going over its items stops nowhere
-items-passed : (table : List (List ℕ)) → length table ≤ 1024 → {l : ℕ} {items : Nodes} → AllRise 0 items l → AllFormed (Numbered table) items → overAll table (others (manifestFields table items)) 0 ≡ past l
+items-passed : (types : Types) (table : List (List ℕ)) → length table ≤ 1024 → {l : ℕ} {items : Nodes} → AllRise 0 items l → AllFormed types (Numbered table) items → overAll types table (others (manifestFields table items)) 0 ≡ past l
 unfolding manifestFields others over
-items-passed table few r all = over-nodes table few r all noFields
+items-passed types table few r all = over-nodes types table few r all noFields
 
 -- a text that is read whole gives a manifest that can be printed
-manifest-printable : (xs : List Lexeme) (items : Nodes) → ReadWhole xs items → lateAmong items ≡ none → Lines 0 xs → unprintableAt (manifestBytes xs items) ≡ none
+manifest-printable : (types : Types) (xs : List Lexeme) (items : Nodes) → ReadWhole types xs items → lateAmong items ≡ none → Lines 0 xs → unprintableAt types (manifestBytes xs items) ≡ none
 unfolding unprintableAt manifestOf manifestFrom manifestBytes
-manifest-printable xs items r late lines =
+manifest-printable types xs items r late lines =
     let table : List (List ℕ) = tableBehind xs [] in
     let fields : Fields = manifestFields table items in
     let read : Fields = readAll (writeAll fields) in
-    let back : unplacedAll read ≡ unplacedAll fields = read-back fields (manifest-complete r late) in
+    let back : unplacedAll read ≡ unplacedAll fields = read-back fields (manifest-complete types r late) in
     let strings : stringsFrom (inner (first read)) ≡ table = sym (table-unplaced read) ∙ ap (λ (ks : Fields). stringsFrom (inner (first ks))) back ∙ table-unplaced fields ∙ strings-of table items in
-    let rise = tree-rises xs items lines (r .whole) in
-    let passed : overAll table (others fields) 0 ≡ past (rise .last) = items-passed table (r .few) (rise .rise) (items-has r late .all) in
+    let rise = tree-rises types xs items lines (r .whole) in
+    let passed : overAll types table (others fields) 0 ≡ past (rise .last) = items-passed types table (r .few) (rise .rise) (items-has types r late .all) in
     let kept : unplacedAll (others read) ≡ unplacedAll (others fields) = sym (others-unplaced read) ∙ ap others back ∙ others-unplaced fields in
-    let last : labelAfter (overAll table (others read) 0) ≡ some (rise .last) =
-    sym (over-all-unplaced table (others read) 0) ∙ ap (λ (ks : Fields). labelAfter (overAll table ks 0)) kept ∙ over-all-unplaced table (others fields) 0 ∙ ap labelAfter passed in
-    rw strings (not-stopped (overAll table (others read) 0) (rise .last) last)
+    let last : labelAfter (overAll types table (others read) 0) ≡ some (rise .last) =
+    sym (over-all-unplaced types table (others read) 0) ∙ ap (λ (ks : Fields). labelAfter (overAll types table ks 0)) kept ∙ over-all-unplaced types table (others fields) 0 ∙ ap labelAfter passed in
+    rw strings (not-stopped (overAll types table (others read) 0) (rise .last) last)
 
 -- what converting gives can be printed, apart from its length
-pub converted-printable : (given m : List ℕ) (outputLength memoryLength : ℕ) → IsBytes given → converted given outputLength memoryLength ≡ done m → unprintableAt m ≡ none
-converted-printable given m outputLength memoryLength b e =
-    let s = converted-steps given m outputLength memoryLength e in
-    let w = text-whole (tokens given) (s .items) (tokens-good given b) (s .read) in
-    subst (λ (n : List ℕ). unprintableAt n ≡ none) (s .same) (manifest-printable (tokens given) (s .items) w (s .late) (lines-rise given))
+pub converted-printable : (types : Types) (given m : List ℕ) (outputLength memoryLength : ℕ) → IsBytes given → converted types given outputLength memoryLength ≡ done m → unprintableAt types m ≡ none
+converted-printable types given m outputLength memoryLength b e =
+    let s = converted-steps types given m outputLength memoryLength e in
+    let w = text-whole types (tokens given) (s .items) (tokens-good given b) (s .read) in
+    subst (λ (n : List ℕ). unprintableAt types n ≡ none) (s .same) (manifest-printable types (tokens given) (s .items) w (s .late) (lines-rise given))

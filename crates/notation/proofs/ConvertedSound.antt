@@ -21,12 +21,14 @@ use Rattle.rules.specs.declared.Part.the-variants.{Over, UpTo, Many}
 use Rattle.rules.specs.declared.Verdict.the-variants.{Sound}
 use Rattle.rules.proofs.Lists.{either-left, each-map}
 use Rattle.rules.proofs.Listed.{same, HeadIs}
+use Rattle.rules.specs.Compile.{checked}
+use Rattle.rules.specs.Types.{Types, checkTypes}
 use Rattle.notation.specs.Tokens.{Token, word, number, text, variable, topVariable, classVariable, mark, Lexeme, tokenOf}
 use Rattle.notation.specs.Lexing.{tokens}
 use Rattle.notation.specs.Building.{Nodes, empty, tallest, frame, build}
 use Rattle.notation.specs.Grammar.{Ended, built, fault, reading}
 use Rattle.notation.specs.Convert.{stringsOf, tableBehind, crowdedAt, stringFields, numberedOnto, manifestFields, readText, lateAmong, refuseAt, tooLong, textItems, manifestBytes, converted}
-use Rattle.notation.proofs.Outcomes.{refused-not-done, both-done, not-refused, not-refused-at}
+use Rattle.notation.proofs.Outcomes.{checked-sound, refused-not-done, both-done, not-refused, not-refused-at}
 use Rattle.notation.proofs.Stands.{write-nonempty}
 use Rattle.notation.proofs.Written.{after, noField, alsoField, Complete, ShortText, Right, manifestParts, bytes-right}
 use Rattle.notation.proofs.WrittenNames.{AllKnown, noneKnown, Rising, noString}
@@ -98,24 +100,24 @@ strings-back (s ∷ table) = ap (λ (ss : List (List ℕ)). s ∷ ss) (strings-b
 -- ---- The tree of a manifest
 
 -- a text is read whole: its tree is as listed, and its strings are few and short
-pub record ReadWhole (xs : List Lexeme) (items : Nodes) : Type 0 where
-  pub whole : reading xs ≡ built (build 0 (frame 0 0 [] items) [])
-  pub listed : More (Numbered (tableBehind xs [])) Item empty items
+pub record ReadWhole (types : Types) (xs : List Lexeme) (items : Nodes) : Type 0 where
+  pub whole : reading types xs ≡ built (build 0 (frame 0 0 [] items) [])
+  pub listed : More types (Numbered (tableBehind xs [])) Item empty items
   pub deep : tallest items ≤ 32
   pub few : length (tableBehind xs []) ≤ 1024
   pub short : Each ShortText (tableBehind xs [])
 
-module _ {xs : List Lexeme} {items : Nodes} (r : ReadWhole xs items) (late : lateAmong items ≡ none) where
+module _ (types : Types) {xs : List Lexeme} {items : Nodes} (r : ReadWhole types xs items) (late : lateAmong items ≡ none) where
   abbrev table : List (List ℕ)
   table = tableBehind xs []
 
   -- the items are as listed
-  pub items-has : Has (Numbered table) (three Over (Many Item) Over) items (three Over (Many Item) Over)
-  items-has = has-many-second has-none (r .listed)
+  pub items-has : Has types (Numbered table) (three Over (Many Item) Over) items (three Over (Many Item) Over)
+  items-has = has-many-second types (has-none types) (r .listed)
 
   -- they are right to write, and their names are known
-  items-ready : AllReady table (r .few) 32 (numberedOnto table items noFields)
-  items-ready = all-ready table (r .few) 32 (λ k f l e. node-ready table (r .few) 32 k f l e) (items-has .all) (r .deep) late noFields (record { right = noField; names = noneKnown })
+  items-ready : AllReady types table (r .few) 32 (numberedOnto table items noFields)
+  items-ready = all-ready types table (r .few) 32 (λ k f l e. node-ready types table (r .few) 32 k f l e) (items-has .all) (r .deep) late noFields (record { right = noField; names = noneKnown })
 
   -- the manifest is as listed
   pub manifest-complete : Complete (Right 32) manifestParts (manifestFields table items)
@@ -125,7 +127,7 @@ module _ {xs : List Lexeme} {items : Nodes} (r : ReadWhole xs items) (late : lat
       let head : HeadIs (formOf 0x01) [] = record { count = refl; bytes = no-bytes; first = refl; second = refl } in
       record {
         last = three Over (Many Item) Over;
-        reached = numbered-after table (r .few) (three Over (Many Item) Over) items noFields ∙ rw (items-has .leads);
+        reached = numbered-after types table (r .few) (three Over (Many Item) Over) items noFields ∙ rw (items-has .leads);
         ends = refl;
         each = alsoField {k = field 0 0x01 [] (stringFields table)} (record { tag = omega arith; head = head; fields = strings }) (items-ready .right);
       }
@@ -162,22 +164,22 @@ module _ {xs : List Lexeme} {items : Nodes} (r : ReadWhole xs items) (late : lat
 -- ---- The whole
 
 -- good tokens that are read are read whole
-pub text-whole : (xs : List Lexeme) (items : Nodes) → Each GoodLexeme xs → textItems xs ≡ done items → ReadWhole xs items
+pub text-whole : (types : Types) (xs : List Lexeme) (items : Nodes) → Each GoodLexeme xs → textItems types xs ≡ done items → ReadWhole types xs items
 unfolding textItems readText
-text-whole xs items good e = go (reading xs) refl (crowdedAt xs []) refl e
+text-whole types xs items good e = go (reading types xs) refl (crowdedAt xs []) refl e
   where
-    go : (y : Ended) → reading xs ≡ y → (o : Option ℕ) → crowdedAt xs [] ≡ o → readText y o ≡ done items → ReadWhole xs items
+    go : (y : Ended) → reading types xs ≡ y → (o : Option ℕ) → crowdedAt xs [] ≡ o → readText y o ≡ done items → ReadWhole types xs items
     go (built (build b (frame p t h ks) fs)) i none j e =
-        let tree = tree-listed (Numbered (tableBehind xs [])) xs (build b (frame p t h ks) fs) (good-numbered (tableBehind xs []) good (table-has xs [])) i in
+        let tree = tree-listed types (Numbered (tableBehind xs [])) xs (build b (frame p t h ks) fs) (good-numbered (tableBehind xs []) good (table-has xs [])) i in
         let tree-same = tree .same in
         let kept : tree .nodes ≡ items = cc in
         let last : ks ≡ items = cc in
-        let room = tree-depth xs (build b (frame p t h ks) fs) i .0 in
+        let room = tree-depth types xs (build b (frame p t h ks) fs) i .0 in
         let deep : tallest ks ≤ 32 = omega arith in
-        let all-read : reading xs ≡ built (build 0 (frame 0 0 [] items) []) = cc in
+        let all-read : reading types xs ≡ built (build 0 (frame 0 0 [] items) []) = cc in
         record {
           whole = all-read;
-          listed = subst (λ (js : Nodes). More (Numbered (tableBehind xs [])) Item empty js) kept (tree .listed);
+          listed = subst (λ (js : Nodes). More types (Numbered (tableBehind xs [])) Item empty js) kept (tree .listed);
           deep = subst (λ (js : Nodes). tallest js ≤ 32) last deep;
           few = table-size xs [] (omega arith) j;
           short = table-each [] (each-map (λ (x : Lexeme) g. good-strings (tokenOf x) g) good) noneLeft;
@@ -194,27 +196,30 @@ pub record Manifest (m : List ℕ) : Type 0 where
   pub bytes : IsBytes m
 
 -- a text is converted: it is read whole, no constant is late, and what is written is not too long
-pub record Steps (given m : List ℕ) (outputLength memoryLength : ℕ) : Type 0 where
+pub record Steps (types : Types) (given m : List ℕ) (outputLength memoryLength : ℕ) : Type 0 where
   pub memory : ltb memoryLength 65536 ≡ false
+  pub listed : checkTypes types ≡ Sound
   pub short : ltb 65535 (length given) ≡ false
   pub items : Nodes
-  pub read : textItems (tokens given) ≡ done items
+  pub read : textItems types (tokens given) ≡ done items
   pub late : lateAmong items ≡ none
   pub long : tooLong (manifestBytes (tokens given) items) outputLength ≡ false
   pub same : manifestBytes (tokens given) items ≡ m
 
 -- these are the steps of a converting that ends well
-pub converted-steps : (given m : List ℕ) (outputLength memoryLength : ℕ) → converted given outputLength memoryLength ≡ done m → Steps given m outputLength memoryLength
+pub converted-steps : (types : Types) (given m : List ℕ) (outputLength memoryLength : ℕ) → converted types given outputLength memoryLength ≡ done m → Steps types given m outputLength memoryLength
 unfolding converted
-converted-steps given m outputLength memoryLength e =
+converted-steps types given m outputLength memoryLength e =
     let one = both-done (refuseIf (ltb memoryLength 65536) MemoryTooShort 0) _ m e in
-    let two = both-done (refuseIf (ltb 65535 (length given)) OutsideNotation 0) _ m (one .behind) in
-    let three = both-done (textItems (tokens given)) _ m (two .behind) in
+    let types-checked = both-done (checked (checkTypes types)) _ m (one .behind) in
+    let two = both-done (refuseIf (ltb 65535 (length given)) OutsideNotation 0) _ m (types-checked .behind) in
+    let three = both-done (textItems types (tokens given)) _ m (two .behind) in
     let four = both-done (refuseAt (lateAmong (three .between)) PastLine255) _ m (three .behind) in
     let five = both-done (refuseIf (tooLong (manifestBytes (tokens given) (three .between)) outputLength) OutsideNotation 0) _ m (four .behind) in
     let last = five .behind in
     record {
       memory = not-refused (ltb memoryLength 65536) MemoryTooShort 0 (one .before);
+      listed = checked-sound (checkTypes types) (types-checked .before);
       short = not-refused (ltb 65535 (length given)) OutsideNotation 0 (two .before);
       items = three .between;
       read = three .before;
@@ -224,16 +229,16 @@ converted-steps given m outputLength memoryLength e =
     }
 
 -- what converting gives passes the check
-pub converted-manifest : (given m : List ℕ) (outputLength memoryLength : ℕ) → IsBytes given → converted given outputLength memoryLength ≡ done m → Manifest m
+pub converted-manifest : (types : Types) (given m : List ℕ) (outputLength memoryLength : ℕ) → IsBytes given → converted types given outputLength memoryLength ≡ done m → Manifest m
 unfolding tooLong
-converted-manifest given m outputLength memoryLength b e =
-    let s = converted-steps given m outputLength memoryLength e in
-    let w = text-whole (tokens given) (s .items) (tokens-good given b) (s .read) in
+converted-manifest types given m outputLength memoryLength b e =
+    let s = converted-steps types given m outputLength memoryLength e in
+    let w = text-whole types (tokens given) (s .items) (tokens-good given b) (s .read) in
     let written : List ℕ = manifestBytes (tokens given) (s .items) in
     let short = ltb-false 65535 (length written) (either-left (ltb 65535 (length written)) (ltb outputLength (length written)) (s .long)) in
-    let all : Manifest written = record { sound = manifest-sound w (s .late); begun = manifest-begun w (s .late); short = short; bytes = manifest-bytes w (s .late) (omega arith) } in
+    let all : Manifest written = record { sound = manifest-sound types w (s .late); begun = manifest-begun types w (s .late); short = short; bytes = manifest-bytes types w (s .late) (omega arith) } in
     subst Manifest (s .same) all
 
 -- so it passes the check
-pub converted-sound : (given m : List ℕ) (outputLength memoryLength : ℕ) → IsBytes given → converted given outputLength memoryLength ≡ done m → check m ≡ Sound
-converted-sound given m outputLength memoryLength b e = converted-manifest given m outputLength memoryLength b e .sound
+pub converted-sound : (types : Types) (given m : List ℕ) (outputLength memoryLength : ℕ) → IsBytes given → converted types given outputLength memoryLength ≡ done m → check m ≡ Sound
+converted-sound types given m outputLength memoryLength b e = converted-manifest types given m outputLength memoryLength b e .sound

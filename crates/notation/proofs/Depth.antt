@@ -9,6 +9,7 @@ use lib.Dec.{leb, ltb}
 use lib.ListN.{length}
 use borrow.Author.Tests.{leb-true}
 use Rattle.rules.specs.Bytes.{pick}
+use Rattle.rules.specs.Types.{Types}
 use Rattle.notation.specs.Tokens.{Lexeme, lexeme, word, number, text, variable, topVariable, classVariable, mark, tokenOf, placeOf}
 use Rattle.notation.specs.Building.{name, Node, node, Nodes, empty, _▸_, height, tallest, Frame, frame, Build, build, Action, begin, beginResource, around, instead, close, constant, read, named, parentFirst, void, enter, leave, leaf, spelled, constantNode, variableNode, added, addedFirst, inFront, begun, act, acts, start}
 use Rattle.notation.specs.Grammar.{Symbol, Reads, done, takes, leaves, manifest, built, reading}
@@ -61,9 +62,9 @@ unfolding inFront height
 front-tallest k empty = refl
 front-tallest k (ks ▸ j) = let others = front-tallest k ks in omega arith
 
-module _ (x : Lexeme) where
+module _ (types : Types) (x : Lexeme) where
   -- one action keeps room
-  room-act : (a : Action) (f g : Build) → act a x f ≡ some g → InRoom f → InRoom g
+  room-act : (a : Action) (f g : Build) → act types a x f ≡ some g → InRoom f → InRoom g
   unfolding act added addedFirst begun height
   room-act (begin t) (build b (frame q u i ks) fs) g e w = room-fitted (length fs + 1) _ g (λ l. (omega arith, w)) e
   room-act beginResource (build b (frame q u i ks) fs) g e w = room-fitted (length fs + 1) _ g (λ l. (omega arith, w)) e
@@ -83,22 +84,22 @@ module _ (x : Lexeme) where
   room-act leave (build (suc b) (frame q u i ks) fs) g e w = subst InRoom (same-result _ g e) w
 
   -- some actions
-  room-acts : (ds : List Action) (f g : Build) → acts ds x f ≡ some g → InRoom f → InRoom g
+  room-acts : (ds : List Action) (f g : Build) → acts types ds x f ≡ some g → InRoom f → InRoom g
   unfolding acts
   room-acts [] f g e w = subst InRoom (same-result f g e) w
-  room-acts (a ∷ ds) f g e w = go (act a x f) refl (λ h i v. room-acts ds h g i v) e
+  room-acts (a ∷ ds) f g e w = go (act types a x f) refl (λ h i v. room-acts ds h g i v) e
     where
-      go : (o : Option Build) → act a x f ≡ o → ((h : Build) → acts ds x h ≡ some g → InRoom h → InRoom g) → _≡_ {A = Option Build} (elim o as (λ q. Option Build) [ none ↦ none | some h ↦ acts ds x h ]) (some g) → InRoom g
+      go : (o : Option Build) → act types a x f ≡ o → ((h : Build) → acts types ds x h ≡ some g → InRoom h → InRoom g) → _≡_ {A = Option Build} (elim o as (λ q. Option Build) [ none ↦ none | some h ↦ acts types ds x h ]) (some g) → InRoom g
       go none h others e = none-not-some e
       go (some i) h others e = others i e (room-act a f i h w)
 
 -- a reading keeps room
-room-read : {k : List Symbol} {xs : List Lexeme} {f g : Build} → Reads k xs f g → InRoom f → InRoom g
-room-read done w = w
-room-read (takes {ds = ds} {x = x} {f = f} {f′ = h} e i r) w = room-read r (room-acts x ds f h i w)
-room-read (leaves {ds = ds} {x = x} {f = f} {f′ = h} e i r) w = room-read r (room-acts x ds f h i w)
+room-read : (types : Types) {k : List Symbol} {xs : List Lexeme} {f g : Build} → Reads types k xs f g → InRoom f → InRoom g
+room-read types done w = w
+room-read types (takes {ds = ds} {x = x} {f = f} {f′ = h} e i r) w = room-read types r (room-acts types x ds f h i w)
+room-read types (leaves {ds = ds} {x = x} {f = f} {f′ = h} e i r) w = room-read types r (room-acts types x ds f h i w)
 
 -- the tree that a text builds has at most 32 levels
-pub tree-depth : (xs : List Lexeme) (g : Build) → reading xs ≡ built g → InRoom g
+pub tree-depth : (types : Types) (xs : List Lexeme) (g : Build) → reading types xs ≡ built g → InRoom g
 unfolding reading height
-tree-depth xs g e = room-read (sound xs manifest start g e) (omega arith, tt)
+tree-depth types xs g e = room-read types (sound types xs manifest start g e) (omega arith, tt)

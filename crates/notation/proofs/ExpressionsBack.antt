@@ -15,6 +15,7 @@ use Rattle.values.specs.declared.Value.{Value}
 use Rattle.values.specs.declared.Value.the-variants.{Integer, String, Boolean}
 use Rattle.rules.specs.Tree.{Constant, Operator, plus, minus, divide, greater, equal, and, or, Expression, constant, variable, topVariable, classVariable, operation, negation, attributeRead, selector, Arms, noArm, arm, defaultArm}
 use Rattle.rules.specs.Tree
+use Rattle.rules.specs.Types.{Types}
 use Rattle.notation.specs.Tokens.{Lexeme, lexeme, kind, tokenOf, rightRound, leftBrace, rightBrace, arrow, comma, question, defaultWord}
 use Rattle.notation.specs.Lexing.{find}
 use Rattle.notation.specs.Building.{Piece, byte, Node, Nodes, empty, _▸_, height, tallest, Frame, frame, Build, build, Action, around, acts, act, added, constantNode, variableNode, spelled}
@@ -60,12 +61,12 @@ operator-calm and m h v = h
 operator-calm or m h v = h
 
 -- an expression with an operator of level m outermost, in brackets or not
-in-brackets : (q : Bool) (m : ℕ) (body : ℕ → Rest → List Lexeme) (last : ℕ → ℕ) (v : ℕ) {l : ℕ} → (q ≡ true → l ≤ m) → 1 ≤ m → (x : ℕ → Lexeme) (xs : Rest) {k : List Symbol} {b : ℕ} {f g : Frame} {fs : List Frame} → b < 32 →
-    ((l b′ : ℕ) (x : ℕ → Lexeme) (xs : Rest) (k : List Symbol) → l ≤ m → b′ ≤ suc b → Calm (suc m) (x (last v)) → state (body v (λ u. x u ∷ xs u)) (expression l ∷ k) (build b′ f fs) ⇒ state (x (last v) ∷ xs (last v)) (operators l m ∷ k) (build b′ g fs)) →
-    Calm (suc (pick q m 7)) (x (last v)) → state (bracketed q body v (λ u. x u ∷ xs u)) (expression l ∷ k) (build b f fs) ⇒ state (x (last v) ∷ xs (last v)) (operators l (pick q m 7) ∷ k) (build b g fs)
+in-brackets : (types : Types) (q : Bool) (m : ℕ) (body : ℕ → Rest → List Lexeme) (last : ℕ → ℕ) (v : ℕ) {l : ℕ} → (q ≡ true → l ≤ m) → 1 ≤ m → (x : ℕ → Lexeme) (xs : Rest) {k : List Symbol} {b : ℕ} {f g : Frame} {fs : List Frame} → b < 32 →
+    ((l b′ : ℕ) (x : ℕ → Lexeme) (xs : Rest) (k : List Symbol) → l ≤ m → b′ ≤ suc b → Calm (suc m) (x (last v)) → state types (body v (λ u. x u ∷ xs u)) (expression l ∷ k) (build b′ f fs) ⇒ (state types) (x (last v) ∷ xs (last v)) (operators l m ∷ k) (build b′ g fs)) →
+    Calm (suc (pick q m 7)) (x (last v)) → state types (bracketed q body v (λ u. x u ∷ xs u)) (expression l ∷ k) (build b f fs) ⇒ (state types) (x (last v) ∷ xs (last v)) (operators l (pick q m 7) ∷ k) (build b g fs)
 unfolding rowOf acts act binds
-in-brackets true m body last v i j x xs d bare calm = bare _ _ _ _ _ (i refl) (omega arith) calm
-in-brackets false m body last v i j x xs d bare calm = take-enter refl d ▹ bare 1 _ (λ u. the u rightRound) (λ u. x u ∷ xs u) _ j (omega arith) tt ▹ operators-pass tt ▹ take refl refl
+in-brackets types true m body last v i j x xs d bare calm = bare _ _ _ _ _ (i refl) (omega arith) calm
+in-brackets types false m body last v i j x xs d bare calm = take-enter types refl d ▹ bare 1 _ (λ u. the u rightRound) (λ u. x u ∷ xs u) _ j (omega arith) tt ▹ (operators-pass types) tt ▹ (take types) refl refl
 
 at-least : (q : Bool) (m n j : ℕ) → (q ≡ true → n ≤ m) → n ≤ j + 7 → n ≤ j + pick q m 7
 at-least true m n j e h = let i = e refl in omega arith
@@ -117,12 +118,12 @@ top-above (attributeRead p t m a) n j h = h
 top-above (selector p a s) n j h = at-least (leb n 3) 3 n j (leb-true n 3) h
 top-above (Expression.unreadable p) n j h = h
 
-module _ (S : ℕ → List ℕ) where
+module _ (types : Types) (S : ℕ → List ℕ) where
   -- printed at level n and read at level l, e is read whole, and operators as loose as its own may follow
   pub record Back (e : Expression) : Type 0 where
     pub back : {n l : ℕ} → l ≤ n → n ≤ 8 → (v : ℕ) (x : ℕ → Lexeme) (xs : Rest) {k : List Symbol} {b q t : ℕ} {h : List Piece} {ks : Nodes} {fs : List Frame} →
         Calm (suc (topOf e n)) (x (lastLine e v)) → length fs + height (nodeOf S e) ≤ 32 → b + height (nodeOf S e) ≤ 33 →
-        state (printed S e n v (λ u. x u ∷ xs u)) (expression l ∷ k) (build b (frame q t h ks) fs) ⇒ state (x (lastLine e v) ∷ xs (lastLine e v)) (operators l (topOf e n) ∷ k) (build b (frame q t h (ks ▸ nodeOf S e)) fs)
+        state types (printed S e n v (λ u. x u ∷ xs u)) (expression l ∷ k) (build b (frame q t h ks) fs) ⇒ (state types) (x (lastLine e v) ∷ xs (lastLine e v)) (operators l (topOf e n) ∷ k) (build b (frame q t h (ks ▸ nodeOf S e)) fs)
 
   -- ---- Constants and variables
 
@@ -140,7 +141,7 @@ module _ (S : ℕ → List ℕ) where
   constant-node (Boolean true) l = refl
   constant-node (Boolean false) l = refl
 
-  pub constant-added : (c : Constant) (f : Build) → act Action.constant (constantLexeme S c) f ≡ added (constantNodeOf S c) f
+  pub constant-added : (c : Constant) (f : Build) → act types Action.constant (constantLexeme S c) f ≡ added (constantNodeOf S c) f
   unfolding act
   constant-added c f = ap (λ (q : Node). added q f) (constant-node (c .value) (c .label))
 
@@ -148,29 +149,29 @@ module _ (S : ℕ → List ℕ) where
   unfolding printed nodeOf lastLine
   back-constant c = record {
     back = λ i j v x xs calm deep open-brackets.
-        take-adding (constantNodeOf S c) (constant-row (c .value) _) (constant-added c _) (omega (arith, height-positive (constantNodeOf S c)));
+        take-adding types (constantNodeOf S c) (constant-row (c .value) _) (constant-added c _) (omega (arith, height-positive (constantNodeOf S c)));
   }
 
   back-variable : (p m : ℕ) → Back (variable p m)
   unfolding rowOf act variableNode printed nodeOf lastLine height
-  back-variable p m = record { back = λ i j v x xs calm deep open-brackets. take-adding _ refl refl deep }
+  back-variable p m = record { back = λ i j v x xs calm deep open-brackets. take-adding types _ refl refl deep }
 
   back-top : (p m : ℕ) → Back (topVariable p m)
   unfolding rowOf act variableNode printed nodeOf lastLine height
-  back-top p m = record { back = λ i j v x xs calm deep open-brackets. take-adding _ refl refl deep }
+  back-top p m = record { back = λ i j v x xs calm deep open-brackets. take-adding types _ refl refl deep }
 
   back-class : (p c m : ℕ) → Back (classVariable p c m)
   unfolding rowOf act variableNode printed nodeOf lastLine height
-  back-class p c m = record { back = λ i j v x xs calm deep open-brackets. take-adding _ refl refl deep }
+  back-class p c m = record { back = λ i j v x xs calm deep open-brackets. take-adding types _ refl refl deep }
 
   -- ---- In a place where no operator may follow
 
   pub whole : {e : Expression} → Back e → (l : ℕ) → l ≤ 8 → (v : ℕ) (x : ℕ → Lexeme) (xs : Rest) {k : List Symbol} {b q t : ℕ} {h : List Piece} {ks : Nodes} {fs : List Frame} →
       Calm l (x (lastLine e v)) → length fs + height (nodeOf S e) ≤ 32 → b + height (nodeOf S e) ≤ 33 →
-      state (printed S e l v (λ u. x u ∷ xs u)) (expression l ∷ k) (build b (frame q t h ks) fs) ⇒ state (x (lastLine e v) ∷ xs (lastLine e v)) k (build b (frame q t h (ks ▸ nodeOf S e)) fs)
+      state types (printed S e l v (λ u. x u ∷ xs u)) (expression l ∷ k) (build b (frame q t h ks) fs) ⇒ (state types) (x (lastLine e v) ∷ xs (lastLine e v)) k (build b (frame q t h (ks ▸ nodeOf S e)) fs)
   whole {e} r l i v x xs calm deep open-brackets =
       r .back {n = l} {l = l} (omega arith) i v x xs (calmer (binds (kind (tokenOf (x (lastLine e v))))) (let m = top-above e l 1 (omega arith) in omega arith) calm) deep open-brackets
-      ▹ operators-pass calm
+      ▹ (operators-pass types) calm
 
   -- ---- Operators
 
@@ -180,12 +181,12 @@ module _ (S : ℕ → List ℕ) where
     back = λ {n} i j v x xs {b = b} {fs = fs} calm deep open-brackets.
         let between = level-between o in
         let above-a = top-above a (levelOf o) 0 (omega arith) in
-        in-brackets (leb n (levelOf o)) (levelOf o) _ (λ w. lastLine c (lastLine a w)) v (λ e. let z = leb-true n (levelOf o) e in omega arith) (between .0) x xs (omega (arith, height-positive (nodeOf S a)))
+        in-brackets types (leb n (levelOf o)) (levelOf o) _ (λ w. lastLine c (lastLine a w)) v (λ e. let z = leb-true n (levelOf o) e in omega arith) (between .0) x xs (omega (arith, height-positive (nodeOf S a)))
         (λ l b′ x xs k i′ j′ calm′.
         back-a .back i′ (omega arith) v _ _ (operator-calm o _ (omega arith) (lastLine a v)) (omega arith) (omega arith)
-        ▹ take-around (operator-taken o _ _ i′ (omega arith)) (omega arith)
+        ▹ (take-around types) (operator-taken o _ _ i′ (omega arith)) (omega arith)
         ▹ whole back-c (suc (levelOf o)) (omega arith) _ _ _ calm′ (omega arith) (omega arith)
-        ▹ ends-here)
+        ▹ (ends-here types))
         calm;
   }
 
@@ -193,15 +194,15 @@ module _ (S : ℕ → List ℕ) where
   unfolding printed nodeOf lastLine height rowOf acts
   back-negation p a back-a = record {
     back = λ i j v x xs calm deep open-brackets.
-        take-begin refl (omega arith) refl ▹ whole back-a 8 (omega arith) _ _ _ calm (omega arith) (omega arith) ▹ ends-here;
+        take-begin types refl (omega arith) refl ▹ whole back-a 8 (omega arith) _ _ _ calm (omega arith) (omega arith) ▹ (ends-here types);
   }
 
   back-read : (p u m : ℕ) (a : Expression) → Back a → Back (attributeRead p u m a)
   unfolding printed nodeOf lastLine height rowOf act acts binds constantNode spelled
   back-read p u m a back-a = record {
     back = λ i j v x xs calm deep open-brackets.
-        take-adding _ refl refl (omega arith) ▹ take refl refl ▹ whole back-a 1 (omega arith) _ _ _ tt (omega arith) (omega arith)
-        ▹ take refl refl ▹ take refl refl ▹ take refl refl ▹ take refl refl ▹ ends-here;
+        take-adding types _ refl refl (omega arith) ▹ (take types) refl refl ▹ whole back-a 1 (omega arith) _ _ _ tt (omega arith) (omega arith)
+        ▹ (take types) refl refl ▹ (take types) refl refl ▹ (take types) refl refl ▹ (take types) refl refl ▹ (ends-here types);
   }
 
   -- ---- Selectors
@@ -216,8 +217,8 @@ module _ (S : ℕ → List ℕ) where
   record ArmsBack (s : Arms) : Type 0 where
     arms-back : (v : ℕ) (xs : Rest) {k : List Symbol} {b q t : ℕ} {h : List Piece} {ks : Nodes} {fs : List Frame} →
         length fs + tallest (armsOnto S s ks) ≤ 32 → b + tallest (armsOnto S s ks) ≤ 33 →
-        state (printedArms S s true v (λ u. the u rightBrace ∷ xs u)) (further Entry.arm ∷ k) (build b (frame q t h ks) fs)
-        ⇒ state (the (lastLineArms s v) rightBrace ∷ xs (lastLineArms s v)) k (build b (frame q t h (armsOnto S s ks)) fs)
+        state types (printedArms S s true v (λ u. the u rightBrace ∷ xs u)) (further Entry.arm ∷ k) (build b (frame q t h ks) fs)
+        ⇒ (state types) (the (lastLineArms s v) rightBrace ∷ xs (lastLineArms s v)) k (build b (frame q t h (armsOnto S s ks)) fs)
 
   -- what is printed from them on begins with a token that is no operator
   with-arms : (s : Arms) (P : Rest → Type 0) (xs : Rest) → ((y : ℕ → Lexeme) (ys : Rest) → ((u : ℕ) → Calm 1 (y u)) → P (λ u. y u ∷ ys u)) → P (λ u. printedArms S s true u (λ w. the w rightBrace ∷ xs w))
@@ -243,58 +244,58 @@ module _ (S : ℕ → List ℕ) where
   -- behind a pattern n: the arrow and the expression, up to the next arm
   arm-rest : {a : Expression} → Back a → (v : ℕ) (y : ℕ → Lexeme) (ys : Rest) {n : Node} {k : List Symbol} {b q t : ℕ} {h : List Piece} {ks : Nodes} {fs : List Frame} → ((u : ℕ) → Calm 1 (y u)) →
       suc (length fs) + height (nodeOf S a) ≤ 32 → b + height (nodeOf S a) ≤ 33 →
-      state (the v arrow ∷ printed S a 1 v (λ u. y u ∷ ys u)) (behindPattern ++ k) (build b (frame 0 0x1a [] (empty ▸ n)) (frame q t h ks ∷ fs))
-      ⇒ state (y (lastLine a v) ∷ ys (lastLine a v)) (further Entry.arm ∷ k) (build b (frame q t h (ks ▸ bareNode 0x1a [] (empty ▸ n ▸ nodeOf S a))) fs)
+      state types (the v arrow ∷ printed S a 1 v (λ u. y u ∷ ys u)) (behindPattern ++ k) (build b (frame 0 0x1a [] (empty ▸ n)) (frame q t h ks ∷ fs))
+      ⇒ (state types) (y (lastLine a v) ∷ ys (lastLine a v)) (further Entry.arm ∷ k) (build b (frame q t h (ks ▸ bareNode 0x1a [] (empty ▸ n ▸ nodeOf S a))) fs)
   unfolding rowOf acts binds
-  arm-rest back-a v y ys calm d e = take refl refl ▹ whole back-a 1 (omega arith) _ _ _ (calm _) d e ▹ ends-here
+  arm-rest back-a v y ys calm d e = take types refl refl ▹ whole back-a 1 (omega arith) _ _ _ (calm _) d e ▹ (ends-here types)
 
   -- behind a pattern n, with the arms that follow
   arms-rest : {a : Expression} (s : Arms) → Back a → ArmsBack s → (v : ℕ) (xs : Rest) (n : Node) {k : List Symbol} {b q t : ℕ} {h : List Piece} {ks : Nodes} {fs : List Frame} →
       length fs + tallest (armsOnto S s (ks ▸ bareNode 0x1a [] (empty ▸ n ▸ nodeOf S a))) ≤ 32 → b + tallest (armsOnto S s (ks ▸ bareNode 0x1a [] (empty ▸ n ▸ nodeOf S a))) ≤ 33 →
-      state (the v arrow ∷ printed S a 1 v (λ u. printedArms S s true u (λ w. the w rightBrace ∷ xs w))) (behindPattern ++ k) (build b (frame 0 0x1a [] (empty ▸ n)) (frame q t h ks ∷ fs))
-      ⇒ state (the (lastLineArms s (lastLine a v)) rightBrace ∷ xs (lastLineArms s (lastLine a v))) k (build b (frame q t h (armsOnto S s (ks ▸ bareNode 0x1a [] (empty ▸ n ▸ nodeOf S a)))) fs)
+      state types (the v arrow ∷ printed S a 1 v (λ u. printedArms S s true u (λ w. the w rightBrace ∷ xs w))) (behindPattern ++ k) (build b (frame 0 0x1a [] (empty ▸ n)) (frame q t h ks ∷ fs))
+      ⇒ (state types) (the (lastLineArms s (lastLine a v)) rightBrace ∷ xs (lastLineArms s (lastLine a v))) k (build b (frame q t h (armsOnto S s (ks ▸ bareNode 0x1a [] (empty ▸ n ▸ nodeOf S a)))) fs)
   unfolding height
   arms-rest {a} s back-a back-s v xs n {k} {b} {q} {t} {h} {ks} {fs} d e =
       let taller = arms-taller s (ks ▸ bareNode 0x1a [] (empty ▸ n ▸ nodeOf S a)) in
       let deep : suc (length fs) + height (nodeOf S a) ≤ 32 = omega arith in
       let open-brackets : b + height (nodeOf S a) ≤ 33 = omega arith in
-      with-arms s (λ rest. state (the v arrow ∷ printed S a 1 v rest) (behindPattern ++ k) (build b (frame 0 0x1a [] (empty ▸ n)) (frame q t h ks ∷ fs))
-      ⇒ state (rest (lastLine a v)) (further Entry.arm ∷ k) (build b (frame q t h (ks ▸ bareNode 0x1a [] (empty ▸ n ▸ nodeOf S a))) fs)) xs
+      with-arms s (λ rest. state types (the v arrow ∷ printed S a 1 v rest) (behindPattern ++ k) (build b (frame 0 0x1a [] (empty ▸ n)) (frame q t h ks ∷ fs))
+      ⇒ (state types) (rest (lastLine a v)) (further Entry.arm ∷ k) (build b (frame q t h (ks ▸ bareNode 0x1a [] (empty ▸ n ▸ nodeOf S a))) fs)) xs
       (λ y ys calm. arm-rest back-a v y ys calm deep open-brackets)
       ▹ back-s .arms-back _ _ d e
 
   -- an arm at a symbol y with which one begins, and the arms that follow
   arm-back : (y : Symbol) → Starts y → (c : Constant) (a : Expression) (s : Arms) → Back a → ArmsBack s → (xs : Rest) {k : List Symbol} {b q t : ℕ} {h : List Piece} {ks : Nodes} {fs : List Frame} →
       length fs + tallest (armsOnto S (arm c a s) ks) ≤ 32 → b + tallest (armsOnto S (arm c a s) ks) ≤ 33 →
-      state (constantLexeme S c ∷ the (c .label) arrow ∷ printed S a 1 (c .label) (λ u. printedArms S s true u (λ w. the w rightBrace ∷ xs w))) (y ∷ k) (build b (frame q t h ks) fs)
-      ⇒ state (the (lastLineArms s (lastLine a (c .label))) rightBrace ∷ xs (lastLineArms s (lastLine a (c .label)))) k (build b (frame q t h (armsOnto S (arm c a s) ks)) fs)
+      state types (constantLexeme S c ∷ the (c .label) arrow ∷ printed S a 1 (c .label) (λ u. printedArms S s true u (λ w. the w rightBrace ∷ xs w))) (y ∷ k) (build b (frame q t h ks) fs)
+      ⇒ (state types) (the (lastLineArms s (lastLine a (c .label))) rightBrace ∷ xs (lastLineArms s (lastLine a (c .label)))) k (build b (frame q t h (armsOnto S (arm c a s) ks)) fs)
   unfolding armsOnto height acts
   arm-back y starts c a s back-a back-s xs {ks = ks} d e =
       let taller = arms-taller s (ks ▸ bareNode 0x1a [] (empty ▸ constantNodeOf S c ▸ nodeOf S a)) in
-      take-begin (starts _ ∙ arm-row (c .value)) (omega arith) (acts-first _ [] _ _ _ (constant-added c _ ∙ added-fits (constantNodeOf S c) _ _ _ _ _ _ (omega (arith, height-positive (nodeOf S a)))))
+      take-begin types (starts _ ∙ arm-row (c .value)) (omega arith) (acts-first types _ [] _ _ _ (constant-added c _ ∙ added-fits (constantNodeOf S c) _ _ _ _ _ _ (omega (arith, height-positive (nodeOf S a)))))
       ▹ arms-rest s back-a back-s _ _ (constantNodeOf S c) d e
 
   default-arm-back : (y : Symbol) → Starts y → (a : Expression) (s : Arms) → Back a → ArmsBack s → (v : ℕ) (xs : Rest) {k : List Symbol} {b q t : ℕ} {h : List Piece} {ks : Nodes} {fs : List Frame} →
       length fs + tallest (armsOnto S (defaultArm a s) ks) ≤ 32 → b + tallest (armsOnto S (defaultArm a s) ks) ≤ 33 →
-      state (the v defaultWord ∷ the v arrow ∷ printed S a 1 v (λ u. printedArms S s true u (λ w. the w rightBrace ∷ xs w))) (y ∷ k) (build b (frame q t h ks) fs)
-      ⇒ state (the (lastLineArms s (lastLine a v)) rightBrace ∷ xs (lastLineArms s (lastLine a v))) k (build b (frame q t h (armsOnto S (defaultArm a s) ks)) fs)
+      state types (the v defaultWord ∷ the v arrow ∷ printed S a 1 v (λ u. printedArms S s true u (λ w. the w rightBrace ∷ xs w))) (y ∷ k) (build b (frame q t h ks) fs)
+      ⇒ (state types) (the (lastLineArms s (lastLine a v)) rightBrace ∷ xs (lastLineArms s (lastLine a v))) k (build b (frame q t h (armsOnto S (defaultArm a s) ks)) fs)
   unfolding armsOnto height acts act
   default-arm-back y starts a s back-a back-s v xs {ks = ks} d e =
       let taller = arms-taller s (ks ▸ bareNode 0x1a [] (empty ▸ defaultNode ▸ nodeOf S a)) in
-      take-begin (starts _) (omega arith) (acts-first (Action.void 0x1b) [] (the v defaultWord) _ _ (added-fits _ _ _ _ _ _ _ (omega (arith, height-positive (nodeOf S a)))))
+      take-begin types (starts _) (omega arith) (acts-first types (Action.void 0x1b) [] (the v defaultWord) _ _ (added-fits _ _ _ _ _ _ _ (omega (arith, height-positive (nodeOf S a)))))
       ▹ arms-rest s back-a back-s _ _ defaultNode d e
 
   back-no-arm : ArmsBack noArm
   unfolding printedArms armsOnto lastLine rowOf leftOut acts
-  back-no-arm = record { arms-back = λ v xs d e. leave refl refl refl }
+  back-no-arm = record { arms-back = λ v xs d e. leave types refl refl refl }
 
   back-arm : (c : Constant) (a : Expression) (s : Arms) → Back a → ArmsBack s → ArmsBack (arm c a s)
   unfolding printedArms lastLine rowOf acts
-  back-arm c a s back-a back-s = record { arms-back = λ v xs d e. take refl refl ▹ arm-back (maybe Entry.arm) (λ m. refl) c a s back-a back-s xs d e }
+  back-arm c a s back-a back-s = record { arms-back = λ v xs d e. take types refl refl ▹ arm-back (maybe Entry.arm) (λ m. refl) c a s back-a back-s xs d e }
 
   back-default : (a : Expression) (s : Arms) → Back a → ArmsBack s → ArmsBack (defaultArm a s)
   unfolding printedArms lastLine rowOf acts
-  back-default a s back-a back-s = record { arms-back = λ v xs d e. take refl refl ▹ default-arm-back (maybe Entry.arm) (λ m. refl) a s back-a back-s _ xs d e }
+  back-default a s back-a back-s = record { arms-back = λ v xs d e. take types refl refl ▹ default-arm-back (maybe Entry.arm) (λ m. refl) a s back-a back-s _ xs d e }
 
   -- each expression of the arms is read back, and so are the arms behind it
   abbrev EachArm : Arms → Type 0
@@ -305,8 +306,8 @@ module _ (S : ℕ → List ℕ) where
   -- the first arm has no comma before it
   first-arm : (s : Arms) → SomeArm s → EachArm s → (v : ℕ) (xs : Rest) {k : List Symbol} {b q t : ℕ} {h : List Piece} {ks : Nodes} {fs : List Frame} →
       length fs + tallest (armsOnto S s ks) ≤ 32 → b + tallest (armsOnto S s ks) ≤ 33 →
-      state (printedArms S s false v (λ u. the u rightBrace ∷ xs u)) (one Entry.arm ∷ k) (build b (frame q t h ks) fs)
-      ⇒ state (the (lastLineArms s v) rightBrace ∷ xs (lastLineArms s v)) k (build b (frame q t h (armsOnto S s ks)) fs)
+      state types (printedArms S s false v (λ u. the u rightBrace ∷ xs u)) (one Entry.arm ∷ k) (build b (frame q t h ks) fs)
+      ⇒ (state types) (the (lastLineArms s v) rightBrace ∷ xs (lastLineArms s v)) k (build b (frame q t h (armsOnto S s ks)) fs)
   unfolding printedArms lastLine rowOf
   first-arm noArm h w v xs d e = absurd h
   first-arm (arm c a s) h w v xs d e = arm-back (one Entry.arm) (λ m. refl) c a s (w .0) (w .1) xs d e
@@ -322,11 +323,11 @@ module _ (S : ℕ → List ℕ) where
     back = λ {n} i j v x xs calm deep open-brackets.
         let taller = arms-taller s (empty ▸ nodeOf S a) in
         let above-a = top-above a 3 0 (omega arith) in
-        in-brackets (leb n 3) 3 _ (λ w. lastLineArms s (lastLine a w)) v (λ e. let z = leb-true n 3 e in omega arith) (omega arith) x xs (omega (arith, height-positive (nodeOf S a)))
+        in-brackets types (leb n 3) 3 _ (λ w. lastLineArms s (lastLine a w)) v (λ e. let z = leb-true n 3 e in omega arith) (omega arith) x xs (omega (arith, height-positive (nodeOf S a)))
         (λ l b′ x xs k i′ j′ calm′.
         back-a .back i′ (omega arith) v _ _ (omega arith) (omega arith) (omega arith)
-        ▹ take-around (selector-taken l (topOf a 3) i′ (omega arith)) (omega arith)
-        ▹ take refl refl ▹ first-arm s some-arm back-s _ _ (omega arith) (omega arith) ▹ take refl refl ▹ ends-here)
+        ▹ (take-around types) (selector-taken l (topOf a 3) i′ (omega arith)) (omega arith)
+        ▹ (take types) refl refl ▹ first-arm s some-arm back-s _ _ (omega arith) (omega arith) ▹ (take types) refl refl ▹ (ends-here types))
         calm;
   }
 

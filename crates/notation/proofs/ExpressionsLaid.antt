@@ -16,6 +16,7 @@ use Rattle.rules.specs.Arithmetic.{fits64}
 use Rattle.rules.specs.Tree.{Constant, Operator, plus, minus, divide, greater, equal, and, or, Expression, constant, variable, topVariable, classVariable, operation, negation, attributeRead, selector, Arms, noArm, arm, defaultArm}
 use Rattle.rules.specs.Tree
 use Rattle.rules.proofs.Within.{false-not-true}
+use Rattle.rules.specs.Types.{Types}
 use Rattle.notation.specs.Tokens.{Token, Lexeme, kind, aVariable, aQualified, leftRound, rightRound, leftBrace, rightBrace, leftSquare, rightSquare, colon, comma, exclamation, arrow, operandBehind}
 use Rattle.notation.specs.Print.{the, Rest, constantsOf, constantsOfArms, lineFor, operatorKind, levelOf, bracketed, separated, valueToken, constantLexeme, printed, printedArms}
 use Rattle.notation.proofs.LaidOut.{operandAfter, Spelled, Layable}
@@ -25,7 +26,7 @@ use Rattle.notation.proofs.Spelled.{ValueFits, Rises, rises-assoc, begi
 abbrev pub Goes : Rest → List Constant → Type 0
 Goes rest more = (w k : ℕ) → eqb k colon ≡ false → Rises w more → Layable (some k) w (rest w)
 
-module _ (S : ℕ → List ℕ) (short : (n : ℕ) → length (S n) ≤ 255) where
+module _ (types : Types) (S : ℕ → List ℕ) (short : (n : ℕ) → length (S n) ≤ 255) where
   -- ---- Constants
 
   value-spelled : (x : Value) → ValueFits x → (before : Option ℕ) → operandAfter before ≡ true → Spelled before (valueToken S x)
@@ -88,7 +89,7 @@ module _ (S : ℕ → List ℕ) (short : (n : ℕ) → length (S n) ≤ 255) whe
   mutual
     unfolding printed constantsOf operandBehind
 
-    pub laid-expression : (e : Expression) → SpelledExpression S e → (more : List Constant) (l v : ℕ) → Rises v (constantsOf e ++ more) → (before : Option ℕ) (u : ℕ) → u ≤ v → operandAfter before ≡ true → (rest : Rest) → Goes rest more → Layable before u (printed S e l v rest)
+    pub laid-expression : (e : Expression) → SpelledExpression types S e → (more : List Constant) (l v : ℕ) → Rises v (constantsOf e ++ more) → (before : Option ℕ) (u : ℕ) → u ≤ v → operandAfter before ≡ true → (rest : Rest) → Goes rest more → Layable before u (printed S e l v rest)
     laid-expression (constant c) s more l v r before u h o rest g = laid-constant c more v r before u h o rest g
     laid-expression (variable p n) s more l v r before u h o rest g = (h, (s, short n), g v aVariable refl r)
     laid-expression (topVariable p n) s more l v r before u h o rest g = (h, (s, short n), g v aQualified refl r)
@@ -124,7 +125,7 @@ module _ (S : ℕ → List ℕ) (short : (n : ℕ) → length (S n) ≤ 255) whe
     laid-expression (Expression.unreadable p) s more l v r before u h o rest g = absurd s
 
     -- arms behind a token of kind k on line v
-    laid-arms : (t : Arms) → SpelledArms S t → (more : List Constant) (later : Bool) (v : ℕ) → Rises v (constantsOfArms t ++ more) → (k : ℕ) → eqb k colon ≡ false → (later ≡ false → operandBehind k ≡ true) → (rest : Rest) → Goes rest more → Layable (some k) v (printedArms S t later v rest)
+    laid-arms : (t : Arms) → SpelledArms types S t → (more : List Constant) (later : Bool) (v : ℕ) → Rises v (constantsOfArms t ++ more) → (k : ℕ) → eqb k colon ≡ false → (later ≡ false → operandBehind k ≡ true) → (rest : Rest) → Goes rest more → Layable (some k) v (printedArms S t later v rest)
     laid-arms noArm s more later v r k n o rest g = g v k n r
     laid-arms (arm c a t) s more later v r k n o rest g =
         laid-separated later v k o _

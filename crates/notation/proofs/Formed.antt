@@ -8,7 +8,7 @@ use lib.ListN.{length}
 use Rattle.rules.specs.Bytes.{pick}
 use Rattle.rules.specs.Format.{isConstant, allowed, three, take, follow, formOf, mayEnd}
 use Rattle.rules.specs.Evaluate.{any}
-use Rattle.rules.specs.Types.{theEight, builtInTypes}
+use Rattle.rules.specs.Types.{Types, builtInTypes}
 use Rattle.rules.specs.Compile.{sameBytes}
 use Rattle.rules.specs.EditRule.{IsBytes}
 use Rattle.rules.specs.declared.Kind.{Kind}
@@ -32,24 +32,24 @@ abbrev pub spelledIn : (tag : ℕ) → List ℕ → Bool
 spelledIn t w = eqb t 0x11 || (eqb t 0x31 || isName w)
 
 -- the type of a resource is built in, or is not, as the tag says
-abbrev pub typeIn : (tag : ℕ) → List ℕ → Bool
-typeIn t w = pick (eqb t 0x25) (any (sameBytes w) (builtInTypes theEight)) (pick (eqb t 0x27) (not (any (sameBytes w) (builtInTypes theEight))) true)
+abbrev pub typeIn : (types : Types) (tag : ℕ) → List ℕ → Bool
+typeIn types t w = pick (eqb t 0x25) (any (sameBytes w) (builtInTypes types)) (pick (eqb t 0x27) (not (any (sameBytes w) (builtInTypes types))) true)
 
 -- a name in a field with the tag t: S holds of it
-pub record NameIn (S : List ℕ → Type 0) (t : ℕ) (w : List ℕ) : Type 0 where
+pub record NameIn (types : Types) (S : List ℕ → Type 0) (t : ℕ) (w : List ℕ) : Type 0 where
   pub known : S w
   pub spelling : spelledIn t w ≡ true
-  pub type : typeIn t w ≡ true
+  pub type : typeIn types t w ≡ true
 
 -- the pieces that a field begins with, by the two that are listed for its tag
-pub data Heading (S : List ℕ → Type 0) (t : ℕ) : ListedPiece → ListedPiece → List Piece → Type 0 where
-  noPiece : Heading S t Nothing Nothing []
-  anInteger : {l : ℕ} {bs : List ℕ} → isConstant t ≡ true → length bs ≡ 8 → IsBytes bs → Heading S t Label Integer (byte l ∷ map byte bs)
-  aString : {l : ℕ} {w : List ℕ} → isConstant t ≡ true → NameIn S t w → Heading S t Label Name (byte l ∷ name w ∷ [])
-  aBoolean : {l b : ℕ} → isConstant t ≡ true → b ≤ 1 → Heading S t Label Boolean (byte l ∷ byte b ∷ [])
-  anOperator : {b : ℕ} → b ≤ 6 → Heading S t Operator Nothing (byte b ∷ [])
-  oneName : {w : List ℕ} → NameIn S t w → Heading S t Name Nothing (name w ∷ [])
-  twoNames : {v w : List ℕ} → NameIn S t v → NameIn S t w → Heading S t Name Name (name v ∷ name w ∷ [])
+pub data Heading (types : Types) (S : List ℕ → Type 0) (t : ℕ) : ListedPiece → ListedPiece → List Piece → Type 0 where
+  noPiece : Heading types S t Nothing Nothing []
+  anInteger : {l : ℕ} {bs : List ℕ} → isConstant t ≡ true → length bs ≡ 8 → IsBytes bs → Heading types S t Label Integer (byte l ∷ map byte bs)
+  aString : {l : ℕ} {w : List ℕ} → isConstant t ≡ true → NameIn types S t w → Heading types S t Label Name (byte l ∷ name w ∷ [])
+  aBoolean : {l b : ℕ} → isConstant t ≡ true → b ≤ 1 → Heading types S t Label Boolean (byte l ∷ byte b ∷ [])
+  anOperator : {b : ℕ} → b ≤ 6 → Heading types S t Operator Nothing (byte b ∷ [])
+  oneName : {w : List ℕ} → NameIn types S t w → Heading types S t Name Nothing (name w ∷ [])
+  twoNames : {v w : List ℕ} → NameIn types S t v → NameIn types S t w → Heading types S t Name Name (name v ∷ name w ∷ [])
 
 -- ---- The fields in it
 
@@ -69,73 +69,73 @@ pub data Contents : Rest → Nodes → Type 0 where
 
 -- a field is as listed, and so are all fields in it
 mutual
-  pub data Formed (S : List ℕ → Type 0) : Node → Type 0 where
-    formed : {p t : ℕ} {h : List Piece} {js : Nodes} → t < 256 → Heading S t (formOf t .one) (formOf t .two) h → Contents (formOf t .rest) js → AllFormed S js → Formed S (node p t h js)
+  pub data Formed (types : Types) (S : List ℕ → Type 0) : Node → Type 0 where
+    formed : {p t : ℕ} {h : List Piece} {js : Nodes} → t < 256 → Heading types S t (formOf t .one) (formOf t .two) h → Contents (formOf t .rest) js → AllFormed types S js → Formed types S (node p t h js)
 
-  pub data AllFormed (S : List ℕ → Type 0) : Nodes → Type 0 where
-    noneFormed : AllFormed S empty
-    alsoFormed : {ks : Nodes} {k : Node} → AllFormed S ks → Formed S k → AllFormed S (ks ▸ k)
+  pub data AllFormed (types : Types) (S : List ℕ → Type 0) : Nodes → Type 0 where
+    noneFormed : AllFormed types S empty
+    alsoFormed : {ks : Nodes} {k : Node} → AllFormed types S ks → Formed types S k → AllFormed types S (ks ▸ k)
 
 -- a field of a kind, as listed
-pub record Of (S : List ℕ → Type 0) (kind : Kind) (k : Node) : Type 0 where
+pub record Of (types : Types) (S : List ℕ → Type 0) (kind : Kind) (k : Node) : Type 0 where
   pub right : allowed kind (tagIn k) ≡ true
-  pub form : Formed S k
+  pub form : Formed types S k
 
 -- js are ks and then fields of a kind
-pub data More (S : List ℕ → Type 0) (kind : Kind) : Nodes → Nodes → Type 0 where
-  enough : {ks : Nodes} → More S kind ks ks
-  further : {ks js : Nodes} {k : Node} → Of S kind k → More S kind (ks ▸ k) js → More S kind ks js
+pub data More (types : Types) (S : List ℕ → Type 0) (kind : Kind) : Nodes → Nodes → Type 0 where
+  enough : {ks : Nodes} → More types S kind ks ks
+  further : {ks js : Nodes} {k : Node} → Of types S kind k → More types S kind (ks ▸ k) js → More types S kind ks js
 
 -- ---- Going through the parts
 
 -- the fields ks are as listed, and lead from the parts ps to the parts n
-pub record Has (S : List ℕ → Type 0) (ps : Parts) (ks : Nodes) (n : Parts) : Type 0 where
+pub record Has (types : Types) (S : List ℕ → Type 0) (ps : Parts) (ks : Nodes) (n : Parts) : Type 0 where
   pub leads : reached ps ks ≡ Go n
-  pub all : AllFormed S ks
+  pub all : AllFormed types S ks
 
-module _ {S : List ℕ → Type 0} where
+module _ (types : Types) {S : List ℕ → Type 0} where
   -- no field yet
-  pub has-none : {ps : Parts} → Has S ps empty ps
+  pub has-none : {ps : Parts} → Has types S ps empty ps
   unfolding reached
   has-none = record { leads = refl; all = noneFormed }
 
   -- one field further
-  pub has-next : {ps n : Parts} {ks : Nodes} (k : Node) (i : Parts) → Has S ps ks n → Formed S k → follow n (tagIn k) ≡ Go i → Has S ps (ks ▸ k) i
+  pub has-next : {ps n : Parts} {ks : Nodes} (k : Node) (i : Parts) → Has types S ps ks n → Formed types S k → follow n (tagIn k) ≡ Go i → Has types S ps (ks ▸ k) i
   unfolding reached
   has-next k i h f e = record { leads = rw (h .leads) e; all = alsoFormed (h .all) f }
 
   module _ {ps : Parts} {kind : Kind} where
     -- the one field of a kind that is the first part, the second, the third
-    pub has-first : {y z : Part} {ks : Nodes} {k : Node} → Has S ps ks (three (One kind) y z) → Of S kind k → Has S ps (ks ▸ k) (three Over y z)
+    pub has-first : {y z : Part} {ks : Nodes} {k : Node} → Has types S ps ks (three (One kind) y z) → Of types S kind k → Has types S ps (ks ▸ k) (three Over y z)
     unfolding follow take
     has-first {y} {z} {k = k} h o = has-next k (three Over y z) h (o .form) (rw (o .right))
 
-    pub has-second : {z : Part} {ks : Nodes} {k : Node} → Has S ps ks (three Over (One kind) z) → Of S kind k → Has S ps (ks ▸ k) (three Over Over z)
+    pub has-second : {z : Part} {ks : Nodes} {k : Node} → Has types S ps ks (three Over (One kind) z) → Of types S kind k → Has types S ps (ks ▸ k) (three Over Over z)
     unfolding follow take
     has-second {z} {k = k} h o = has-next k (three Over Over z) h (o .form) (rw (o .right))
 
-    pub has-third : {ks : Nodes} {k : Node} → Has S ps ks (three Over Over (One kind)) → Of S kind k → Has S ps (ks ▸ k) (three Over Over Over)
+    pub has-third : {ks : Nodes} {k : Node} → Has types S ps ks (three Over Over (One kind)) → Of types S kind k → Has types S ps (ks ▸ k) (three Over Over Over)
     unfolding follow take
     has-third {k = k} h o = has-next k (three Over Over Over) h (o .form) (rw (o .right))
 
     -- any number of fields where each leads back to the same parts
-    pub has-more : (n : Parts) → ((u : ℕ) → allowed kind u ≡ true → follow n u ≡ Go n) → {ks js : Nodes} → Has S ps ks n → More S kind ks js → Has S ps js n
+    pub has-more : (n : Parts) → ((u : ℕ) → allowed kind u ≡ true → follow n u ≡ Go n) → {ks js : Nodes} → Has types S ps ks n → More types S kind ks js → Has types S ps js n
     has-more n back h enough = h
     has-more n back h (further {k = k} o m) = has-more n back (has-next k n h (o .form) (back (tagIn k) (o .right))) m
 
     -- so it is where they are the first part, the second, the third
-    pub has-many-first : {y z : Part} {ks js : Nodes} → Has S ps ks (three (Many kind) y z) → More S kind ks js → Has S ps js (three (Many kind) y z)
+    pub has-many-first : {y z : Part} {ks js : Nodes} → Has types S ps ks (three (Many kind) y z) → More types S kind ks js → Has types S ps js (three (Many kind) y z)
     unfolding follow take
     has-many-first {y} {z} h m = has-more (three (Many kind) y z) (λ u e. rw e) h m
 
-    pub has-many-second : {z : Part} {ks js : Nodes} → Has S ps ks (three Over (Many kind) z) → More S kind ks js → Has S ps js (three Over (Many kind) z)
+    pub has-many-second : {z : Part} {ks js : Nodes} → Has types S ps ks (three Over (Many kind) z) → More types S kind ks js → Has types S ps js (three Over (Many kind) z)
     unfolding follow take
     has-many-second {z} h m = has-more (three Over (Many kind) z) (λ u e. rw e) h m
 
-    pub has-many-third : {ks js : Nodes} → Has S ps ks (three Over Over (Many kind)) → More S kind ks js → Has S ps js (three Over Over (Many kind))
+    pub has-many-third : {ks js : Nodes} → Has types S ps ks (three Over Over (Many kind)) → More types S kind ks js → Has types S ps js (three Over Over (Many kind))
     unfolding follow take
     has-many-third h m = has-more (three Over Over (Many kind)) (λ u e. rw e) h m
 
   -- fields that lead to parts that may end are those of their line
-  pub has-whole : {ps n : Parts} {ks : Nodes} → Has S ps ks n → mayEnd n ≡ true → Contents (Inner ps) ks
+  pub has-whole : {ps n : Parts} {ks : Nodes} → Has types S ps ks n → mayEnd n ≡ true → Contents (Inner ps) ks
   has-whole h e = whole (h .leads) e

@@ -14,6 +14,7 @@ use Rattle.rules.specs.EditRule.{IsBytes}
 use Rattle.rules.specs.declared.Kind.the-variants.{Constant, Expression}
 use Rattle.rules.proofs.Lists.{both-right}
 use Rattle.rules.proofs.Within.{false-not-true}
+use Rattle.rules.specs.Types.{Types}
 use Rattle.notation.specs.Tokens.{Token, word, number, text, variable, topVariable, classVariable, mark, Lexeme, lexeme, kind, tokenOf, trueWord}
 use Rattle.notation.specs.Building.{byte, constantNode, variableNode, spelled, leaf}
 use Rattle.notation.proofs.Formed.{anInteger, aString, aBoolean, oneName, twoNames, Of}
@@ -62,7 +63,7 @@ text-spelled S (topVariable n) g e = absurd (omega arith)
 text-spelled S (classVariable c n) g e = absurd (omega arith)
 text-spelled S (mark k) g e = absurd (omega arith)
 
-module _ {S : List ℕ → Type 0} where
+module _ (types : Types) {S : List ℕ → Type 0} where
   -- a word
   pub word-spelled : (t : Token) → Good S t → kind t ≡ 0 → Word S (spelled t)
   unfolding spelled
@@ -88,29 +89,29 @@ module _ {S : List ℕ → Type 0} where
   -- ---- Fields of one token
 
   -- 12, of true or false
-  boolean-of : (p l : ℕ) (b : Bool) → Of S Constant (leaf p 0x12 (byte l ∷ byte (pick b 1 0) ∷ []))
+  boolean-of : (p l : ℕ) (b : Bool) → Of types S Constant (leaf p 0x12 (byte l ∷ byte (pick b 1 0) ∷ []))
   unfolding allowed formOf formIn forms
-  boolean-of p l true = leaf-of Constant refl (omega arith) (aBoolean refl (omega arith)) refl
-  boolean-of p l false = leaf-of Constant refl (omega arith) (aBoolean refl (omega arith)) refl
+  boolean-of p l true = leaf-of types Constant refl (omega arith) (aBoolean refl (omega arith)) refl
+  boolean-of p l false = leaf-of types Constant refl (omega arith) (aBoolean refl (omega arith)) refl
 
   -- every token but a variable is a constant
-  pub constant-of : (x : Lexeme) → Good S (tokenOf x) → within 3 4 (kind (tokenOf x)) ≡ false → Of S Constant (constantNode x)
+  pub constant-of : (x : Lexeme) → Good S (tokenOf x) → within 3 4 (kind (tokenOf x)) ≡ false → Of types S Constant (constantNode x)
   unfolding constantNode allowed formOf formIn forms
-  constant-of (lexeme p l (word w)) g e = leaf-of Constant refl (omega arith) (aString refl (word-in 0x11 refl refl g)) refl
-  constant-of (lexeme p l (number z)) g e = leaf-of Constant refl (omega arith) (anInteger refl (high-length 8 (word64 z)) (high-bytes 8 (word64 z))) refl
-  constant-of (lexeme p l (text s)) g e = leaf-of Constant refl (omega arith) (aString refl (record { known = g; spelling = refl; type = refl })) refl
+  constant-of (lexeme p l (word w)) g e = leaf-of types Constant refl (omega arith) (aString refl (word-in types 0x11 refl refl g)) refl
+  constant-of (lexeme p l (number z)) g e = leaf-of types Constant refl (omega arith) (anInteger refl (high-length 8 (word64 z)) (high-bytes 8 (word64 z))) refl
+  constant-of (lexeme p l (text s)) g e = leaf-of types Constant refl (omega arith) (aString refl (record { known = g; spelling = refl; type = refl })) refl
   constant-of (lexeme p l (variable n)) g e = false-not-true (sym e)
   constant-of (lexeme p l (topVariable n)) g e = false-not-true (sym e)
   constant-of (lexeme p l (classVariable c n)) g e = false-not-true (sym e)
   constant-of (lexeme p l (mark k)) g e = boolean-of p l (eqb k trueWord)
 
   -- a variable is an expression
-  pub variable-of : (x : Lexeme) → Good S (tokenOf x) → within 3 4 (kind (tokenOf x)) ≡ true → Of S Expression (variableNode x)
+  pub variable-of : (x : Lexeme) → Good S (tokenOf x) → within 3 4 (kind (tokenOf x)) ≡ true → Of types S Expression (variableNode x)
   unfolding variableNode allowed formOf formIn forms
   variable-of (lexeme p l (word w)) g e = false-not-true e
   variable-of (lexeme p l (number z)) g e = false-not-true e
   variable-of (lexeme p l (text s)) g e = false-not-true e
-  variable-of (lexeme p l (variable n)) g e = leaf-of Expression refl (omega arith) (oneName (word-in 0x13 refl refl g)) refl
-  variable-of (lexeme p l (topVariable n)) g e = leaf-of Expression refl (omega arith) (oneName (word-in 0x14 refl refl g)) refl
-  variable-of (lexeme p l (classVariable c n)) g e = leaf-of Expression refl (omega arith) (twoNames (word-in 0x15 refl refl (g .0)) (word-in 0x15 refl refl (g .1))) refl
+  variable-of (lexeme p l (variable n)) g e = leaf-of types Expression refl (omega arith) (oneName (word-in types 0x13 refl refl g)) refl
+  variable-of (lexeme p l (topVariable n)) g e = leaf-of types Expression refl (omega arith) (oneName (word-in types 0x14 refl refl g)) refl
+  variable-of (lexeme p l (classVariable c n)) g e = leaf-of types Expression refl (omega arith) (twoNames (word-in types 0x15 refl refl (g .0)) (word-in types 0x15 refl refl (g .1))) refl
   variable-of (lexeme p l (mark k)) g e = let low = leb-true k 4 (both-right (leb 3 k) (leb k 4) e) in absurd (omega arith)

@@ -13,6 +13,7 @@ use Rattle.values.specs.declared.Value.{Value}
 use Rattle.values.specs.declared.Value.the-variants.{Integer, String, Boolean}
 use Rattle.rules.specs.Tree.{Constant, Parameter, Parent, typeDefinition, classDefinition, ClassDefinition, Devices, named, byDefault, Item, statement, definition}
 use Rattle.rules.specs.Tree
+use Rattle.rules.specs.Types.{Types}
 use Rattle.notation.specs.Tokens.{Token, Lexeme, kind, tokenOf, endOfText, leftBrace, rightRound, equals, inheritsWord, nodeWord, defineWord, classWord}
 use Rattle.notation.specs.Building.{Piece, name, Node, Nodes, empty, _▸_, height, tallest, inFront, Frame, frame, Build, build, Action, acts, act, addedFirst, leaf, spelled}
 use Rattle.notation.specs.Grammar.{Symbol, block, ends, row, maybe, further, Entry, items, parameters, defaultValue, aConstant, inherits, parent, devices, device, moreDevices, rowOf, leftOut, binds, run, built, manifest, reading}
@@ -41,12 +42,12 @@ added-first-fits : (n : Node) (b q t : ℕ) (h : List Piece) (ks : Nodes) (fs : 
 unfolding addedFirst
 added-first-fits n b q t h ks fs d = rw (addedFirst, le-leb (length fs + 1) 32 d)
 
-module _ (S : ℕ → List ℕ) where
+module _ (types : Types) (S : ℕ → List ℕ) where
   abbrev pub WholeItem : Item → Type 0
-  WholeItem (statement s) = WholeStatement S s
-  WholeItem (Item.node ds b) = SomeDevice ds × WholeBlock S b
-  WholeItem (definition (typeDefinition d)) = WholeBlock S (d .body)
-  WholeItem (definition (classDefinition d)) = WholeBlock S (d .body)
+  WholeItem (statement s) = WholeStatement types S s
+  WholeItem (Item.node ds b) = SomeDevice ds × WholeBlock types S b
+  WholeItem (definition (typeDefinition d)) = WholeBlock types S (d .body)
+  WholeItem (definition (classDefinition d)) = WholeBlock types S (d .body)
 
   -- ---- Parameters
 
@@ -71,42 +72,42 @@ module _ (S : ℕ → List ℕ) where
 
   -- behind the name of a parameter: its default, or nothing
   default-back : (c : Option Constant) (v : ℕ) (x : ℕ → Lexeme) (xs : Rest) {k : List Symbol} {q t : ℕ} {h g : List Piece} {ks : Nodes} {fs : List Frame} → ((u : ℕ) → Calm 1 (x u)) → length fs + suc (tallest (defaultOnto S c empty)) ≤ 32 →
-      state (printedDefault S c v (λ u. x u ∷ xs u)) (defaultValue ∷ ends ∷ k) (build 0 (frame 0 0x33 g empty) (frame q t h ks ∷ fs))
-      ⇒ state (x (lastLineDefault c v) ∷ xs (lastLineDefault c v)) k (build 0 (frame q t h (ks ▸ bareNode 0x33 g (defaultOnto S c empty))) fs)
+      state types (printedDefault S c v (λ u. x u ∷ xs u)) (defaultValue ∷ ends ∷ k) (build 0 (frame 0 0x33 g empty) (frame q t h ks ∷ fs))
+      ⇒ (state types) (x (lastLineDefault c v) ∷ xs (lastLineDefault c v)) k (build 0 (frame q t h (ks ▸ bareNode 0x33 g (defaultOnto S c empty))) fs)
   unfolding lastLineDefault defaultOnto height rowOf leftOut acts
-  default-back none v x xs calm d = leave (no-default (x v) (calm v)) refl refl ▹ ends-here
-  default-back (some c) v x xs calm d = take refl refl ▹ take-adding (constantNodeOf S c) (constant-row (c .value)) (constant-added S c _) (omega (arith, height-positive (constantNodeOf S c))) ▹ ends-here
+  default-back none v x xs calm d = leave types (no-default (x v) (calm v)) refl refl ▹ (ends-here types)
+  default-back (some c) v x xs calm d = take types refl refl ▹ (take-adding types) (constantNodeOf S c) (constant-row (c .value)) (constant-added types S c _) (omega (arith, height-positive (constantNodeOf S c))) ▹ (ends-here types)
 
-  parameter-back : EntryBack (printedParameter S) lastLineParameter (parameterNode S) (maybe Entry.parameter) (further Entry.parameter) Always
+  parameter-back : EntryBack types (printedParameter S) lastLineParameter (parameterNode S) (maybe Entry.parameter) (further Entry.parameter) Always
   unfolding lastLineParameter parameterNode height rowOf acts act spelled
-  parameter-back = record { entry-back = λ a w v x xs calm d. take-begin refl (omega arith) refl ▹ default-back (a .default) _ x xs calm d }
+  parameter-back = record { entry-back = λ a w v x xs calm d. take-begin types refl (omega arith) refl ▹ default-back (a .default) _ x xs calm d }
 
   -- parameters in brackets, or none, and the token that follows them
   parameters-back : (ps : List Parameter) (v : ℕ) (x : ℕ → Lexeme) (xs : Rest) {k : List Symbol} {q t : ℕ} {h : List Piece} {fs : List Frame} → ((u : ℕ) → rowOf parameters (kind (tokenOf (x u))) ≡ none) → length fs + tallest (nodesOnto (parameterNode S) ps empty) ≤ 32 →
-      state (printedParameters S ps v (λ u. x u ∷ xs u)) (parameters ∷ k) (build 0 (frame q t h empty) fs)
-      ⇒ state (x (lastLineEntries lastLineParameter ps v) ∷ xs (lastLineEntries lastLineParameter ps v)) k (build 0 (frame q t h (nodesOnto (parameterNode S) ps empty)) fs)
+      state types (printedParameters S ps v (λ u. x u ∷ xs u)) (parameters ∷ k) (build 0 (frame q t h empty) fs)
+      ⇒ (state types) (x (lastLineEntries lastLineParameter ps v) ∷ xs (lastLineEntries lastLineParameter ps v)) k (build 0 (frame q t h (nodesOnto (parameterNode S) ps empty)) fs)
   unfolding lastLineEntries nodesOnto rowOf leftOut acts binds
-  parameters-back [] v x xs stop d = leave (stop v) refl refl
+  parameters-back [] v x xs stop d = leave types (stop v) refl refl
   parameters-back (p ∷ ps) v x xs stop d =
-      take refl refl ▹ entries-back _ _ _ _ _ _ parameter-back refl refl p ps tt (always ps) v (λ u. the u rightRound) (λ u. x u ∷ xs u) (λ u. tt) (λ u. refl) d ▹ take refl refl
+      take types refl refl ▹ (entries-back types) _ _ _ _ _ _ parameter-back refl refl p ps tt (always ps) v (λ u. the u rightRound) (λ u. x u ∷ xs u) (λ u. tt) (λ u. refl) d ▹ (take types) refl refl
 
   -- ---- Parents
 
   parent-back : (p : Option Parent) (ps : List Parameter) (v : ℕ) (xs : Rest) {k : List Symbol} {q t : ℕ} {h : List Piece} {fs : List Frame} → length fs + 1 ≤ 32 →
-      state (printedParent S p v (λ u. the u leftBrace ∷ xs u)) (inherits ∷ k) (build 0 (frame q t h (nodesOnto (parameterNode S) ps empty)) fs)
-      ⇒ state (the v leftBrace ∷ xs v) k (build 0 (frame q t h (nodesOnto (parameterNode S) ps (parentOnto S p empty))) fs)
+      state types (printedParent S p v (λ u. the u leftBrace ∷ xs u)) (inherits ∷ k) (build 0 (frame q t h (nodesOnto (parameterNode S) ps empty)) fs)
+      ⇒ (state types) (the v leftBrace ∷ xs v) k (build 0 (frame q t h (nodesOnto (parameterNode S) ps (parentOnto S p empty))) fs)
   unfolding parentOnto rowOf leftOut acts act spelled inFront
-  parent-back none ps v xs d = leave refl refl refl
+  parent-back none ps v xs d = leave types refl refl refl
   parent-back (some p) ps v xs {q = q} {t = t} {h = h} {fs = fs} d =
       let node-first : Node = leaf 0 0x35 (name (S (p .name)) ∷ []) in
-      take refl refl
-      ▹ take refl (acts-first Action.parentFirst [] (at v (Token.word (S (p .name)))) (build 0 (frame q t h (nodesOnto (parameterNode S) ps empty)) fs) _ (added-first-fits node-first 0 q t h (nodesOnto (parameterNode S) ps empty) fs d ∙ ap (λ (js : Nodes). some (build 0 (frame q t h js) fs)) (in-front (parameterNode S) node-first ps empty)))
+      take types refl refl
+      ▹ (take types) refl (acts-first types Action.parentFirst [] (at v (Token.word (S (p .name)))) (build 0 (frame q t h (nodesOnto (parameterNode S) ps empty)) fs) _ (added-first-fits node-first 0 q t h (nodesOnto (parameterNode S) ps empty) fs d ∙ ap (λ (js : Nodes). some (build 0 (frame q t h js) fs)) (in-front (parameterNode S) node-first ps empty)))
 
   -- ---- Devices
 
-  device-back : EntryBack (printedDevice S) (λ n v. v) (deviceNode S) device moreDevices Always
+  device-back : EntryBack types (printedDevice S) (λ n v. v) (deviceNode S) device moreDevices Always
   unfolding deviceNode height rowOf acts act spelled
-  device-back = record { entry-back = λ n w v x xs calm d. take-begin refl (omega arith) refl }
+  device-back = record { entry-back = λ n w v x xs calm d. take-begin types refl (omega arith) refl }
 
   same-line : (ns : List ℕ) (v : ℕ) → lastLineEntries (λ (n u : ℕ). u) ns v ≡ v
   unfolding lastLineEntries
@@ -114,20 +115,20 @@ module _ (S : ℕ → List ℕ) where
   same-line (n ∷ ns) v = same-line ns v
 
   -- the first device, read at the symbol for all of them
-  first-device : (n : ℕ) (ns : List ℕ) (v : ℕ) (xs : Rest) {k : List Symbol} {f : Build} → state (printedEntries (printedDevice S) (n ∷ ns) false v xs) (devices ∷ k) f ⇒ state (printedEntries (printedDevice S) (n ∷ ns) false v xs) (device ∷ k) f
+  first-device : (n : ℕ) (ns : List ℕ) (v : ℕ) (xs : Rest) {k : List Symbol} {f : Build} → state types (printedEntries (printedDevice S) (n ∷ ns) false v xs) (devices ∷ k) f ⇒ (state types) (printedEntries (printedDevice S) (n ∷ ns) false v xs) (device ∷ k) f
   unfolding printedEntries rowOf
-  first-device n ns v xs = swap refl refl
+  first-device n ns v xs = swap types refl refl
 
   -- devices and the brace behind them
   devices-back : (ds : Devices) → SomeDevice ds → (v : ℕ) (xs : Rest) {k : List Symbol} {q t : ℕ} {h : List Piece} {fs : List Frame} → length fs + tallest (devicesOnto S ds empty) ≤ 32 →
-      state (printedDevices S ds v (λ u. the u leftBrace ∷ xs u)) (devices ∷ k) (build 0 (frame q t h empty) fs) ⇒ state (the v leftBrace ∷ xs v) k (build 0 (frame q t h (devicesOnto S ds empty)) fs)
+      state types (printedDevices S ds v (λ u. the u leftBrace ∷ xs u)) (devices ∷ k) (build 0 (frame q t h empty) fs) ⇒ (state types) (the v leftBrace ∷ xs v) k (build 0 (frame q t h (devicesOnto S ds empty)) fs)
   unfolding devicesOnto height rowOf leftOut acts act binds
   devices-back (named []) w v xs d = absurd w
   devices-back (named (n ∷ ns)) w v xs {k} {q} {t} {h} {fs} d =
       first-device n ns v (λ u. the u leftBrace ∷ xs u)
-      ▹ subst (λ (u : ℕ). state (printedEntries (printedDevice S) (n ∷ ns) false v (λ u. the u leftBrace ∷ xs u)) (device ∷ k) (build 0 (frame q t h empty) fs) ⇒ state (the u leftBrace ∷ xs u) k (build 0 (frame q t h (nodesOnto (deviceNode S) (n ∷ ns) empty)) fs)) (same-line (n ∷ ns) v)
-      (entries-back _ _ _ _ _ _ device-back refl refl n ns tt (always ns) v (λ u. the u leftBrace) xs (λ u. tt) (λ u. refl) d)
-  devices-back byDefault w v xs {q = q} {t = t} {h = h} {fs = fs} d = take-adding _ refl refl (omega arith)
+      ▹ subst (λ (u : ℕ). state types (printedEntries (printedDevice S) (n ∷ ns) false v (λ u. the u leftBrace ∷ xs u)) (device ∷ k) (build 0 (frame q t h empty) fs) ⇒ (state types) (the u leftBrace ∷ xs u) k (build 0 (frame q t h (nodesOnto (deviceNode S) (n ∷ ns) empty)) fs)) (same-line (n ∷ ns) v)
+      (entries-back types _ _ _ _ _ _ device-back refl refl n ns tt (always ns) v (λ u. the u leftBrace) xs (λ u. tt) (λ u. refl) d)
+  devices-back byDefault w v xs {q = q} {t = t} {h = h} {fs = fs} d = take-adding types _ refl refl (omega arith)
 
   -- ---- Items
 
@@ -147,57 +148,57 @@ module _ (S : ℕ → List ℕ) where
   unfolding height
   without-parent ps p = nodes-grow (parameterNode S) ps empty (parentOnto S p empty) (omega arith)
 
-  class-back : (c : ClassDefinition) → WholeBlock S (c .body) → (v : ℕ) (x : ℕ → Lexeme) (xs : Rest) {k : List Symbol} {q t : ℕ} {h : List Piece} {ks : Nodes} {fs : List Frame} → ((u : ℕ) → Behind (x u)) → length fs + height (itemNode S (definition (classDefinition c))) ≤ 32 →
-      state (printedItem S (definition (classDefinition c)) v (λ u. x u ∷ xs u)) (items ∷ k) (build 0 (frame q t h ks) fs)
-      ⇒ state (x (lastLineItem (definition (classDefinition c)) v) ∷ xs (lastLineItem (definition (classDefinition c)) v)) (items ∷ k) (build 0 (frame q t h (ks ▸ itemNode S (definition (classDefinition c)))) fs)
+  class-back : (c : ClassDefinition) → WholeBlock types S (c .body) → (v : ℕ) (x : ℕ → Lexeme) (xs : Rest) {k : List Symbol} {q t : ℕ} {h : List Piece} {ks : Nodes} {fs : List Frame} → ((u : ℕ) → Behind (x u)) → length fs + height (itemNode S (definition (classDefinition c))) ≤ 32 →
+      state types (printedItem S (definition (classDefinition c)) v (λ u. x u ∷ xs u)) (items ∷ k) (build 0 (frame q t h ks) fs)
+      ⇒ (state types) (x (lastLineItem (definition (classDefinition c)) v) ∷ xs (lastLineItem (definition (classDefinition c)) v)) (items ∷ k) (build 0 (frame q t h (ks ▸ itemNode S (definition (classDefinition c)))) fs)
   unfolding printedItem itemNode lastLineItem height rowOf acts act spelled
   class-back c w v x xs {k} {q} {t} {h} {ks} {fs} behind d =
       let taller = nodes-taller (parameterNode S) (c .parameters) (parentOnto S (c .parent) empty) in
-      take refl refl ▹ take-begin refl (omega arith) refl
-      ▹ with-parent (c .parent) (λ rest. state (printedParameters S (c .parameters) v rest) (parameters ∷ inherits ∷ block ∷ ends ∷ items ∷ k) (build 0 (frame 0 0x34 (name (S (c .name)) ∷ []) empty) (frame q t h ks ∷ fs))
-      ⇒ state (rest (lastLineEntries lastLineParameter (c .parameters) v)) (inherits ∷ block ∷ ends ∷ items ∷ k) (build 0 (frame 0 0x34 (name (S (c .name)) ∷ []) (nodesOnto (parameterNode S) (c .parameters) empty)) (frame q t h ks ∷ fs))) _
+      take types refl refl ▹ (take-begin types) refl (omega arith) refl
+      ▹ with-parent (c .parent) (λ rest. state types (printedParameters S (c .parameters) v rest) (parameters ∷ inherits ∷ block ∷ ends ∷ items ∷ k) (build 0 (frame 0 0x34 (name (S (c .name)) ∷ []) empty) (frame q t h ks ∷ fs))
+      ⇒ (state types) (rest (lastLineEntries lastLineParameter (c .parameters) v)) (inherits ∷ block ∷ ends ∷ items ∷ k) (build 0 (frame 0 0x34 (name (S (c .name)) ∷ []) (nodesOnto (parameterNode S) (c .parameters) empty)) (frame q t h ks ∷ fs))) _
       (λ y ys stop. parameters-back (c .parameters) v y ys stop (omega (arith, without-parent (c .parameters) (c .parent))))
       ▹ parent-back (c .parent) (c .parameters) _ _ (omega arith)
-      ▹ braces-back S (every-block S (c .body) w) _ x xs (omega arith) ▹ ends-here
+      ▹ (braces-back types) S (every-block types S (c .body) w) _ x xs (omega arith) ▹ (ends-here types)
 
   pub item-back : (i : Item) → WholeItem i → (v : ℕ) (x : ℕ → Lexeme) (xs : Rest) {k : List Symbol} {q t : ℕ} {h : List Piece} {ks : Nodes} {fs : List Frame} → ((u : ℕ) → Behind (x u)) → length fs + height (itemNode S i) ≤ 32 →
-      state (printedItem S i v (λ u. x u ∷ xs u)) (items ∷ k) (build 0 (frame q t h ks) fs)
-      ⇒ state (x (lastLineItem i v) ∷ xs (lastLineItem i v)) (items ∷ k) (build 0 (frame q t h (ks ▸ itemNode S i)) fs)
+      state types (printedItem S i v (λ u. x u ∷ xs u)) (items ∷ k) (build 0 (frame q t h ks) fs)
+      ⇒ (state types) (x (lastLineItem i v) ∷ xs (lastLineItem i v)) (items ∷ k) (build 0 (frame q t h (ks ▸ itemNode S i)) fs)
   unfolding printedItem itemNode lastLineItem height rowOf acts act spelled
-  item-back (statement s) w v x xs behind d = every-statement S s w .statement-back at-top v x xs behind d
+  item-back (statement s) w v x xs behind d = every-statement types S s w .statement-back (at-top types) v x xs behind d
   item-back (Item.node ds b) w v x xs behind d =
-      take-begin refl (omega arith) refl ▹ devices-back ds (w .0) v _ (omega arith) ▹ braces-back S (every-block S b (w .1)) v x xs (omega arith) ▹ ends-here
+      take-begin types refl (omega arith) refl ▹ devices-back ds (w .0) v _ (omega arith) ▹ (braces-back types) S (every-block types S b (w .1)) v x xs (omega arith) ▹ (ends-here types)
   item-back (definition (typeDefinition c)) w v x xs behind d =
-      take-begin refl (omega arith) refl ▹ take refl refl ▹ parameters-back (c .parameters) v (λ u. the u leftBrace) _ (λ u. refl) (omega arith)
-      ▹ braces-back S (every-block S (c .body) w) _ x xs (omega arith) ▹ ends-here
+      take-begin types refl (omega arith) refl ▹ (take types) refl refl ▹ parameters-back (c .parameters) v (λ u. the u leftBrace) _ (λ u. refl) (omega arith)
+      ▹ (braces-back types) S (every-block types S (c .body) w) _ x xs (omega arith) ▹ (ends-here types)
   item-back (definition (classDefinition c)) w v x xs behind d = class-back c w v x xs behind d
 
   -- what is printed from items on begins with a token that may stand behind an item
   with-items : (is : List Item) → EachOf WholeItem is → (P : (ℕ → List Lexeme) → Type 0) (line : ℕ → ℕ) → ((y : ℕ → Lexeme) (ys : Rest) → ((u : ℕ) → Behind (y u)) → P (λ u. y u ∷ ys u)) → P (λ u. printedItems S is u (λ w. the (line w) endOfText ∷ []))
   unfolding printedItems printedItem binds rowOf
   with-items [] w P line f = f (λ u. the (line u) endOfText) (λ u. []) (λ u. record { calm = tt; noElse = refl; unplaced = refl })
-  with-items (statement s ∷ is) w P line f = with-statement S s (w .0) P (λ u. lineFor (constantsOfItem (statement s)) u) _ f
+  with-items (statement s ∷ is) w P line f = with-statement types S s (w .0) P (λ u. lineFor (constantsOfItem (statement s)) u) _ f
   with-items (Item.node ds b ∷ is) w P line f = f (λ u. the (lineFor (constantsOfItem (Item.node ds b)) u) nodeWord) _ (λ u. record { calm = tt; noElse = refl; unplaced = refl })
   with-items (definition (typeDefinition c) ∷ is) w P line f = f (λ u. the (lineFor (constantsOfItem (definition (typeDefinition c))) u) defineWord) _ (λ u. record { calm = tt; noElse = refl; unplaced = refl })
   with-items (definition (classDefinition c) ∷ is) w P line f = f (λ u. the (lineFor (constantsOfItem (definition (classDefinition c))) u) classWord) _ (λ u. record { calm = tt; noElse = refl; unplaced = refl })
 
   items-back : (is : List Item) → EachOf WholeItem is → (v : ℕ) (line : ℕ → ℕ) {q t : ℕ} {h : List Piece} {ks : Nodes} → tallest (itemsOnto S is ks) ≤ 32 →
-      state (printedItems S is v (λ u. the (line u) endOfText ∷ [])) manifest (build 0 (frame q t h ks) []) ⇒ state [] [] (build 0 (frame q t h (itemsOnto S is ks)) [])
+      state types (printedItems S is v (λ u. the (line u) endOfText ∷ [])) manifest (build 0 (frame q t h ks) []) ⇒ (state types) [] [] (build 0 (frame q t h (itemsOnto S is ks)) [])
   unfolding printedItems itemsOnto nodesOnto height rowOf leftOut acts
-  items-back [] w v line d = leave refl refl refl ▹ take refl refl
+  items-back [] w v line d = leave types refl refl refl ▹ (take types) refl refl
   items-back (i ∷ is) w v line {q} {t} {h} {ks} d =
       let taller = nodes-taller (itemNode S) is (ks ▸ itemNode S i) in
       let u : ℕ = lineFor (constantsOfItem i) v in
-      with-items is (w .1) (λ rest. state (printedItem S i u rest) manifest (build 0 (frame q t h ks) []) ⇒ state (rest (lastLineItem i u)) manifest (build 0 (frame q t h (ks ▸ itemNode S i)) [])) line
+      with-items is (w .1) (λ rest. state types (printedItem S i u rest) manifest (build 0 (frame q t h ks) []) ⇒ (state types) (rest (lastLineItem i u)) manifest (build 0 (frame q t h (ks ▸ itemNode S i)) [])) line
       (λ y ys behind. item-back i (w .0) u y ys behind (omega arith))
       ▹ items-back is (w .1) _ line d
 
-  read-whole : {f : Build} → run [] [] f ≡ built f
+  read-whole : {f : Build} → run types [] [] f ≡ built f
   unfolding run
   read-whole = refl
 
   -- THE LAW on tokens: printed items are read as the tree that they are
   pub round-trip : (is : List Item) → EachOf WholeItem is → (line : ℕ → ℕ) → tallest (itemsOnto S is empty) ≤ 32 →
-      reading (printedItems S is 0 (λ u. the (line u) endOfText ∷ [])) ≡ built (build 0 (frame 0 0 [] (itemsOnto S is empty)) [])
+      reading types (printedItems S is 0 (λ u. the (line u) endOfText ∷ [])) ≡ built (build 0 (frame 0 0 [] (itemsOnto S is empty)) [])
   unfolding reading
   round-trip is w line d = items-back is w 0 line d .alike ∙ read-whole

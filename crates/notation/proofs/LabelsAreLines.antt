@@ -10,6 +10,7 @@ use Rattle.rules.specs.Bytes.{pick}
 use Rattle.rules.specs.Format.{isConstant}
 use Rattle.rules.specs.Ranges.{Each, also}
 use Rattle.rules.proofs.Lists.{both-left, both-right}
+use Rattle.rules.specs.Types.{Types}
 use Rattle.notation.specs.Tokens.{word, number, text, variable, topVariable, classVariable, mark, Lexeme, lexeme, kind, tokenOf}
 use Rattle.notation.specs.Lexing.{tokens}
 use Rattle.notation.specs.Building.{Piece, Node, node, Nodes, empty, _▸_, height, Frame, frame, Build, build, Action, begin, beginResource, around, instead, close, constant, read, named, parentFirst, void, enter, leave, leaf, spelled, constantNode, variableNode, added, addedFirst, inFront, begun, act, acts, start}
@@ -27,7 +28,7 @@ data InFrames (P : (place label : ℕ) → Type 0) : List Frame → Type 0 where
   noFrame : InFrames P []
   inFrame : {p t : ℕ} {h : List Piece} {ks : Nodes} {fs : List Frame} → isConstant t ≡ false → EachConstant P ks → InFrames P fs → InFrames P (frame p t h ks ∷ fs)
 
-module _ (P : (place label : ℕ) → Type 0) where
+module _ (types : Types) (P : (place label : ℕ) → Type 0) where
   -- P holds of each constant in all that is built
   abbrev InBuild : Build → Type 0
   InBuild (build b f fs) = InFrames P (f ∷ fs)
@@ -98,10 +99,10 @@ module _ (P : (place label : ℕ) → Type 0) where
 
   module _ (x : Lexeme) (here : At P x) where
     -- one action
-    in-act : (a : Action) (f g : Build) → plainAction a ≡ true → act a x f ≡ some g → InBuild f → InBuild g
+    in-act : (a : Action) (f g : Build) → plainAction a ≡ true → act types a x f ≡ some g → InBuild f → InBuild g
     unfolding act added addedFirst begun
     in-act (begin t) (build b f fs) g c e u = in-fitted (leb (length fs + 1) 32) _ g (inFrame (plain-tag t c) noField u) e
-    in-act beginResource (build b f fs) g c e u = in-fitted (leb (length fs + 1) 32) _ g (inFrame (resource-plain (spelled (tokenOf x))) noField u) e
+    in-act beginResource (build b f fs) g c e u = in-fitted (leb (length fs + 1) 32) _ g (inFrame (resource-plain types (spelled (tokenOf x))) noField u) e
     in-act (around t h) (build b (frame q v i empty) fs) g c e u = none-not-some e
     in-act (around t h) (build b (frame q v i (ks ▸ k)) fs) g c e u = in-fitted (leb (suc (length fs) + height k) 32) _ g (frame-around (plain-tag t c) u) e
     in-act (instead t) (build b (frame q v i empty) fs) g c e u = none-not-some e
@@ -118,19 +119,19 @@ module _ (P : (place label : ℕ) → Type 0) where
     in-act leave (build (suc b) f fs) g c e u = subst InBuild (same-result _ g e) u
 
     -- some actions
-    in-acts : (ds : List Action) (f g : Build) → plainActions ds ≡ true → acts ds x f ≡ some g → InBuild f → InBuild g
+    in-acts : (ds : List Action) (f g : Build) → plainActions ds ≡ true → acts types ds x f ≡ some g → InBuild f → InBuild g
     unfolding acts
     in-acts [] f g c e u = subst InBuild (same-result f g e) u
-    in-acts (a ∷ ds) f g c e u = go (act a x f) refl (λ h i v. in-acts ds h g (both-right (plainAction a) (plainActions ds) c) i v) e
+    in-acts (a ∷ ds) f g c e u = go (act types a x f) refl (λ h i v. in-acts ds h g (both-right (plainAction a) (plainActions ds) c) i v) e
       where
-        go : (o : Option Build) → act a x f ≡ o → ((h : Build) → acts ds x h ≡ some g → InBuild h → InBuild g) → _≡_ {A = Option Build} (elim o as (λ q. Option Build) [ none ↦ none | some h ↦ acts ds x h ]) (some g) → InBuild g
+        go : (o : Option Build) → act types a x f ≡ o → ((h : Build) → acts types ds x h ≡ some g → InBuild h → InBuild g) → _≡_ {A = Option Build} (elim o as (λ q. Option Build) [ none ↦ none | some h ↦ acts types ds x h ]) (some g) → InBuild g
         go none h others e = none-not-some e
         go (some i) h others e = others i e (in-act a f i (both-left (plainAction a) (plainActions ds) c) h u)
 
   -- ---- The whole
 
   -- a reading
-  in-read : {k : List Symbol} {xs : List Lexeme} {f g : Build} → Reads k xs f g → Each (At P) xs → InBuild f → InBuild g
+  in-read : {k : List Symbol} {xs : List Lexeme} {f g : Build} → Reads types k xs f g → Each (At P) xs → InBuild f → InBuild g
   in-read done all u = u
   in-read (takes {s = s} {ss = ss} {ds = ds} {x = x} {f = f} {f′ = h} e i r) (also a all) u = in-read r all (in-acts x a ds f h (row-plain s (kind (tokenOf x)) ds ss e) i u)
   in-read (leaves {s = s} {ds = ds} {x = x} {f = f} {f′ = h} e i r) (also a all) u = in-read r (also a all) (in-acts x a ds f h (left-out-plain s ds e) i u)
@@ -140,10 +141,10 @@ module _ (P : (place label : ℕ) → Type 0) where
   outermost (inFrame c r noFrame) = r
 
   -- what holds of the place and the line of each token holds of the place and the label of each constant in the tree that they build
-  pub tokens-give-constants : (xs : List Lexeme) (ks : Nodes) → Each (At P) xs → reading xs ≡ built (build 0 (frame 0 0 [] ks) []) → EachConstant P ks
+  pub tokens-give-constants : (xs : List Lexeme) (ks : Nodes) → Each (At P) xs → reading types xs ≡ built (build 0 (frame 0 0 [] ks) []) → EachConstant P ks
   unfolding reading
-  tokens-give-constants xs ks all e = outermost (in-read (sound xs manifest start (build 0 (frame 0 0 [] ks) []) e) all (inFrame refl noField noFrame))
+  tokens-give-constants xs ks all e = outermost (in-read (sound types xs manifest start (build 0 (frame 0 0 [] ks) []) e) all (inFrame refl noField noFrame))
 
 -- "A constant's label is its line, the first being 0": each constant in the tree of a text has the line of the byte at its place as its label
-pub label-is-line : (given : List ℕ) (ks : Nodes) → reading (tokens given) ≡ built (build 0 (frame 0 0 [] ks) []) → EachConstant (λ p l. l ≡ lineAt given p) ks
-label-is-line given ks e = tokens-give-constants (IsLine given) (tokens given) ks (tokens-lined given) e
+pub label-is-line : (types : Types) (given : List ℕ) (ks : Nodes) → reading types (tokens given) ≡ built (build 0 (frame 0 0 [] ks) []) → EachConstant (λ p l. l ≡ lineAt given p) ks
+label-is-line types given ks e = tokens-give-constants types (IsLine given) (tokens given) ks (tokens-lined given) e

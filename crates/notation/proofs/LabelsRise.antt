@@ -10,7 +10,7 @@ use lib.ListN.{length}
 use Rattle.rules.specs.Bytes.{pick}
 use Rattle.rules.specs.Format.{isConstant}
 use Rattle.rules.specs.Evaluate.{any}
-use Rattle.rules.specs.Types.{theEight, builtInTypes}
+use Rattle.rules.specs.Types.{Types, builtInTypes}
 use Rattle.rules.specs.Compile.{sameBytes}
 use Rattle.rules.proofs.Lists.{both-left, both-right}
 use Rattle.rules.proofs.Within.{false-not-true}
@@ -109,9 +109,9 @@ plain-tag t e = go (isConstant t) e
     go false e = refl
 
 -- no resource has the tag of a constant
-pub resource-plain : (w : List ℕ) → isConstant (resourceTag w) ≡ false
+pub resource-plain : (types : Types) (w : List ℕ) → isConstant (resourceTag types w) ≡ false
 unfolding resourceTag
-resource-plain w = go (any (sameBytes w) (builtInTypes theEight))
+resource-plain types w = go (any (sameBytes w) (builtInTypes types))
   where
     go : (b : Bool) → isConstant (pick b 0x25 0x27) ≡ false
     go true = refl
@@ -148,16 +148,16 @@ up-to-fitted n false f g u e = none-not-some e
 up-to-constant : {n i p t : ℕ} {h : List Piece} {ks : Nodes} {k : Node} {fs : List Frame} → FramesRise (frame p t h ks ∷ fs) i → UpToNode n i k → UpTo n (frame p t h (ks ▸ k) ∷ fs)
 up-to-constant r (upToNode {j = j} a l) = record { last = j; rise = frame-more r a; below = l }
 
-module _ (x : Lexeme) where
+module _ (types : Types) (x : Lexeme) where
   -- the line of the token
   abbrev Line : ℕ
   Line = lineOf x
 
   -- one action keeps labels rising up to it
-  up-to-act : (a : Action) (f g : Build) → plainAction a ≡ true → act a x f ≡ some g → BuiltUpTo Line f → BuiltUpTo Line g
+  up-to-act : (a : Action) (f g : Build) → plainAction a ≡ true → act types a x f ≡ some g → BuiltUpTo Line f → BuiltUpTo Line g
   unfolding act added addedFirst begun
   up-to-act (begin t) (build b f fs) g c e u = up-to-fitted Line (leb (length fs + 1) 32) _ g (record { last = u .last; rise = inFrame (plain-tag t c) (u .rise) noneRise; below = u .below }) e
-  up-to-act beginResource (build b f fs) g c e u = up-to-fitted Line (leb (length fs + 1) 32) _ g (record { last = u .last; rise = inFrame (resource-plain (spelled (tokenOf x))) (u .rise) noneRise; below = u .below }) e
+  up-to-act beginResource (build b f fs) g c e u = up-to-fitted Line (leb (length fs + 1) 32) _ g (record { last = u .last; rise = inFrame (resource-plain types (spelled (tokenOf x))) (u .rise) noneRise; below = u .below }) e
   up-to-act (around t h) (build b (frame q v i empty) fs) g c e u = none-not-some e
   up-to-act (around t h) (build b (frame q v i (ks ▸ k)) fs) g c e u = up-to-fitted Line (leb (suc (length fs) + height k) 32) _ g (record { last = u .last; rise = frame-around (plain-tag t c) (u .rise); below = u .below }) e
   up-to-act (instead t) (build b (frame q v i empty) fs) g c e u = none-not-some e
@@ -174,12 +174,12 @@ module _ (x : Lexeme) where
   up-to-act leave (build (suc b) f fs) g c e u = subst (BuiltUpTo Line) (same-result _ g e) u
 
   -- some actions
-  up-to-acts : (ds : List Action) (f g : Build) → plainActions ds ≡ true → acts ds x f ≡ some g → BuiltUpTo Line f → BuiltUpTo Line g
+  up-to-acts : (ds : List Action) (f g : Build) → plainActions ds ≡ true → acts types ds x f ≡ some g → BuiltUpTo Line f → BuiltUpTo Line g
   unfolding acts
   up-to-acts [] f g c e u = subst (BuiltUpTo Line) (same-result f g e) u
-  up-to-acts (a ∷ ds) f g c e u = go (act a x f) refl (λ h i v. up-to-acts ds h g (both-right (plainAction a) (plainActions ds) c) i v) e
+  up-to-acts (a ∷ ds) f g c e u = go (act types a x f) refl (λ h i v. up-to-acts ds h g (both-right (plainAction a) (plainActions ds) c) i v) e
     where
-      go : (o : Option Build) → act a x f ≡ o → ((h : Build) → acts ds x h ≡ some g → BuiltUpTo Line h → BuiltUpTo Line g) → _≡_ {A = Option Build} (elim o as (λ q. Option Build) [ none ↦ none | some h ↦ acts ds x h ]) (some g) → BuiltUpTo Line g
+      go : (o : Option Build) → act types a x f ≡ o → ((h : Build) → acts types ds x h ≡ some g → BuiltUpTo Line h → BuiltUpTo Line g) → _≡_ {A = Option Build} (elim o as (λ q. Option Build) [ none ↦ none | some h ↦ acts types ds x h ]) (some g) → BuiltUpTo Line g
       go none h others e = none-not-some e
       go (some i) h others e = others i e (up-to-act a f i (both-left (plainAction a) (plainActions ds) c) h u)
 
@@ -200,10 +200,10 @@ record BuiltRise (g : Build) : Type 0 where
   up : BuiltUpTo line g
 
 -- a reading
-rise-read : {k : List Symbol} {xs : List Lexeme} {f g : Build} {n : ℕ} → Reads k xs f g → Lines n xs → BuiltUpTo n f → BuiltRise g
-rise-read {n = n} done l u = record { line = n; up = u }
-rise-read (takes {s = s} {ss = ss} {ds = ds} {x = x} {f = f} {f′ = h} e i r) (nextLine l ls) u = rise-read r ls (up-to-acts x ds f h (row-plain s (kind (tokenOf x)) ds ss e) i (up-to-line f l u))
-rise-read (leaves {s = s} {ds = ds} {x = x} {f = f} {f′ = h} e i r) (nextLine l ls) u = rise-read r (nextLine (omega arith) ls) (up-to-acts x ds f h (left-out-plain s ds e) i (up-to-line f l u))
+rise-read : (types : Types) {k : List Symbol} {xs : List Lexeme} {f g : Build} {n : ℕ} → Reads types k xs f g → Lines n xs → BuiltUpTo n f → BuiltRise g
+rise-read types {n = n} done l u = record { line = n; up = u }
+rise-read types (takes {s = s} {ss = ss} {ds = ds} {x = x} {f = f} {f′ = h} e i r) (nextLine l ls) u = rise-read types r ls (up-to-acts types x ds f h (row-plain s (kind (tokenOf x)) ds ss e) i (up-to-line f l u))
+rise-read types (leaves {s = s} {ds = ds} {x = x} {f = f} {f′ = h} e i r) (nextLine l ls) u = rise-read types r (nextLine (omega arith) ls) (up-to-acts types x ds f h (left-out-plain s ds e) i (up-to-line f l u))
 
 -- the labels of the items of a text rise
 pub record ItemsRise (ks : Nodes) : Type 0 where
@@ -215,8 +215,8 @@ items-rise : {p t j : ℕ} {h : List Piece} {ks : Nodes} → FramesRise (frame p
 items-rise (inFrame {j = j} c noFrame r) = record { last = j; rise = r }
 
 -- the labels of the tree that a text builds rise
-pub tree-rises : (xs : List Lexeme) (ks : Nodes) → Lines 0 xs → reading xs ≡ built (build 0 (frame 0 0 [] ks) []) → ItemsRise ks
+pub tree-rises : (types : Types) (xs : List Lexeme) (ks : Nodes) → Lines 0 xs → reading types xs ≡ built (build 0 (frame 0 0 [] ks) []) → ItemsRise ks
 unfolding reading
-tree-rises xs ks l e =
+tree-rises types xs ks l e =
     let begun : UpTo 0 (frame 0 0 [] empty ∷ []) = record { last = 0; rise = inFrame refl noFrame noneRise; below = omega arith } in
-    items-rise (rise-read (sound xs manifest start (build 0 (frame 0 0 [] ks) []) e) l begun .up .rise)
+    items-rise (rise-read types (sound types xs manifest start (build 0 (frame 0 0 [] ks) []) e) l begun .up .rise)

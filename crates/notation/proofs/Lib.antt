@@ -65,3 +65,4 @@ pub mod Outcomes
 pub mod ConstantLines
 pub mod LabelsAreLines
 pub mod ConvertedLines
+pub mod TypesAlike

@@ -3,6 +3,7 @@ use Prim.Native.Nat.{ℕ, zero, suc}
 use mathlib.Core.List.{List, [], _∷_, _++_}
 use Rattle.rules.specs.declared.Kind.{Kind}
 use Rattle.rules.specs.declared.Kind.the-variants.{Constant, Expression, Arm, Statement, Block, Branch, Attribute, Parameter, Parent, Item, Device}
+use Rattle.rules.specs.Types.{Types}
 use Rattle.notation.specs.Tokens.{Lexeme, tokenOf, placeOf}
 use Rattle.notation.specs.Building.{Piece, byte, name, Node, node, Nodes, empty, _▸_, frame, Build, build, Action, begin, beginResource, around, instead, close, constant, read, named, parentFirst, void, enter, leave, leaf, spelled, constantNode, variableNode, resourceTag, inFront, behindLabel}
 use Rattle.notation.specs.Grammar.{Entry, arm, attribute, parameter, Symbol, sign, aName, expression, operators, readOrWord, closeBracket, one, maybe, further, statements, block, otherwise, branches, items, classRest, parameters, defaultValue, aConstant, inherits, parent, devices, device, moreDevices, ends}
@@ -23,24 +24,24 @@ entryKind parameter = Parameter
 pub data Default : Node → Type 0 where
   byDefault : {p : ℕ} → Default (leaf p 0x1b [])
 
-module _ (S : List ℕ → Type 0) where
+module _ (types : Types) (S : List ℕ → Type 0) where
   -- ---- Symbols: Q holds of all that may come of them
 
   -- one field of a kind more
   abbrev pub Plus : Kind → (Build → Type 0) → Build → Type 0
-  Plus kind Q (build b (frame q u g ks) fs) = (k : Node) → Of S kind k → Q (build b (frame q u g (ks ▸ k)) fs)
+  Plus kind Q (build b (frame q u g ks) fs) = (k : Node) → Of types S kind k → Q (build b (frame q u g (ks ▸ k)) fs)
 
   -- any number of them
   abbrev pub Any : Kind → (Build → Type 0) → Build → Type 0
-  Any kind Q (build b (frame q u g ks) fs) = (js : Nodes) → More S kind ks js → Q (build b (frame q u g js) fs)
+  Any kind Q (build b (frame q u g ks) fs) = (js : Nodes) → More types S kind ks js → Q (build b (frame q u g js) fs)
 
   -- at least one of them
   abbrev pub Some : Kind → (Build → Type 0) → Build → Type 0
-  Some kind Q (build b (frame q u g ks) fs) = (k : Node) → Of S kind k → (js : Nodes) → More S kind (ks ▸ k) js → Q (build b (frame q u g js) fs)
+  Some kind Q (build b (frame q u g ks) fs) = (k : Node) → Of types S kind k → (js : Nodes) → More types S kind (ks ▸ k) js → Q (build b (frame q u g js) fs)
 
   -- a field of a kind before the others
   abbrev pub Front : Kind → (Build → Type 0) → Build → Type 0
-  Front kind Q (build b (frame q u g ks) fs) = (k : Node) → Of S kind k → Q (build b (frame q u g (inFront k ks)) fs)
+  Front kind Q (build b (frame q u g ks) fs) = (k : Node) → Of types S kind k → Q (build b (frame q u g (inFront k ks)) fs)
 
   -- a default more
   abbrev pub PlusDefault : (Build → Type 0) → Build → Type 0
@@ -53,12 +54,12 @@ module _ (S : List ℕ → Type 0) where
   -- the last field is an expression, and another may come in its place
   abbrev pub Last : (Build → Type 0) → Build → Type 0
   Last Q (build b (frame q u g empty) fs) = ⊥
-  Last Q (build b (frame q u g (ks ▸ i)) fs) = Of S Expression i × ((k : Node) → Of S Expression k → Q (build b (frame q u g (ks ▸ k)) fs))
+  Last Q (build b (frame q u g (ks ▸ i)) fs) = Of types S Expression i × ((k : Node) → Of types S Expression k → Q (build b (frame q u g (ks ▸ k)) fs))
 
   -- the same of a bare word
   abbrev pub LastBare : (Build → Type 0) → Build → Type 0
   LastBare Q (build b (frame q u g empty) fs) = ⊥
-  LastBare Q (build b (frame q u g (ks ▸ i)) fs) = Bare S i × ((k : Node) → Of S Expression k → Q (build b (frame q u g (ks ▸ k)) fs))
+  LastBare Q (build b (frame q u g (ks ▸ i)) fs) = Bare S i × ((k : Node) → Of types S Expression k → Q (build b (frame q u g (ks ▸ k)) fs))
 
   -- the field being read ends
   abbrev pub Closing : (Build → Type 0) → Build → Type 0
@@ -137,7 +138,7 @@ module _ (S : List ℕ → Type 0) where
   -- one action
   abbrev pub Doing : Action → Lexeme → (Build → Type 0) → Build → Type 0
   Doing (begin t) x Q f = Begun (placeOf x) t Q f
-  Doing beginResource x Q f = Begun (placeOf x) (resourceTag (spelled (tokenOf x))) Q f
+  Doing beginResource x Q f = Begun (placeOf x) (resourceTag types (spelled (tokenOf x))) Q f
   Doing (around t h) x Q f = Around (placeOf x) t h Q f
   Doing (instead t) x Q f = Instead t Q f
   Doing close x Q f = Closing Q f

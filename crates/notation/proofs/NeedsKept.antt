@@ -8,6 +8,7 @@ use native.Mathlib.Omega.{arith}
 use lib.Dec.{leb, ltb}
 use lib.ListN.{length}
 use Rattle.rules.specs.Bytes.{pick}
+use Rattle.rules.specs.Types.{Types}
 use Rattle.notation.specs.Tokens.{Lexeme}
 use Rattle.notation.specs.Building.{node, empty, _▸_, height, frame, Build, build, Action, begin, beginResource, around, instead, close, constant, read, named, parentFirst, void, enter, leave, added, addedFirst, begun, act, acts}
 use Rattle.notation.proofs.Needs.{Doing, DoingAll}
@@ -25,9 +26,9 @@ fitted : (b : Bool) (f g : Build) → _≡_ {A = Option Build} (pick b (some f) 
 fitted true f g e = cc
 fitted false f g e = none-not-some e
 
-module _ (S : List ℕ → Type 0) (x : Lexeme) where
+module _ (types : Types) (S : List ℕ → Type 0) (x : Lexeme) where
   -- one action
-  doing-kept : (Q : Build → Type 0) (a : Action) (f g : Build) → act a x f ≡ some g → Doing S a x Q f → Q g
+  doing-kept : (Q : Build → Type 0) (a : Action) (f g : Build) → act types a x f ≡ some g → Doing types S a x Q f → Q g
   unfolding act added addedFirst begun
   doing-kept Q (begin t) (build b f fs) g e w = subst Q (fitted (leb (length fs + 1) 32) _ g e) w
   doing-kept Q beginResource (build b f fs) g e w = subst Q (fitted (leb (length fs + 1) 32) _ g e) w
@@ -47,11 +48,11 @@ module _ (S : List ℕ → Type 0) (x : Lexeme) where
   doing-kept Q leave (build (suc b) f fs) g e w = subst Q (same-result _ g e) w
 
   -- some actions
-  pub doing-all-kept : (Q : Build → Type 0) (ds : List Action) (f g : Build) → acts ds x f ≡ some g → DoingAll S ds x Q f → Q g
+  pub doing-all-kept : (Q : Build → Type 0) (ds : List Action) (f g : Build) → acts types ds x f ≡ some g → DoingAll types S ds x Q f → Q g
   unfolding acts
   doing-all-kept Q [] f g e w = subst Q (same-result _ g e) w
-  doing-all-kept Q (a ∷ ds) f g e w = go (act a x f) refl (λ h i v. doing-all-kept Q ds h g i v) e
+  doing-all-kept Q (a ∷ ds) f g e w = go (act types a x f) refl (λ h i v. doing-all-kept Q ds h g i v) e
     where
-      go : (o : Option Build) → act a x f ≡ o → ((h : Build) → acts ds x h ≡ some g → DoingAll S ds x Q h → Q g) → _≡_ {A = Option Build} (elim o as (λ q. Option Build) [ none ↦ none | some h ↦ acts ds x h ]) (some g) → Q g
+      go : (o : Option Build) → act types a x f ≡ o → ((h : Build) → acts types ds x h ≡ some g → DoingAll types S ds x Q h → Q g) → _≡_ {A = Option Build} (elim o as (λ q. Option Build) [ none ↦ none | some h ↦ acts types ds x h ]) (some g) → Q g
       go none h others e = none-not-some e
-      go (some i) h others e = others i e (doing-kept (DoingAll S ds x Q) a f i h w)
+      go (some i) h others e = others i e (doing-kept (DoingAll types S ds x Q) a f i h w)

@@ -16,6 +16,7 @@ use Rattle.rules.specs.Fields.{field, Fields, none as noFields, more, readAll, 
 use Rattle.rules.specs.Read.{stringsFrom, manifestFrom, manifestOf}
 use Rattle.rules.specs.declared.Piece.{Piece as ListedPiece}
 use Rattle.rules.proofs.TypedBack.{unplaced as unplacedField, unplacedAll as unplacedFields}
+use Rattle.rules.specs.Types.{Types}
 use Rattle.notation.specs.Tokens.{Lexeme}
 use Rattle.notation.specs.Building.{Piece, byte, Node, node, Nodes, empty, _▸_}
 use Rattle.notation.specs.Convert.{tableBehind, pieceBytes, headBytes, numbered, numberedOnto, manifestFields, lateAmong, manifestBytes}
@@ -30,7 +31,7 @@ use Rattle.notation.proofs.ConvertedSound.{strings-back, ReadWhole, ite
 
 -- ---- Heads
 
-module _ (table : List (List ℕ)) (small : length table ≤ 1024) where
+module _ (types : Types) (table : List (List ℕ)) (small : length table ≤ 1024) where
   -- the string with the number that two bytes make
   name-back : {w : List ℕ} (i : Numbered table w) → stringAt table (i .number / 256 * 256 + i .number % 256) ≡ w
   name-back i =
@@ -42,17 +43,17 @@ module _ (table : List (List ℕ)) (small : length table ≤ 1024) where
   eight-back bs e = ap (map byte) (ap (λ (n : ℕ). take n bs) (sym e) ∙ take-length bs)
 
   -- the pieces of a head
-  head-back : {t : ℕ} {x y : ListedPiece} {h : List Piece} → Heading (Numbered table) t x y h → namedPiece table (headBytes table h) 0 x ++ namedPiece table (headBytes table h) (size x) y ≡ h
+  head-back : {t : ℕ} {x y : ListedPiece} {h : List Piece} → Heading types (Numbered table) t x y h → namedPiece table (headBytes table h) 0 x ++ namedPiece table (headBytes table h) (size x) y ≡ h
   unfolding headBytes pieceBytes namedPiece size two
   head-back noPiece = refl
-  head-back (anInteger {l = l} {bs = bs} c eight b) = rw (plain-bytes table bs) (ap (λ (ps : List Piece). byte l ∷ ps) (eight-back bs eight))
-  head-back (aString {l = l} c n) = rw (name-bytes table small (n .known), name-back (n .known))
+  head-back (anInteger {l = l} {bs = bs} c eight b) = rw (plain-bytes types table bs) (ap (λ (ps : List Piece). byte l ∷ ps) (eight-back bs eight))
+  head-back (aString {l = l} c n) = rw (name-bytes types table small (n .known), name-back (n .known))
   head-back (aBoolean c low) = refl
   head-back (anOperator low) = refl
-  head-back (oneName n) = rw (name-bytes table small (n .known), name-back (n .known))
-  head-back (twoNames m n) = rw (name-bytes table small (m .known), name-bytes table small (n .known), name-back (m .known), name-back (n .known))
+  head-back (oneName n) = rw (name-bytes types table small (n .known), name-back (n .known))
+  head-back (twoNames m n) = rw (name-bytes types table small (m .known), name-bytes types table small (n .known), name-back (m .known), name-back (n .known))
 
-  whole-head : (t : ℕ) {h : List Piece} → Heading (Numbered table) t (formOf t .one) (formOf t .two) h → namedHead table t (headBytes table h) ≡ h
+  whole-head : (t : ℕ) {h : List Piece} → Heading types (Numbered table) t (formOf t .one) (formOf t .two) h → namedHead table t (headBytes table h) ≡ h
   unfolding namedHead
   whole-head t i = head-back i
 
@@ -61,10 +62,10 @@ module _ (table : List (List ℕ)) (small : length table ≤ 1024) where
   mutual
     unfolding numbered named unplaced
 
-    node-back : {k : Node} → Formed (Numbered table) k → named table (numbered table k) ≡ unplaced k
+    node-back : {k : Node} → Formed types (Numbered table) k → named table (numbered table k) ≡ unplaced k
     node-back (formed {t = t} small-tag head contents all) = ap₂ (λ (h : List Piece) (ks : Nodes). node 0 t h ks) (whole-head t head) (nodes-back all noFields)
 
-    nodes-back : {ks : Nodes} → AllFormed (Numbered table) ks → (rest : Fields) → namedOnto table (numberedOnto table ks rest) empty ≡ namedOnto table rest (unplacedAll ks)
+    nodes-back : {ks : Nodes} → AllFormed types (Numbered table) ks → (rest : Fields) → namedOnto table (numberedOnto table ks rest) empty ≡ namedOnto table rest (unplacedAll ks)
     nodes-back noneFormed rest = refl
     nodes-back (alsoFormed {ks = ks} {k = k} all f) rest =
         nodes-back all (more (numbered table k) rest) ∙ ap (λ (j : Node). namedOnto table rest (unplacedAll ks ▸ j)) (node-back f)
@@ -82,14 +83,14 @@ unfolding unplacedField first inner
 table-unplaced noFields = refl
 table-unplaced (more (field p t h js) ks) = strings-unplaced js
 
-module _ {xs : List Lexeme} {items : Nodes} (r : ReadWhole xs items) (late : lateAmong items ≡ none) where
+module _ (types : Types) {xs : List Lexeme} {items : Nodes} (r : ReadWhole types xs items) (late : lateAmong items ≡ none) where
   abbrev table : List (List ℕ)
   table = tableBehind xs []
 
   -- what is written is read as the fields, but for places
   fields-back : unplacedFields (readAll (manifestBytes xs items)) ≡ unplacedFields (manifestFields table items)
   unfolding manifestBytes
-  fields-back = read-back (manifestFields table items) (manifest-complete r late)
+  fields-back = read-back (manifestFields table items) (manifest-complete types r late)
 
   -- its strings are those of the table
   pub written-strings : manifestOf (manifestBytes xs items) .strings ≡ table
@@ -104,7 +105,7 @@ module _ {xs : List Lexeme} {items : Nodes} (r : ReadWhole xs items) (late : lat
       sym (onto-unplaced table (others (readAll (manifestBytes xs items))) empty)
       ∙ ap (λ (ks : Fields). namedOnto table ks empty) (sym (others-unplaced (readAll (manifestBytes xs items))) ∙ ap others fields-back ∙ others-unplaced (manifestFields table items))
       ∙ onto-unplaced table (numberedOnto table items noFields) empty
-      ∙ nodes-back table (r .few) (items-has r late .all) noFields
+      ∙ nodes-back types table (r .few) (items-has types r late .all) noFields
 
   -- its tree is that of the text, but for places
   pub written-tree : namedTree (manifestBytes xs items) ≡ unplacedAll items

@@ -21,6 +21,7 @@ use Rattle.rules.specs.declared.Form.{Form}
 use Rattle.rules.specs.declared.Next.{Next}
 use Rattle.rules.specs.declared.Next.the-variants.{Go, Wrong}
 use Rattle.rules.proofs.Listed.{same, HeadIs}
+use Rattle.rules.specs.Types.{Types}
 use Rattle.notation.specs.Building.{Piece, byte, Node, node, Nodes, empty, _▸_, height, tallest}
 use Rattle.notation.specs.Grammar.{orZero}
 use Rattle.notation.specs.Convert.{pieceBytes, headBytes, numbered, numberedOnto, labelIn, orLater, lateIn, lateAmong}
@@ -50,7 +51,7 @@ two-bytes v h =
     let low : v / 256 ^ 0 % 256 ≡ v % 256 = omega arith in
     rw (high, low)
 
-module _ (table : List (List ℕ)) where
+module _ (types : Types) (table : List (List ℕ)) where
   -- bytes are themselves
   pub plain-bytes : (bs : List ℕ) → headBytes table (map byte bs) ≡ bs
   unfolding headBytes pieceBytes
@@ -78,7 +79,7 @@ module _ (table : List (List ℕ)) where
     label-byte t l e f = let high = ltb-false 255 l (rw e at f) in omega arith
 
     -- the pieces of a field that is no late constant
-    head-facts : {t : ℕ} {x y : ListedPiece} {h : List Piece} → Heading (Numbered table) t x y h → (isConstant t && ltb 255 (labelIn h)) ≡ false → HeadFacts (length table) x y (headBytes table h)
+    head-facts : {t : ℕ} {x y : ListedPiece} {h : List Piece} → Heading types (Numbered table) t x y h → (isConstant t && ltb 255 (labelIn h)) ≡ false → HeadFacts (length table) x y (headBytes table h)
     unfolding headBytes pieceBytes pieceRight nameRight size two
     head-facts noPiece e = record { count = refl; bytes = no-bytes; first = refl; second = refl; firstName = refl; secondName = refl }
     head-facts {t} (anInteger {l = l} {bs = bs} c eight b) e =
@@ -135,9 +136,9 @@ module _ (table : List (List ℕ)) where
 
     -- what is ready at d levels
     abbrev pub ReadyAt : ℕ → Type 0
-    ReadyAt d = (k : Node) → Formed (Numbered table) k → height k ≤ d → lateIn k ≡ none → Ready d k
+    ReadyAt d = (k : Node) → Formed types (Numbered table) k → height k ≤ d → lateIn k ≡ none → Ready d k
 
-    pub all-ready : (d : ℕ) → ReadyAt d → {ks : Nodes} → AllFormed (Numbered table) ks → tallest ks ≤ d → lateAmong ks ≡ none → (rest : Fields) → AllReady d rest → AllReady d (numberedOnto table ks rest)
+    pub all-ready : (d : ℕ) → ReadyAt d → {ks : Nodes} → AllFormed types (Numbered table) ks → tallest ks ≤ d → lateAmong ks ≡ none → (rest : Fields) → AllReady d rest → AllReady d (numberedOnto table ks rest)
     unfolding numberedOnto height lateIn
     all-ready d each noneFormed l e rest r = r
     all-ready d each (alsoFormed {ks = ks} {k = k} all f) l e rest r =
@@ -168,7 +169,7 @@ module _ (table : List (List ℕ)) where
         go false i e = record { here = i; inside = e }
 
     -- a field as listed is ready, where it is not too deep and no constant in it is late
-    pub node-ready : (d : ℕ) (k : Node) → Formed (Numbered table) k → height k ≤ d → lateIn k ≡ none → Ready d k
+    pub node-ready : (d : ℕ) (k : Node) → Formed types (Numbered table) k → height k ≤ d → lateIn k ≡ none → Ready d k
     unfolding numbered height headSize
     node-ready zero (node p t h js) f l e = absurd (omega arith)
     node-ready (suc d) (node p t h js) (formed small-tag head contents all) l e =

@@ -11,6 +11,7 @@ use borrow.Author.Tests.{le-leb, lt-leb, leb-true, eqb-true}
 use Rattle.rules.specs.Bytes.{pick}
 use Rattle.notation.specs.Tokens.{Lexeme, kind, tokenOf, isAmong, aWord, aNumber, aText, aVariable, leftSquare, leftBrace, rightBrace, leftRound, rightRound, colon, equals, inheritsWord, comma, question, endOfText, trueWord, falseWord, defaultWord, elseWord}
 use Rattle.rules.proofs.Within.{false-not-true}
+use Rattle.rules.specs.Types.{Types}
 use Rattle.notation.specs.Building.{Build, Action, byte, start}
 use Rattle.notation.specs.Lexing.{find}
 use Rattle.notation.specs.Grammar.{Symbol, sign, aName, expression, operators, readOrWord, closeBracket, one, maybe, further, Entry, arm, attribute, parameter, branches, items, classRest, parameters, defaultValue, aConstant, inherits, parent, devices, device, moreDevices, inBlock, itemRows, classRows, deviceRows, nodeRows, constantRows, patternRows, statements, block, otherwise, ends, Row, row, levels, binds, operatorByte, operandRows, entryRows, operatorRow, operatorIn, rowOf, leftOut, Reads, done, takes, leaves, run, built, manifest, reading}
@@ -437,22 +438,22 @@ guarded ends q o h = false-not-true h
 
 -- ---- The theorem
 
-reads-reach : {k : List Symbol} {x : Lexeme} {xs : List Lexeme} {f g : Build} → Reads k (x ∷ xs) f g → reach k (kind (tokenOf x)) ≡ true
+reads-reach : (types : Types) {k : List Symbol} {x : Lexeme} {xs : List Lexeme} {f g : Build} → Reads types k (x ∷ xs) f g → reach k (kind (tokenOf x)) ≡ true
 unfolding reach
-reads-reach (takes h i r) = rw h
-reads-reach {x = x} (leaves {s = s} {k = k} h i r) = rw (h, reads-reach r) (or-true (isSome (rowOf s (kind (tokenOf x)))))
+reads-reach types (takes h i r) = rw h
+reads-reach types {x = x} (leaves {s = s} {k = k} h i r) = rw (h, reads-reach types r) (or-true (isSome (rowOf s (kind (tokenOf x)))))
 
-one-reading : {k : List Symbol} {xs : List Lexeme} {f g : Build} → Clear k → Reads k xs f g → run xs k f ≡ built g
+one-reading : (types : Types) {k : List Symbol} {xs : List Lexeme} {f g : Build} → Clear k → Reads types k xs f g → run types xs k f ≡ built g
 unfolding run
-one-reading c done = refl
-one-reading c (takes {s = s} {k = k} {ss = ss} {ds = ds} {x = x} {xs = xs} h i r) = take {xs = xs} h i .alike ∙ one-reading (clear-after s ss k (row-passed s (kind (tokenOf x)) ds ss h) c) r
-one-reading c (leaves {s = s} {k = k} {x = x} {xs = xs} h i r) = leave {xs = xs} (free (rowOf s (kind (tokenOf x))) refl) h i .alike ∙ one-reading (c .1) r
+one-reading types c done = refl
+one-reading types c (takes {s = s} {k = k} {ss = ss} {ds = ds} {x = x} {xs = xs} h i r) = take types {xs = xs} h i .alike ∙ one-reading types (clear-after s ss k (row-passed s (kind (tokenOf x)) ds ss h) c) r
+one-reading types c (leaves {s = s} {k = k} {x = x} {xs = xs} h i r) = leave types {xs = xs} (free (rowOf s (kind (tokenOf x))) refl) h i .alike ∙ one-reading types (c .1) r
   where
     free : (o : Option Row) → rowOf s (kind (tokenOf x)) ≡ o → rowOf s (kind (tokenOf x)) ≡ none
     free none e = e
     free (some w) e =
         let no = c .0 (kind (tokenOf x)) (guarded s (kind (tokenOf x)) (rw h) (rw e)) in
-        let yes = reads-reach r in
+        let yes = reads-reach types r in
         absurd (let z : _≡_ {A = ℕ} 0 1 = cc in omega arith)
 
 manifest-clear : Clear manifest
@@ -460,15 +461,15 @@ unfolding reach guards rowOf leftOut binds suits passable
 manifest-clear = ((λ q g. suited items items (sign endOfText ∷ []) refl q g .0), ((λ q g. refl), tt))
 
 -- THE LAW: a text that the grammar gives a tree is read as that tree
-pub reading-complete : {xs : List Lexeme} {g : Build} → Reads manifest xs start g → reading xs ≡ built g
+pub reading-complete : (types : Types) {xs : List Lexeme} {g : Build} → Reads types manifest xs start g → reading types xs ≡ built g
 unfolding reading
-reading-complete r = one-reading manifest-clear r
+reading-complete types r = one-reading types manifest-clear r
 
 -- and what is read is a tree that the grammar gives it
-pub reading-sound : (xs : List Lexeme) (g : Build) → reading xs ≡ built g → Reads manifest xs start g
+pub reading-sound : (types : Types) (xs : List Lexeme) (g : Build) → reading types xs ≡ built g → Reads types manifest xs start g
 unfolding reading
-reading-sound xs g e = sound xs manifest start g e
+reading-sound types xs g e = sound types xs manifest start g e
 
 -- THE LAW: a text has one reading
-pub one-tree : {xs : List Lexeme} {g h : Build} → Reads manifest xs start g → Reads manifest xs start h → g ≡ h
-one-tree r s = let p = reading-complete r in let q = reading-complete s in cc
+pub one-tree : (types : Types) {xs : List Lexeme} {g h : Build} → Reads types manifest xs start g → Reads types manifest xs start h → g ≡ h
+one-tree types r s = let p = reading-complete types r in let q = reading-complete types s in cc

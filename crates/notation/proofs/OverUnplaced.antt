@@ -10,6 +10,7 @@ use Rattle.rules.specs.Format.{isConstant}
 use Rattle.rules.specs.Fields.{Field, field, Fields, none as noFields, more, headOf, tagOf, inner, first}
 use Rattle.rules.specs.Read.{stringsFrom}
 use Rattle.rules.proofs.TypedBack.{unplaced, unplacedAll}
+use Rattle.rules.specs.Types.{Types}
 use Rattle.notation.specs.Printer.{namesSpellable, typeRight, labelRight, Gone, stops, past, going, over, overAll, stoppedAt}
 use Rattle.notation.proofs.NeedsKept.{none-not-some, same-result}
 
@@ -66,15 +67,15 @@ pub goes-past : (g : Gone) (l : ℕ) → labelAfter g ≡ some l → going g pas
 goes-past (stops p) l e = none-not-some e
 goes-past (past i) l e = ap past (same-result i l e)
 
-module _ (strings : List (List ℕ)) where
+module _ (types : Types) (strings : List (List ℕ)) where
   -- going over fields stops alike, wherever they are
   mutual
     unfolding over unplaced
 
-    over-unplaced : (k : Field) (l : ℕ) → labelAfter (over strings (unplaced k) l) ≡ labelAfter (over strings k l)
+    over-unplaced : (k : Field) (l : ℕ) → labelAfter (over types strings (unplaced k) l) ≡ labelAfter (over types strings k l)
     over-unplaced (field p t h ks) l =
-        pick-same (labelRight strings l t h && (namesSpellable strings t h && typeRight strings t h)) 0 p _ _ (over-all-unplaced ks (pick (isConstant t) (byteAt h 0) l))
+        pick-same (labelRight strings l t h && (namesSpellable strings t h && typeRight types strings t h)) 0 p _ _ (over-all-unplaced ks (pick (isConstant t) (byteAt h 0) l))
 
-    pub over-all-unplaced : (ks : Fields) (l : ℕ) → labelAfter (overAll strings (unplacedAll ks) l) ≡ labelAfter (overAll strings ks l)
+    pub over-all-unplaced : (ks : Fields) (l : ℕ) → labelAfter (overAll types strings (unplacedAll ks) l) ≡ labelAfter (overAll types strings ks l)
     over-all-unplaced noFields l = refl
-    over-all-unplaced (more k ks) l = going-same (over strings (unplaced k) l) (over strings k l) (overAll strings (unplacedAll ks)) (overAll strings ks) (over-unplaced k l) (λ i. over-all-unplaced ks i)
+    over-all-unplaced (more k ks) l = going-same (over types strings (unplaced k) l) (over types strings k l) (overAll types strings (unplacedAll ks)) (overAll types strings ks) (over-unplaced k l) (λ i. over-all-unplaced ks i)

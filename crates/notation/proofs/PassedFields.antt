@@ -21,6 +21,7 @@ use Rattle.rules.proofs.ReadBack.{two-back}
 use Rattle.rules.proofs.Listed.{both-left, both-right}
 use Rattle.rules.proofs.Fits.{ConstantInRange}
 use Rattle.rules.proofs.TypedBack.{valueField, constantField}
+use Rattle.rules.specs.Types.{Types}
 use Rattle.notation.specs.Printer.{isName, spellable, namesSpellable, typeRight, labelRight, Gone, stops, past, going, over, overAll}
 use Rattle.notation.proofs.Spelled.{ValueFits, Rises, lastLabel, last-append, rises-append}
 
@@ -49,9 +50,9 @@ both-pass {xs = xs} {ys} {l} {z} {g} f join a b =
 -- ---- One field
 
 -- tags of forms without a name, with a name, and with two; none of a constant
-pub record NoName (t : ℕ) : Type 0 where
+pub record NoName (types : Types) (t : ℕ) : Type 0 where
   pub spellable : (strings : List (List ℕ)) (h : List ℕ) → namesSpellable strings t h ≡ true
-  pub type : (strings : List (List ℕ)) (h : List ℕ) → typeRight strings t h ≡ true
+  pub type : (strings : List (List ℕ)) (h : List ℕ) → typeRight types strings t h ≡ true
   pub other : isConstant t ≡ false
 
 pub record OneName (t : ℕ) : Type 0 where
@@ -63,53 +64,53 @@ pub record TwoNames (t : ℕ) : Type 0 where
   pub other : isConstant t ≡ false
 
 -- the tags of each sort
-pub sixteen : NoName 0x16
+pub sixteen : (types : Types) → (NoName types) 0x16
 unfolding namesSpellable spellable typeRight formOf formIn forms size
-sixteen = record { spellable = λ s h. refl; type = λ s h. refl; other = refl }
+sixteen types = record { spellable = λ s h. refl; type = λ s h. refl; other = refl }
 
-pub seventeen : NoName 0x17
+pub seventeen : (types : Types) → (NoName types) 0x17
 unfolding namesSpellable spellable typeRight formOf formIn forms size
-seventeen = record { spellable = λ s h. refl; type = λ s h. refl; other = refl }
+seventeen types = record { spellable = λ s h. refl; type = λ s h. refl; other = refl }
 
-pub nineteen : NoName 0x19
+pub nineteen : (types : Types) → (NoName types) 0x19
 unfolding namesSpellable spellable typeRight formOf formIn forms size
-nineteen = record { spellable = λ s h. refl; type = λ s h. refl; other = refl }
+nineteen types = record { spellable = λ s h. refl; type = λ s h. refl; other = refl }
 
-pub arm-tag : NoName 0x1a
+pub arm-tag : (types : Types) → (NoName types) 0x1a
 unfolding namesSpellable spellable typeRight formOf formIn forms size
-arm-tag = record { spellable = λ s h. refl; type = λ s h. refl; other = refl }
+arm-tag types = record { spellable = λ s h. refl; type = λ s h. refl; other = refl }
 
-pub default-tag : NoName 0x1b
+pub default-tag : (types : Types) → (NoName types) 0x1b
 unfolding namesSpellable spellable typeRight formOf formIn forms size
-default-tag = record { spellable = λ s h. refl; type = λ s h. refl; other = refl }
+default-tag types = record { spellable = λ s h. refl; type = λ s h. refl; other = refl }
 
-pub block-tag : NoName 0x20
+pub block-tag : (types : Types) → (NoName types) 0x20
 unfolding namesSpellable spellable typeRight formOf formIn forms size
-block-tag = record { spellable = λ s h. refl; type = λ s h. refl; other = refl }
+block-tag types = record { spellable = λ s h. refl; type = λ s h. refl; other = refl }
 
-pub if-tag : NoName 0x22
+pub if-tag : (types : Types) → (NoName types) 0x22
 unfolding namesSpellable spellable typeRight formOf formIn forms size
-if-tag = record { spellable = λ s h. refl; type = λ s h. refl; other = refl }
+if-tag types = record { spellable = λ s h. refl; type = λ s h. refl; other = refl }
 
-pub case-tag : NoName 0x23
+pub case-tag : (types : Types) → (NoName types) 0x23
 unfolding namesSpellable spellable typeRight formOf formIn forms size
-case-tag = record { spellable = λ s h. refl; type = λ s h. refl; other = refl }
+case-tag types = record { spellable = λ s h. refl; type = λ s h. refl; other = refl }
 
-pub branch-tag : NoName 0x24
+pub branch-tag : (types : Types) → (NoName types) 0x24
 unfolding namesSpellable spellable typeRight formOf formIn forms size
-branch-tag = record { spellable = λ s h. refl; type = λ s h. refl; other = refl }
+branch-tag types = record { spellable = λ s h. refl; type = λ s h. refl; other = refl }
 
-pub device-tag : NoName 0x31
+pub device-tag : (types : Types) → (NoName types) 0x31
 unfolding namesSpellable spellable typeRight formOf formIn forms size
-device-tag = record { spellable = λ s h. refl; type = λ s h. refl; other = refl }
+device-tag types = record { spellable = λ s h. refl; type = λ s h. refl; other = refl }
 
-pub node-tag : NoName 0x30
+pub node-tag : (types : Types) → (NoName types) 0x30
 unfolding namesSpellable spellable typeRight formOf formIn forms size
-node-tag = record { spellable = λ s h. refl; type = λ s h. refl; other = refl }
+node-tag types = record { spellable = λ s h. refl; type = λ s h. refl; other = refl }
 
-pub zero-tag : NoName 0
+pub zero-tag : (types : Types) → (NoName types) 0
 unfolding namesSpellable spellable typeRight formOf formIn forms size
-zero-tag = record { spellable = λ s h. refl; type = λ s h. refl; other = refl }
+zero-tag types = record { spellable = λ s h. refl; type = λ s h. refl; other = refl }
 
 pub thirteen : OneName 0x13
 unfolding namesSpellable spellable typeRight formOf formIn forms size
@@ -167,57 +168,57 @@ pub eighteen : TwoNames 0x18
 unfolding namesSpellable spellable typeRight formOf formIn forms size
 eighteen = record { spellable = λ s h. refl; other = refl }
 
-module _ (strings : List (List ℕ)) where
-  over-other : (t : ℕ) (h : List ℕ) (ks : Fields) (l : ℕ) → isConstant t ≡ false → over strings (field 0 t h ks) l ≡ pick (namesSpellable strings t h && typeRight strings t h) (overAll strings ks l) (stops 0)
+module _ (types : Types) (strings : List (List ℕ)) where
+  over-other : (t : ℕ) (h : List ℕ) (ks : Fields) (l : ℕ) → isConstant t ≡ false → over types strings (field 0 t h ks) l ≡ pick (namesSpellable strings t h && typeRight types strings t h) (overAll types strings ks l) (stops 0)
   unfolding over labelRight
   over-other t h ks l e = rw (over, e)
 
   -- the first of some fields, and then the others
   abbrev pub then-all : Fields → (ℕ → Gone) → ℕ → Gone
-  then-all ks g u = going (overAll strings ks u) g
+  then-all ks g u = going (overAll types strings ks u) g
 
-  pub first-passed : (k : Field) (ks : Fields) (l z : ℕ) (g : ℕ → Gone) → going (overAll strings (more k ks) l) g ≡ past z → going (over strings k l) (then-all ks g) ≡ past z
+  pub first-passed : (k : Field) (ks : Fields) (l z : ℕ) (g : ℕ → Gone) → going (overAll types strings (more k ks) l) g ≡ past z → going (over types strings k l) (then-all ks g) ≡ past z
   unfolding over
-  first-passed k ks l z g e = go (over strings k l) e
+  first-passed k ks l z g e = go (over types strings k l) e
     where
-      go : (x : Gone) → going (going x (overAll strings ks)) g ≡ past z → going x (then-all ks g) ≡ past z
+      go : (x : Gone) → going (going x (overAll types strings ks)) g ≡ past z → going x (then-all ks g) ≡ past z
       go (stops p) e = e
       go (past u) e = e
 
-  pub bare-passed : (t : ℕ) → NoName t → (h : List ℕ) (ks : Fields) (l z : ℕ) (g : ℕ → Gone) → going (over strings (field 0 t h ks) l) g ≡ past z → going (overAll strings ks l) g ≡ past z
+  pub bare-passed : (t : ℕ) → NoName types t → (h : List ℕ) (ks : Fields) (l z : ℕ) (g : ℕ → Gone) → going (over types strings (field 0 t h ks) l) g ≡ past z → going (overAll types strings ks l) g ≡ past z
   bare-passed t b h ks l z g e =
-      let same : over strings (field 0 t h ks) l ≡ overAll strings ks l = over-other t h ks l (b .other) ∙ rw (b .spellable strings h, b .type strings h) in
+      let same : over types strings (field 0 t h ks) l ≡ overAll types strings ks l = over-other t h ks l (b .other) ∙ rw (b .spellable strings h, b .type strings h) in
       subst (λ (x : Gone). going x g ≡ past z) same e
 
   -- what was found of a field with a name
   pub record NamePassed (t n : ℕ) (h : List ℕ) (ks : Fields) (l z : ℕ) (g : ℕ → Gone) : Type 0 where
     pub name : isName (stringAt strings n) ≡ true
-    pub type : typeRight strings t h ≡ true
-    pub inside : going (overAll strings ks l) g ≡ past z
+    pub type : typeRight types strings t h ≡ true
+    pub inside : going (overAll types strings ks l) g ≡ past z
 
-  pub name-passed : (t : ℕ) → OneName t → (n : ℕ) → n < 65536 → (ks : Fields) (l z : ℕ) (g : ℕ → Gone) → going (over strings (field 0 t (highBytes 2 n) ks) l) g ≡ past z → NamePassed t n (highBytes 2 n) ks l z g
+  pub name-passed : (t : ℕ) → OneName t → (n : ℕ) → n < 65536 → (ks : Fields) (l z : ℕ) (g : ℕ → Gone) → going (over types strings (field 0 t (highBytes 2 n) ks) l) g ≡ past z → NamePassed t n (highBytes 2 n) ks l z g
   unfolding highBytes
   name-passed t b n m ks l z g e =
-      let test = passed-test (namesSpellable strings t (highBytes 2 n) && typeRight strings t (highBytes 2 n)) (overAll strings ks l) 0 z g (subst (λ (x : Gone). going x g ≡ past z) (over-other t (highBytes 2 n) ks l (b .other)) e) in
-      let spelled = sym (b .spellable strings (highBytes 2 n)) ∙ both-left (namesSpellable strings t (highBytes 2 n)) (typeRight strings t (highBytes 2 n)) (test .0) in
+      let test = passed-test (namesSpellable strings t (highBytes 2 n) && typeRight types strings t (highBytes 2 n)) (overAll types strings ks l) 0 z g (subst (λ (x : Gone). going x g ≡ past z) (over-other t (highBytes 2 n) ks l (b .other)) e) in
+      let spelled = sym (b .spellable strings (highBytes 2 n)) ∙ both-left (namesSpellable strings t (highBytes 2 n)) (typeRight types strings t (highBytes 2 n)) (test .0) in
       let first = both-left (isName (stringAt strings (two (highBytes 2 n) 0))) true spelled in
       record {
         name = subst (λ (x : ℕ). isName (stringAt strings x) ≡ true) (two-back n [] m) first;
-        type = both-right (namesSpellable strings t (highBytes 2 n)) (typeRight strings t (highBytes 2 n)) (test .0);
+        type = both-right (namesSpellable strings t (highBytes 2 n)) (typeRight types strings t (highBytes 2 n)) (test .0);
         inside = test .1;
       }
 
   pub record NamesPassed (c n : ℕ) (ks : Fields) (l z : ℕ) (g : ℕ → Gone) : Type 0 where
     pub first : isName (stringAt strings c) ≡ true
     pub second : isName (stringAt strings n) ≡ true
-    pub inside : going (overAll strings ks l) g ≡ past z
+    pub inside : going (overAll types strings ks l) g ≡ past z
 
-  pub names-passed : (t : ℕ) → TwoNames t → (c n : ℕ) → c < 65536 → n < 65536 → (ks : Fields) (l z : ℕ) (g : ℕ → Gone) → going (over strings (field 0 t (highBytes 2 c ++ highBytes 2 n) ks) l) g ≡ past z → NamesPassed c n ks l z g
+  pub names-passed : (t : ℕ) → TwoNames t → (c n : ℕ) → c < 65536 → n < 65536 → (ks : Fields) (l z : ℕ) (g : ℕ → Gone) → going (over types strings (field 0 t (highBytes 2 c ++ highBytes 2 n) ks) l) g ≡ past z → NamesPassed c n ks l z g
   unfolding highBytes
   names-passed t b c n m o ks l z g e =
       let h : List ℕ = highBytes 2 c ++ highBytes 2 n in
-      let test = passed-test (namesSpellable strings t h && typeRight strings t h) (overAll strings ks l) 0 z g (subst (λ (x : Gone). going x g ≡ past z) (over-other t h ks l (b .other)) e) in
-      let spelled = sym (b .spellable strings h) ∙ both-left (namesSpellable strings t h) (typeRight strings t h) (test .0) in
+      let test = passed-test (namesSpellable strings t h && typeRight types strings t h) (overAll types strings ks l) 0 z g (subst (λ (x : Gone). going x g ≡ past z) (over-other t h ks l (b .other)) e) in
+      let spelled = sym (b .spellable strings h) ∙ both-left (namesSpellable strings t h) (typeRight types strings t h) (test .0) in
       record {
         first = subst (λ (x : ℕ). isName (stringAt strings x) ≡ true) (two-back c (highBytes 2 n) m) (both-left (isName (stringAt strings (two h 0))) (isName (stringAt strings (two h 2))) spelled);
         second = subst (λ (x : ℕ). isName (stringAt strings x) ≡ true) (two-second c n [] o) (both-right (isName (stringAt strings (two h 0))) (isName (stringAt strings (two h 2))) spelled);
@@ -231,19 +232,19 @@ module _ (strings : List (List ℕ)) where
   value-fits (String n) f = tt
   value-fits (Boolean b) f = tt
 
-  label-passed : (t l k : ℕ) (h : List ℕ) (z : ℕ) (g : ℕ → Gone) → isConstant t ≡ true → namesSpellable strings t (k ∷ h) ≡ true → typeRight strings t (k ∷ h) ≡ true → going (over strings (field 0 t (k ∷ h) noFields) l) g ≡ past z → (l ≤ k) × (g k ≡ past z)
+  label-passed : (t l k : ℕ) (h : List ℕ) (z : ℕ) (g : ℕ → Gone) → isConstant t ≡ true → namesSpellable strings t (k ∷ h) ≡ true → typeRight types strings t (k ∷ h) ≡ true → going (over types strings (field 0 t (k ∷ h) noFields) l) g ≡ past z → (l ≤ k) × (g k ≡ past z)
   unfolding over labelRight
   label-passed t l k h z g c n y e =
       let test = passed-test (leb l k && true) (past k) 0 z g (rw (over, c, n, y) at e) in
       (leb-true l k (both-left (leb l k) true (test .0)), test .1)
 
-  pub constant-passed : (c : Constant) → ConstantInRange c → (l z : ℕ) (g : ℕ → Gone) → going (over strings (constantField c) l) g ≡ past z → Passes (Unit {0}) (c ∷ []) l g z
+  pub constant-passed : (c : Constant) → ConstantInRange c → (l z : ℕ) (g : ℕ → Gone) → going (over types strings (constantField c) l) g ≡ past z → Passes (Unit {0}) (c ∷ []) l g z
   unfolding constantField valueField namesSpellable spellable typeRight formOf formIn forms size
   constant-passed c f l z g e =
       let p = go (c .value) e in
       record { found = tt; rises = (p .0, value-fits (c .value) (f .value), tt); onward = p .1 }
     where
-      go : (x : Value) → going (over strings (valueField (c .label) x) l) g ≡ past z → (l ≤ c .label) × (g (c .label) ≡ past z)
+      go : (x : Value) → going (over types strings (valueField (c .label) x) l) g ≡ past z → (l ≤ c .label) × (g (c .label) ≡ past z)
       go (Integer y) e = label-passed 0x10 l (c .label) _ z g refl refl refl e
       go (String n) e = label-passed 0x11 l (c .label) _ z g refl refl refl e
       go (Boolean b) e = label-passed 0x12 l (c .label) _ z g refl refl refl e

@@ -9,7 +9,7 @@ use lib.ListN.{length}
 use borrow.Author.Tests.{eqb-true, eqb-false, leb-true, le-leb}
 use Rattle.rules.specs.Bytes.{pick, byte as byteAt, two}
 use Rattle.rules.specs.Format.{isConstant, size, forms, formIn, formOf}
-use Rattle.rules.specs.Types.{theEight}
+use Rattle.rules.specs.Types.{Types}
 use Rattle.rules.specs.Compile.{stringAt, isBuiltIn}
 use Rattle.rules.specs.Fields.{field, Fields, none as noFields, more}
 use Rattle.rules.specs.declared.Piece.{Piece as ListedPiece}
@@ -62,7 +62,7 @@ or-both true q a b e f = refl
 or-both false true a b e f = refl
 or-both false false a b e f = both-true a b e f
 
-module _ (table : List (List ℕ)) (small : length table ≤ 1024) where
+module _ (types : Types) (table : List (List ℕ)) (small : length table ≤ 1024) where
   -- a name is read back from its two bytes
   name-back : {w : List ℕ} (i : Numbered table w) → stringAt table (i .number / 256 * 256 + i .number % 256) ≡ w
   name-back i =
@@ -70,42 +70,42 @@ module _ (table : List (List ℕ)) (small : length table ≤ 1024) where
       rw whole (i .back)
 
   -- names are spelled
-  names-spelled : (t : ℕ) {x y : ListedPiece} {h : List Piece} → Heading (Numbered table) t x y h → (eqb t 0x11 || (eqb t 0x31 || (spellable table (headBytes table h) 0 x && spellable table (headBytes table h) (size x) y))) ≡ true
+  names-spelled : (t : ℕ) {x y : ListedPiece} {h : List Piece} → Heading types (Numbered table) t x y h → (eqb t 0x11 || (eqb t 0x31 || (spellable table (headBytes table h) 0 x && spellable table (headBytes table h) (size x) y))) ≡ true
   unfolding spellable headBytes pieceBytes size two
   names-spelled t noPiece = or-true-right (eqb t 0x11) _ (or-true-right (eqb t 0x31) true refl)
   names-spelled t (anInteger c e b) = or-true-right (eqb t 0x11) _ (or-true-right (eqb t 0x31) true refl)
-  names-spelled t (aString c n) = rw (name-bytes table small (n .known), name-back (n .known)) (n .spelling)
+  names-spelled t (aString c n) = rw (name-bytes types table small (n .known), name-back (n .known)) (n .spelling)
   names-spelled t (aBoolean c l) = or-true-right (eqb t 0x11) _ (or-true-right (eqb t 0x31) true refl)
   names-spelled t (anOperator l) = or-true-right (eqb t 0x11) _ (or-true-right (eqb t 0x31) true refl)
-  names-spelled t (oneName n) = rw (name-bytes table small (n .known), name-back (n .known)) (or-both (eqb t 0x11) (eqb t 0x31) _ true (n .spelling) (or-true-right (eqb t 0x11) _ (or-true-right (eqb t 0x31) true refl)))
-  names-spelled t (twoNames m n) = rw (name-bytes table small (m .known), name-bytes table small (n .known), name-back (m .known), name-back (n .known)) (or-both (eqb t 0x11) (eqb t 0x31) _ _ (m .spelling) (n .spelling))
+  names-spelled t (oneName n) = rw (name-bytes types table small (n .known), name-back (n .known)) (or-both (eqb t 0x11) (eqb t 0x31) _ true (n .spelling) (or-true-right (eqb t 0x11) _ (or-true-right (eqb t 0x31) true refl)))
+  names-spelled t (twoNames m n) = rw (name-bytes types table small (m .known), name-bytes types table small (n .known), name-back (m .known), name-back (n .known)) (or-both (eqb t 0x11) (eqb t 0x31) _ _ (m .spelling) (n .spelling))
 
   -- a field that begins with no name is no resource
-  no-resource : (t : ℕ) (h : List ℕ) → isNamePiece (formOf t .one) ≡ false → typeRight table t h ≡ true
+  no-resource : (t : ℕ) (h : List ℕ) → isNamePiece (formOf t .one) ≡ false → typeRight types table t h ≡ true
   unfolding typeRight formOf formIn forms
   no-resource t h e = go (eqb t 0x25) refl (eqb t 0x27) refl
     where
       named : (u : ℕ) → t ≡ u → isNamePiece (formOf u .one) ≡ false
       named u i = rw i at e
 
-      go : (a : Bool) → eqb t 0x25 ≡ a → (b : Bool) → eqb t 0x27 ≡ b → pick a (isBuiltIn theEight table (two h 0)) (pick b (not (isBuiltIn theEight table (two h 0))) true) ≡ true
+      go : (a : Bool) → eqb t 0x25 ≡ a → (b : Bool) → eqb t 0x27 ≡ b → pick a (isBuiltIn types table (two h 0)) (pick b (not (isBuiltIn types table (two h 0))) true) ≡ true
       go true i b j = false-not-true (sym (named 0x25 (eqb-true t 0x25 i)))
       go false i true j = false-not-true (sym (named 0x27 (eqb-true t 0x27 j)))
       go false i false j = refl
 
   -- types are as the tags say
-  type-told : (t : ℕ) {x y : ListedPiece} {h : List Piece} → Heading (Numbered table) t x y h → formOf t .one ≡ x → typeRight table t (headBytes table h) ≡ true
+  type-told : (t : ℕ) {x y : ListedPiece} {h : List Piece} → Heading types (Numbered table) t x y h → formOf t .one ≡ x → typeRight types table t (headBytes table h) ≡ true
   unfolding typeRight isBuiltIn headBytes pieceBytes two
   type-told t noPiece e = no-resource t (headBytes table []) (rw e)
   type-told t (anInteger {l = l} {bs = bs} c n b) e = no-resource t (headBytes table (byte l ∷ map byte bs)) (rw e)
   type-told t (aString {l = l} {w = w} c n) e = no-resource t (headBytes table (byte l ∷ name w ∷ [])) (rw e)
   type-told t (aBoolean {l = l} {b = b} c n) e = no-resource t (headBytes table (byte l ∷ byte b ∷ [])) (rw e)
   type-told t (anOperator {b = b} l) e = no-resource t (headBytes table (byte b ∷ [])) (rw e)
-  type-told t (oneName n) e = rw (name-bytes table small (n .known), name-back (n .known)) (n .type)
-  type-told t (twoNames m n) e = rw (name-bytes table small (m .known), name-back (m .known)) (m .type)
+  type-told t (oneName n) e = rw (name-bytes types table small (n .known), name-back (n .known)) (n .type)
+  type-told t (twoNames m n) e = rw (name-bytes types table small (m .known), name-back (m .known)) (m .type)
 
   -- a constant's label is its first byte
-  label-first : (t : ℕ) {x y : ListedPiece} {h : List Piece} → Heading (Numbered table) t x y h → formOf t .one ≡ x → isConstant t ≡ true → byteAt (headBytes table h) 0 ≡ labelIn h
+  label-first : (t : ℕ) {x y : ListedPiece} {h : List Piece} → Heading types (Numbered table) t x y h → formOf t .one ≡ x → isConstant t ≡ true → byteAt (headBytes table h) 0 ≡ labelIn h
   unfolding headBytes pieceBytes
   label-first t noPiece e c = refl
   label-first t (anInteger d l b) e c = refl
@@ -118,7 +118,7 @@ module _ (table : List (List ℕ)) (small : length table ≤ 1024) where
   -- ---- Going over fields
 
   -- a field whose tests hold is passed
-  field-passed : (p t i : ℕ) (h : List ℕ) (ks : Fields) → labelRight table i t h ≡ true → namesSpellable table t h ≡ true → typeRight table t h ≡ true → over table (field p t h ks) i ≡ overAll table ks (pick (isConstant t) (byteAt h 0) i)
+  field-passed : (p t i : ℕ) (h : List ℕ) (ks : Fields) → labelRight table i t h ≡ true → namesSpellable table t h ≡ true → typeRight types table t h ≡ true → over types table (field p t h ks) i ≡ overAll types table ks (pick (isConstant t) (byteAt h 0) i)
   unfolding over
   field-passed p t i h ks a b c = rw (a, b, c)
 
@@ -136,13 +136,13 @@ module _ (table : List (List ℕ)) (small : length table ≤ 1024) where
   mutual
     unfolding over numbered namesSpellable
 
-    over-node : {i j : ℕ} {k : Node} → Rises i k j → Formed (Numbered table) k → over table (numbered table k) i ≡ past j
+    over-node : {i j : ℕ} {k : Node} → Rises i k j → Formed types (Numbered table) k → over types table (numbered table k) i ≡ past j
     over-node {i} {j} (risesPlain {p = p} {t = t} {h = h} {ks = ks} c r) (formed s head contents all) =
         field-passed p t i (headBytes table h) (numberedOnto table ks noFields) (label-plain i t (headBytes table h) c) (names-spelled t head) (type-told t head refl) ∙ rw c (over-nodes r all noFields)
     over-node {i} {j} (risesConstant {p = p} {t = t} {h = h} c e l) (formed s head contents all) =
         let label : byteAt (headBytes table h) 0 ≡ j = label-first t head refl c ∙ e in
         field-passed p t i (headBytes table h) noFields (label-constant i t (headBytes table h) (omega arith)) (names-spelled t head) (type-told t head refl) ∙ rw (c, label)
 
-    pub over-nodes : {i j : ℕ} {ks : Nodes} → AllRise i ks j → AllFormed (Numbered table) ks → (rest : Fields) → overAll table (numberedOnto table ks rest) i ≡ overAll table rest j
+    pub over-nodes : {i j : ℕ} {ks : Nodes} → AllRise i ks j → AllFormed types (Numbered table) ks → (rest : Fields) → overAll types table (numberedOnto table ks rest) i ≡ overAll types table rest j
     over-nodes noneRise noneFormed rest = refl
     over-nodes (alsoRise {k = k} r a) (alsoFormed all f) rest = over-nodes r all (more (numbered table k) rest) ∙ rw (over-node a f)

@@ -15,6 +15,7 @@ use Rattle.rules.specs.declared.Verdict.the-variants.{Sound}
 use Rattle.rules.proofs.Fits.{manifest-fits}
 use Rattle.rules.proofs.TypedBack.{itemFields}
 use Rattle.rules.proofs.TypedBack
+use Rattle.rules.specs.Types.{Types}
 use Rattle.notation.specs.Tokens.{Lexeme, endOfText}
 use Rattle.notation.specs.Lexing.{tokens}
 use Rattle.notation.specs.Building.{Node, node, Nodes, empty, _▸_, frame, Build, build}
@@ -65,12 +66,12 @@ mutual
 -- ---- The law
 
 -- the tree that the text builds
-pub record ReadBack (m : List ℕ) : Type 0 where
+pub record ReadBack (types : Types) (m : List ℕ) : Type 0 where
   pub items : Nodes
-  pub whole : reading (tokens (textOf (manifestOf m))) ≡ built (build 0 (frame 0 0 [] items) [])
+  pub whole : reading types (tokens (textOf (manifestOf m))) ≡ built (build 0 (frame 0 0 [] items) [])
   pub same : unplacedAll items ≡ namedTree m
 
-module _ (m : List ℕ) (bytes : IsBytes m) (sound : check m ≡ Sound) (printable : unprintableAt m ≡ none) where
+module _ (types : Types) (m : List ℕ) (bytes : IsBytes m) (sound : check m ≡ Sound) (printable : unprintableAt types m ≡ none) where
   abbrev S : ℕ → List ℕ
   S n = stringAt (manifestOf m .strings) n
 
@@ -84,24 +85,24 @@ module _ (m : List ℕ) (bytes : IsBytes m) (sound : check m ≡ Sound) (printab
   abbrev last : ℕ
   last = endLine xs none 0
 
-  passed : Passed (overAll (manifestOf m .strings) (others (readAll m)) 0)
+  passed : Passed (overAll types (manifestOf m .strings) (others (readAll m)) 0)
   unfolding unprintableAt
-  passed = never-stopped (overAll (manifestOf m .strings) (others (readAll m)) 0) printable
+  passed = never-stopped (overAll types (manifestOf m .strings) (others (readAll m)) 0) printable
 
-  items-pass : going (overAll (manifestOf m .strings) (itemFields is) 0) past ≡ past (passed .label)
+  items-pass : going (overAll types (manifestOf m .strings) (itemFields is) 0) past ≡ past (passed .label)
   items-pass =
-      goes-past (overAll (manifestOf m .strings) (itemFields is) 0) (passed .label)
-      (ap (λ (ks : Fields). labelAfter (overAll (manifestOf m .strings) ks 0)) (items-back m bytes sound) ∙ over-all-unplaced (manifestOf m .strings) (others (readAll m)) 0 ∙ passed .passed)
+      goes-past (overAll types (manifestOf m .strings) (itemFields is) 0) (passed .label)
+      (ap (λ (ks : Fields). labelAfter (overAll types (manifestOf m .strings) ks 0)) (items-back m bytes sound) ∙ over-all-unplaced types (manifestOf m .strings) (others (readAll m)) 0 ∙ passed .passed)
 
-  found : Passes (FoundItems (manifestOf m .strings) (IsBytes m) bytes is) (constantsOfItems is) 0 past (passed .label)
-  found = items-passed (manifestOf m .strings) (IsBytes m) bytes is (manifest-fits m) 0 (passed .label) past items-pass
+  found : Passes (FoundItems types (manifestOf m .strings) (IsBytes m) bytes is) (constantsOfItems is) 0 past (passed .label)
+  found = items-passed types (manifestOf m .strings) (IsBytes m) bytes is (manifest-fits m) 0 (passed .label) past items-pass
 
-  whole-items : EachOf (WholeItem S) is
-  whole-items = manifest-whole m bytes sound S (found .found .types)
+  whole-items : EachOf (WholeItem types S) is
+  whole-items = manifest-whole types m bytes sound S (found .found .sorts)
 
   pub layable : Layable none 0 xs
   unfolding tokensOf
-  layable = laid-manifest S (strings-short m bytes sound) is (found .found .spelled whole-items) (found .rises)
+  layable = laid-manifest types S (strings-short m bytes sound) is (found .found .spelled whole-items) (found .rises)
 
   -- the tokens of the text, without their places
   pub text-tokens : bares (tokens (textOf (manifestOf m))) ≡ bares (xs ++ (the last endOfText ∷ []))
@@ -109,18 +110,18 @@ module _ (m : List ℕ) (bytes : IsBytes m) (sound : check m ≡ Sound) (printab
   text-tokens = text-lexed xs layable ∙ sym (bares-append xs (the last endOfText ∷ []))
 
   -- the printed tokens are read as the tree
-  tokens-read : reading (xs ++ (the last endOfText ∷ [])) ≡ built (build 0 (frame 0 0 [] (namedTree m)) [])
+  tokens-read : reading types (xs ++ (the last endOfText ∷ [])) ≡ built (build 0 (frame 0 0 [] (namedTree m)) [])
   unfolding tokensOf
   tokens-read =
-      ap reading (sym (items-then S (the last endOfText ∷ []) is 0))
-      ∙ round-trip S is whole-items (λ u. last) (tree-low m bytes sound)
+      ap (reading types) (sym (items-then S (the last endOfText ∷ []) is 0))
+      ∙ round-trip types S is whole-items (λ u. last) (tree-low m bytes sound)
       ∙ ap (λ (ks : Nodes). built (build 0 (frame 0 0 [] ks) [])) (tree-named m bytes sound)
 
   -- and so are those of the text
-  unplaced-read : unplacedEnded (reading (tokens (textOf (manifestOf m)))) ≡ built (build 0 (frame 0 0 [] (namedTree m)) [])
+  unplaced-read : unplacedEnded (reading types (tokens (textOf (manifestOf m)))) ≡ built (build 0 (frame 0 0 [] (namedTree m)) [])
   unfolding unplacedEnded unplacedBuild unplacedFrames unplacedFrame namedTree unplacedAll
   unplaced-read =
-      sym (reading-same (tokens (textOf (manifestOf m)))) ∙ ap reading text-tokens ∙ reading-same (xs ++ (the last endOfText ∷ [])) ∙ ap unplacedEnded tokens-read
+      sym (reading-same types (tokens (textOf (manifestOf m)))) ∙ ap (reading types) text-tokens ∙ reading-same types (xs ++ (the last endOfText ∷ [])) ∙ ap unplacedEnded tokens-read
       ∙ ap (λ (ks : Nodes). built (build 0 (frame 0 0 [] ks) [])) (onto-bare (manifestOf m .strings) (others (readAll m)) empty)
 
   same-nodes : (ks : Nodes) → unplacedEnded (built (build 0 (frame 0 0 [] ks) [])) ≡ built (build 0 (frame 0 0 [] (namedTree m)) []) → unplacedAll ks ≡ namedTree m
@@ -137,12 +138,12 @@ module _ (m : List ℕ) (bytes : IsBytes m) (sound : check m ≡ Sound) (printab
   text-good = lexed-each GoodToken (tokens (textOf (manifestOf m))) xs last (text-lexed xs layable) (laid-good (each-short m bytes sound) none 0 xs layable (tokens-known m bytes sound)) (omega arith)
 
   -- THE LAW: the text of a manifest is read as that manifest's tree
-  pub read-back : ReadBack m
+  pub read-back : ReadBack types m
   unfolding unplacedEnded
-  read-back = go (reading (tokens (textOf (manifestOf m)))) refl unplaced-read
+  read-back = go (reading types (tokens (textOf (manifestOf m)))) refl unplaced-read
     where
-      go : (e : Ended) → reading (tokens (textOf (manifestOf m))) ≡ e → unplacedEnded e ≡ built (build 0 (frame 0 0 [] (namedTree m)) []) → ReadBack m
+      go : (e : Ended) → reading types (tokens (textOf (manifestOf m))) ≡ e → unplacedEnded e ≡ built (build 0 (frame 0 0 [] (namedTree m)) []) → ReadBack types m
       go (fault p) e h = absurd (let z : _≡_ {A = ℕ} 0 1 = cc in omega arith)
       go (built g) e h =
-          let t = tree-listed ShortText (tokens (textOf (manifestOf m))) g text-good e in
+          let t = tree-listed types ShortText (tokens (textOf (manifestOf m))) g text-good e in
           record { items = t .nodes; whole = e ∙ ap built (t .same); same = same-nodes (t .nodes) (ap (λ (f : Build). unplacedEnded (built f)) (sym (t .same)) ∙ h) }

@@ -10,6 +10,7 @@ use borrow.Author.Tests.{eqb-true, leb-true}
 use Rattle.rules.specs.Bytes.{pick}
 use Rattle.rules.specs.Format.{within, allowed, forms, formIn, formOf}
 use Rattle.rules.specs.declared.Kind.the-variants.{Constant, Expression, Statement, Block, Item}
+use Rattle.rules.specs.Types.{Types}
 use Rattle.notation.specs.Tokens.{word, number, text, variable, topVariable, classVariable, mark, Lexeme, lexeme, kind, tokenOf, question, colon, arrow, leftBrace, rightBrace, leftSquare, rightSquare}
 use Rattle.notation.specs.Lexing.{find}
 use Rattle.notation.specs.Building.{Piece, byte, Node, node, Nodes, empty, _▸_, Frame, frame, Build, build, Action, begin, around, instead, constant, constantNode}
@@ -24,9 +25,9 @@ use Rattle.notation.proofs.TableRows.{found-passes, rowsOf}
 -- ---- Bare words, defaults, operators
 
 -- a bare word is an expression
-pub bare-expression : {S : List ℕ → Type 0} {i : Node} → Bare S i → Of S Expression i
+pub bare-expression : (types : Types) {S : List ℕ → Type 0} {i : Node} → Bare S i → Of types S Expression i
 unfolding allowed formOf formIn forms
-bare-expression (bareWord w) = leaf-of Expression refl (omega arith) (aString refl (word-in 0x11 refl refl w)) refl
+bare-expression types (bareWord w) = leaf-of types Expression refl (omega arith) (aString refl (word-in types 0x11 refl refl w)) refl
 
 -- a word is read as one
 bare-of : {S : List ℕ → Type 0} (x : Lexeme) → Good S (tokenOf x) → kind (tokenOf x) ≡ 0 → Bare S (constantNode x)
@@ -40,8 +41,8 @@ bare-of (lexeme p l (classVariable c n)) g e = absurd (omega arith)
 bare-of (lexeme p l (mark k)) g e = absurd (omega arith)
 
 -- a node by default
-by-default-of : {S : List ℕ → Type 0} {p : ℕ} {d b : Node} → Default d → Of S Block b → Of S Item (node p 0x30 [] (empty ▸ d ▸ b))
-by-default-of byDefault b = default-node-of b
+by-default-of : (types : Types) {S : List ℕ → Type 0} {p : ℕ} {d b : Node} → Default d → Of types S Block b → Of types S Item (node p 0x30 [] (empty ▸ d ▸ b))
+by-default-of types byDefault b = default-node-of types b
 
 -- the operator bytes are 0 to 6
 operator-byte : (k : ℕ) → operatorByte k ≤ 6
@@ -54,10 +55,10 @@ operator-byte k = go (find k operatorBytes) refl
 
 -- ---- One token x, where ks are the last fields and the symbols k come behind
 
-module _ (S : List ℕ → Type 0) (Q : Build → Type 0) (x : Lexeme) (good : Good S (tokenOf x)) (b q u : ℕ) (g : List Piece) (fs : List Frame) (k : List Symbol) where
+module _ (types : Types) (S : List ℕ → Type 0) (Q : Build → Type 0) (x : Lexeme) (good : Good S (tokenOf x)) (b q u : ℕ) (g : List Piece) (fs : List Frame) (k : List Symbol) where
   -- the token is a constant
-  constant-here : {c : ℕ} → kind (tokenOf x) ≡ c → within 3 4 c ≡ false → Of S Constant (constantNode x)
-  constant-here e w = constant-of x good (rw e w)
+  constant-here : {c : ℕ} → kind (tokenOf x) ≡ c → within 3 4 c ≡ false → Of types S Constant (constantNode x)
+  constant-here e w = constant-of types x good (rw e w)
 
   module _ (ks : Nodes) where
     abbrev here : Build
@@ -65,7 +66,7 @@ module _ (S : List ℕ → Type 0) (Q : Build → Type 0) (x : Lexeme) (good : G
 
     -- the row keeps what must hold, where c is the token's kind
     abbrev RowKept : Symbol → ℕ → Row → Type 0
-    RowKept s c (row ds ss) = kind (tokenOf x) ≡ c → BeforeAll S Q (s ∷ k) here → DoingAll S ds x (BeforeAll S Q (ss ++ k)) here
+    RowKept s c (row ds ss) = kind (tokenOf x) ≡ c → BeforeAll types S Q (s ∷ k) here → DoingAll types S ds x (BeforeAll types S Q (ss ++ k)) here
 
     -- all rows of a list do
     abbrev EachRow : Symbol → List (ℕ × Row) → Type 0
@@ -84,11 +85,11 @@ module _ (S : List ℕ → Type 0) (Q : Build → Type 0) (x : Lexeme) (good : G
         go false h others e = others e
 
     -- so does the row that the symbol takes
-    taken-row : (s : Symbol) (ds : List Action) (ss : List Symbol) → find (kind (tokenOf x)) (rowsOf s) ≡ some (row ds ss) → EachRow s (rowsOf s) → BeforeAll S Q (s ∷ k) here → DoingAll S ds x (BeforeAll S Q (ss ++ k)) here
+    taken-row : (s : Symbol) (ds : List Action) (ss : List Symbol) → find (kind (tokenOf x)) (rowsOf s) ≡ some (row ds ss) → EachRow s (rowsOf s) → BeforeAll types S Q (s ∷ k) here → DoingAll types S ds x (BeforeAll types S Q (ss ++ k)) here
     taken-row s ds ss e all = found-row s (rowsOf s) (row ds ss) e all refl
 
     -- rows of one symbol are those of another that asks for more
-    rows-from : (s t : Symbol) → (BeforeAll S Q (t ∷ k) here → BeforeAll S Q (s ∷ k) here) → (rows : List (ℕ × Row)) → EachRow s rows → EachRow t rows
+    rows-from : (s t : Symbol) → (BeforeAll types S Q (t ∷ k) here → BeforeAll types S Q (s ∷ k) here) → (rows : List (ℕ × Row)) → EachRow s rows → EachRow t rows
     rows-from s t f [] all = tt
     rows-from s t f (y ∷ rows) all = (kept (y .1) (all .0), rows-from s t f rows (all .1))
       where
@@ -100,21 +101,21 @@ module _ (S : List ℕ → Type 0) (Q : Build → Type 0) (x : Lexeme) (good : G
     -- operands
     operand-rows : (l : ℕ) → EachRow (expression l) (operandRows l)
     operand-rows l = (
-      (λ e w. (constant-expression (constant-here e refl), w)),
+      (λ e w. (constant-expression types (constant-here e refl), w)),
       (
-        (λ e w. (constant-expression (constant-here e refl), w)),
+        (λ e w. (constant-expression types (constant-here e refl), w)),
         (
-          (λ e w. (constant-expression (constant-here e refl), w)),
+          (λ e w. (constant-expression types (constant-here e refl), w)),
           (
-            (λ e w. (constant-expression (constant-here e refl), w)),
+            (λ e w. (constant-expression types (constant-here e refl), w)),
             (
               (λ e w. (bare-of x good e, λ i o. (o, w))),
               (
-                (λ e w. (variable-of x good (rw e), w)),
+                (λ e w. (variable-of types x good (rw e), w)),
                 (
-                  (λ e w. (variable-of x good (rw e), w)),
+                  (λ e w. (variable-of types x good (rw e), w)),
                   (
-                    (λ e w i o. (negation-of o, w)),
+                    (λ e w i o. (negation-of types o, w)),
                     (
                       (λ e w i o. (o, w)),
                       tt,
@@ -135,36 +136,36 @@ module _ (S : List ℕ → Type 0) (Q : Build → Type 0) (x : Lexeme) (good : G
     -- arms
     arm-rows : EachRow (one arm) (entryRows arm)
     arm-rows = (
-      (λ e w i o. w _ (arm-of default-of o)),
-      constant-rows (one arm) (begin 0x1a ∷ []) (sign arrow ∷ expression 1 ∷ ends ∷ further arm ∷ []) (λ c n e w i o. w _ (arm-of (constant-pattern (constant-here e n)) o)),
+      (λ e w i o. w _ (arm-of types (default-of types) o)),
+      constant-rows (one arm) (begin 0x1a ∷ []) (sign arrow ∷ expression 1 ∷ ends ∷ further arm ∷ []) (λ c n e w i o. w _ (arm-of types (constant-pattern types (constant-here e n)) o)),
     )
 
     -- entries of lists
     entry-rows : (y : Entry) → EachRow (one y) (entryRows y)
     entry-rows arm = arm-rows
-    entry-rows attribute = ((λ e w i o. w _ (attribute-of (word-spelled (tokenOf x) good e) o)), tt)
+    entry-rows attribute = ((λ e w i o. w _ (attribute-of types (word-spelled types (tokenOf x) good e) o)), tt)
     entry-rows parameter =
-        ((λ e w. (w _ (parameter-of (variable-spelled (tokenOf x) good e)), λ c o. w _ (parameter-with-default-of (variable-spelled (tokenOf x) good e) o))), tt)
+        ((λ e w. (w _ (parameter-of types (variable-spelled types (tokenOf x) good e)), λ c o. w _ (parameter-with-default-of types (variable-spelled types (tokenOf x) good e) o))), tt)
 
     -- branches
     branch-rows : EachRow branches (patternRows 0x24 (sign colon ∷ block ∷ ends ∷ branches ∷ []))
     branch-rows = (
-      (λ e w y p js m. w js (furtherField (branch-of default-of p) m)),
-      constant-rows branches (begin 0x24 ∷ []) (sign colon ∷ block ∷ ends ∷ branches ∷ []) (λ c n e w y p js m. w js (furtherField (branch-of (constant-pattern (constant-here e n)) p) m)),
+      (λ e w y p js m. w js (furtherField (branch-of types (default-of types) p) m)),
+      constant-rows branches (begin 0x24 ∷ []) (sign colon ∷ block ∷ ends ∷ branches ∷ []) (λ c n e w y p js m. w js (furtherField (branch-of types (constant-pattern types (constant-here e n)) p) m)),
     )
 
     -- statements, where s may come again behind each
-    statement-rows : (s : Symbol) → (BeforeAll S Q (s ∷ k) here → (i : Node) → Of S Statement i → BeforeAll S Q (s ∷ k) (build b (frame q u g (ks ▸ i)) fs)) → EachRow s (statementRows s)
+    statement-rows : (s : Symbol) → (BeforeAll types S Q (s ∷ k) here → (i : Node) → Of types S Statement i → BeforeAll types S Q (s ∷ k) (build b (frame q u g (ks ▸ i)) fs)) → EachRow s (statementRows s)
     statement-rows s next = (
-      (λ e w i o. next w _ (assignment-of (variable-spelled (tokenOf x) good e) o)),
+      (λ e w i o. next w _ (assignment-of types (variable-spelled types (tokenOf x) good e) o)),
       (
-        (λ e w i o y p n r. next w _ (conditional-of o p r)),
+        (λ e w i o y p n r. next w _ (conditional-of types o p r)),
         (
-          (λ e w i o js m. next w _ (choice-of o m)),
+          (λ e w i o js m. next w _ (choice-of types o m)),
           (
-            (λ e w i o js m. next w _ (resource-of (word-spelled (tokenOf x) good e) o m)),
+            (λ e w i o js m. next w _ (resource-of types (word-spelled types (tokenOf x) good e) o m)),
             (
-              (λ e w v o. next w _ (include-of o)),
+              (λ e w v o. next w _ (include-of types o)),
               tt,
             ),
           ),
@@ -175,7 +176,7 @@ module _ (S : List ℕ → Type 0) (Q : Build → Type 0) (x : Lexeme) (good : G
     -- statements of a block
     block-rows : EachRow statements inBlock
     block-rows = (
-      (λ e w v o is n js m. w js (furtherField (class-of o n) m)),
+      (λ e w v o is n js m. w js (furtherField (class-of types o n) m)),
       statement-rows statements (λ w i o js m. w js (furtherField o m)),
     )
 
@@ -184,10 +185,10 @@ module _ (S : List ℕ → Type 0) (Q : Build → Type 0) (x : Lexeme) (good : G
     item-rows = (
       (λ e w i o js m. w js (furtherField o m)),
       (
-        (λ e w. ((λ d y i o js m. w js (furtherField (by-default-of y o) m)), λ d o is n i p js m. w js (furtherField (node-of o n p) m))),
+        (λ e w. ((λ d y i o js m. w js (furtherField (by-default-of types y o) m)), λ d o is n i p js m. w js (furtherField (node-of types o n p) m))),
         (
-          (λ e w v o is n i p js m. w js (furtherField (definition-of o n p) m)),
-          statement-rows items (λ w i o js m. w js (furtherField (statement-item o) m)),
+          (λ e w v o is n i p js m. w js (furtherField (definition-of types o n p) m)),
+          statement-rows items (λ w i o js m. w js (furtherField (statement-item types o) m)),
         ),
       ),
     )
@@ -195,16 +196,16 @@ module _ (S : List ℕ → Type 0) (Q : Build → Type 0) (x : Lexeme) (good : G
     -- classes outside of blocks
     class-rows : EachRow classRest classRows
     class-rows = (
-      (λ e w v o js m. w _ (statement-item (class-of o m))),
+      (λ e w v o js m. w _ (statement-item types (class-of types o m))),
       (
-        (λ e w js m. let v = word-spelled (tokenOf x) good e in ((λ i p. w _ (class-definition-of v m p)), λ a o i p. w _ (class-with-parent-of v m o p))),
+        (λ e w js m. let v = word-spelled types (tokenOf x) good e in ((λ i p. w _ (class-definition-of types v m p)), λ a o i p. w _ (class-with-parent-of types v m o p))),
         tt,
       ),
     )
 
     -- names of devices
     device-rows : EachRow device deviceRows
-    device-rows = ((λ e w. w _ (device-of (text-spelled S (tokenOf x) good e))), ((λ e w. w _ (device-of (word-spelled (tokenOf x) good e .known))), tt))
+    device-rows = ((λ e w. w _ (device-of types (text-spelled S (tokenOf x) good e))), ((λ e w. w _ (device-of types (word-spelled types (tokenOf x) good e .known))), tt))
 
     -- nodes
     node-rows : EachRow devices nodeRows
@@ -217,8 +218,8 @@ module _ (S : List ℕ → Type 0) (Q : Build → Type 0) (x : Lexeme) (good : G
       RowKept (ks ▸ i) (operators l m) c (pick t
       (row (around 0x19 [] ∷ []) (sign leftBrace ∷ one arm ∷ sign rightBrace ∷ ends ∷ operators l n ∷ []))
       (row (around 0x16 (byte (operatorByte c) ∷ []) ∷ []) (expression (suc n) ∷ ends ∷ operators l n ∷ [])))
-  operator-row l m n c true ks i = λ e w a o js m. (selector-of (w .0) o m, w .1)
-  operator-row l m n c false ks i = λ e w j o. (operation-of (operator-byte c) (w .0) o, w .1)
+  operator-row l m n c true ks i = λ e w a o js m. (selector-of types (w .0) o m, w .1)
+  operator-row l m n c false ks i = λ e w j o. (operation-of types (operator-byte c) (w .0) o, w .1)
 
   -- so it is with each operator of the levels asked for
   operator-kept : (l m c : ℕ) (ks : Nodes) (i : Node) (r : Row) (o : Option ℕ) → operatorIn l m c o ≡ some r → RowKept (ks ▸ i) (operators l m) c r
@@ -231,15 +232,15 @@ module _ (S : List ℕ → Type 0) (Q : Build → Type 0) (x : Lexeme) (good : G
 
   -- a bare word is the type of an attribute read
   bare-row : (ks : Nodes) (i : Node) → Bare S i → RowKept (ks ▸ i) readOrWord leftSquare (row (instead 0x18 ∷ []) (expression 1 ∷ sign rightSquare ∷ sign leftSquare ∷ aName ∷ sign rightSquare ∷ ends ∷ []))
-  bare-row ks i (bareWord v) = λ e w j o n y. w .1 _ (read-of v y o)
+  bare-row ks i (bareWord v) = λ e w j o n y. w .1 _ (read-of types v y o)
 
   -- ---- All rows
 
   -- what must hold before a symbol is kept where it takes a token
-  pub row-kept : (s : Symbol) (ks : Nodes) (ds : List Action) (ss : List Symbol) → rowOf s (kind (tokenOf x)) ≡ some (row ds ss) → BeforeAll S Q (s ∷ k) (build b (frame q u g ks) fs) → DoingAll S ds x (BeforeAll S Q (ss ++ k)) (build b (frame q u g ks) fs)
+  pub row-kept : (s : Symbol) (ks : Nodes) (ds : List Action) (ss : List Symbol) → rowOf s (kind (tokenOf x)) ≡ some (row ds ss) → BeforeAll types S Q (s ∷ k) (build b (frame q u g ks) fs) → DoingAll types S ds x (BeforeAll types S Q (ss ++ k)) (build b (frame q u g ks) fs)
   unfolding rowOf
   row-kept (sign c) ks ds ss e = taken-row ks (sign c) ds ss e ((λ e w. w), tt)
-  row-kept aName ks ds ss e = taken-row ks aName ds ss e ((λ e w. w _ (word-spelled (tokenOf x) good e)), tt)
+  row-kept aName ks ds ss e = taken-row ks aName ds ss e ((λ e w. w _ (word-spelled types (tokenOf x) good e)), tt)
   row-kept (expression l) ks ds ss e = taken-row ks (expression l) ds ss e (operand-rows ks l)
   row-kept (operators l m) empty ds ss e = λ w. absurd w
   row-kept (operators l m) (ks ▸ i) ds ss e = operator-kept l m (kind (tokenOf x)) ks i (row ds ss) (binds (kind (tokenOf x))) e refl
@@ -250,7 +251,7 @@ module _ (S : List ℕ → Type 0) (Q : Build → Type 0) (x : Lexeme) (good : G
   row-kept (maybe y) ks ds ss e = taken-row ks (maybe y) ds ss e (rows-from ks (one y) (maybe y) (λ w i o js m. w js (furtherField o m)) (entryRows y) (entry-rows ks y))
   row-kept (further y) ks ds ss e = taken-row ks (further y) ds ss e ((λ e w. w), tt)
   row-kept statements ks ds ss e = taken-row ks statements ds ss e (block-rows ks)
-  row-kept block ks ds ss e = taken-row ks block ds ss e ((λ e w js m. w _ (block-of m)), tt)
+  row-kept block ks ds ss e = taken-row ks block ds ss e ((λ e w js m. w _ (block-of types m)), tt)
   row-kept otherwise ks ds ss e = taken-row ks otherwise ds ss e ((λ e w. w), tt)
   row-kept branches ks ds ss e = taken-row ks branches ds ss e (branch-rows ks)
   row-kept items ks ds ss e = taken-row ks items ds ss e (item-rows ks)
@@ -259,7 +260,7 @@ module _ (S : List ℕ → Type 0) (Q : Build → Type 0) (x : Lexeme) (good : G
   row-kept defaultValue ks ds ss e = taken-row ks defaultValue ds ss e ((λ e w. w .1), tt)
   row-kept aConstant ks ds ss e = taken-row ks aConstant ds ss e (constant-rows ks aConstant [] [] (λ c n e w. w _ (constant-here e n)))
   row-kept inherits ks ds ss e = taken-row ks inherits ds ss e ((λ e w. w .1), tt)
-  row-kept parent ks ds ss e = taken-row ks parent ds ss e ((λ e w. w _ (parent-of (word-spelled (tokenOf x) good e))), tt)
+  row-kept parent ks ds ss e = taken-row ks parent ds ss e ((λ e w. w _ (parent-of types (word-spelled types (tokenOf x) good e))), tt)
   row-kept devices ks ds ss e = taken-row ks devices ds ss e (node-rows ks)
   row-kept device ks ds ss e = taken-row ks device ds ss e (device-rows ks)
   row-kept moreDevices ks ds ss e = taken-row ks moreDevices ds ss e ((λ e w i o js m. w js (furtherField o m)), tt)

@@ -10,6 +10,7 @@ use Rattle.values.specs.declared.Value.the-variants.{Integer, String, Boolean}
 use Rattle.rules.specs.Arithmetic.{fits64}
 use Rattle.rules.specs.Tree.{Constant, Expression, constant, variable, topVariable, classVariable, operation, negation, attributeRead, selector, Arms, noArm, arm, defaultArm, AttributeField, Statement, assignment, conditional, choice, builtInResource, definedResource, classWithAttributes, include, Block, end, next, Branches, noBranch, branch, defaultBranch, Parameter, Parent, typeDefinition, classDefinition, Item, statement, definition}
 use Rattle.rules.specs.Tree
+use Rattle.rules.specs.Types.{Types}
 use Rattle.notation.specs.Building.{resourceTag}
 use Rattle.notation.specs.Print.{lineFor}
 use Rattle.notation.specs.Printer.{isName}
@@ -54,7 +55,7 @@ begins (c ∷ cs) more v r = record { later = r .0; rises = (omega arith, r .1, 
 
 -- ---- Names and types
 
-module _ (S : ℕ → List ℕ) where
+module _ (types : Types) (S : ℕ → List ℕ) where
   abbrev pub Named : ℕ → Type 0
   Named n = isName (S n) ≡ true
 
@@ -83,8 +84,8 @@ module _ (S : ℕ → List ℕ) where
     SpelledStatement (assignment p n a) = Named n × SpelledExpression a
     SpelledStatement (conditional p a y n) = SpelledExpression a × SpelledBlock y × SpelledBlock n
     SpelledStatement (choice p a bs) = SpelledExpression a × SpelledBranches bs
-    SpelledStatement (builtInResource p t a fs) = Named t × (resourceTag (S t) ≡ 0x25) × SpelledExpression a × EachOf SpelledAttribute fs
-    SpelledStatement (definedResource p t a fs) = Named t × (resourceTag (S t) ≡ 0x27) × SpelledExpression a × EachOf SpelledAttribute fs
+    SpelledStatement (builtInResource p t a fs) = Named t × (resourceTag types (S t) ≡ 0x25) × SpelledExpression a × EachOf SpelledAttribute fs
+    SpelledStatement (definedResource p t a fs) = Named t × (resourceTag types (S t) ≡ 0x27) × SpelledExpression a × EachOf SpelledAttribute fs
     SpelledStatement (classWithAttributes p c fs) = Named c × EachOf SpelledAttribute fs
     SpelledStatement (include p c) = Named c
     SpelledStatement (Statement.unreadable p) = ⊥

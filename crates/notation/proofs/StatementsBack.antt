@@ -10,6 +10,7 @@ use Rattle.values.specs.declared.Value.{Value}
 use Rattle.values.specs.declared.Value.the-variants.{Integer, String, Boolean}
 use Rattle.rules.specs.Tree.{Constant, Expression, AttributeField, Statement, assignment, conditional, choice, builtInResource, definedResource, classWithAttributes, include, Block, end, next, Branches, noBranch, branch, defaultBranch}
 use Rattle.rules.specs.Tree
+use Rattle.rules.specs.Types.{Types}
 use Rattle.notation.specs.Tokens.{Token, Lexeme, kind, tokenOf, placeOf, aWord, aVariable, leftBrace, rightBrace, colon, ifWord, caseWord, classWord, includeWord, defaultWord}
 use Rattle.notation.specs.Lexing.{find}
 use Rattle.notation.specs.Building.{Piece, name, Node, Nodes, empty, _▸_, height, tallest, Frame, frame, build, Action, acts, act, added, begun, leaf, spelled, resourceTag}
@@ -31,7 +32,7 @@ abbrev pub WholeAttribute : AttributeField → Type 0
 WholeAttribute f = Whole (f .expression)
 
 -- where statements stand: at the symbol y, which comes again behind each
-pub record Sequence (y : Symbol) : Type 0 where
+pub record Sequence (types : Types) (y : Symbol) : Type 0 where
   pub on-variable : rowOf y aVariable ≡ find aVariable (statementRows y)
   pub on-if : rowOf y ifWord ≡ find ifWord (statementRows y)
   pub on-case : rowOf y caseWord ≡ find caseWord (statementRows y)
@@ -39,25 +40,25 @@ pub record Sequence (y : Symbol) : Type 0 where
   pub on-include : rowOf y includeWord ≡ find includeWord (statementRows y)
   -- a class with attributes begins
   pub on-class : (v w : ℕ) {xs : List Lexeme} {k : List Symbol} {f : Frame} {fs : List Frame} → length fs + 1 ≤ 32 →
-      state (the v classWord ∷ the w leftBrace ∷ xs) (y ∷ k) (build 0 f fs) ⇒ state xs (aName ∷ sign colon ∷ maybe Entry.attribute ∷ sign rightBrace ∷ ends ∷ y ∷ k) (build 0 (frame 0 0x28 [] empty) (f ∷ fs))
+      state types (the v classWord ∷ the w leftBrace ∷ xs) (y ∷ k) (build 0 f fs) ⇒ (state types) xs (aName ∷ sign colon ∷ maybe Entry.attribute ∷ sign rightBrace ∷ ends ∷ y ∷ k) (build 0 (frame 0 0x28 [] empty) (f ∷ fs))
 
-pub in-block : Sequence statements
+pub in-block : (types : Types) → (Sequence types) statements
 unfolding rowOf acts
-in-block = record { on-variable = refl; on-if = refl; on-case = refl; on-word = refl; on-include = refl; on-class = λ v w d. take-begin refl d refl ▹ take refl refl }
+in-block types = record { on-variable = refl; on-if = refl; on-case = refl; on-word = refl; on-include = refl; on-class = λ v w d. take-begin types refl d refl ▹ (take types) refl refl }
 
-pub at-top : Sequence items
+pub at-top : (types : Types) → (Sequence types) items
 unfolding rowOf acts
-at-top = record { on-variable = refl; on-if = refl; on-case = refl; on-word = refl; on-include = refl; on-class = λ v w d. take refl refl ▹ take-begin refl d refl }
+at-top types = record { on-variable = refl; on-if = refl; on-case = refl; on-word = refl; on-include = refl; on-class = λ v w d. take types refl refl ▹ (take-begin types) refl d refl }
 
-module _ (S : ℕ → List ℕ) where
+module _ (types : Types) (S : ℕ → List ℕ) where
   -- the types of resources are of the right sort, and no field is unreadable
   abbrev mutual
     pub WholeStatement : Statement → Type 0
     WholeStatement (assignment p n a) = Whole a
     WholeStatement (conditional p a y n) = Whole a × WholeBlock y × WholeBlock n
     WholeStatement (choice p a bs) = Whole a × WholeBranches bs
-    WholeStatement (builtInResource p t a fs) = (resourceTag (S t) ≡ 0x25) × Whole a × EachOf WholeAttribute fs
-    WholeStatement (definedResource p t a fs) = (resourceTag (S t) ≡ 0x27) × Whole a × EachOf WholeAttribute fs
+    WholeStatement (builtInResource p t a fs) = (resourceTag types (S t) ≡ 0x25) × Whole a × EachOf WholeAttribute fs
+    WholeStatement (definedResource p t a fs) = (resourceTag types (S t) ≡ 0x27) × Whole a × EachOf WholeAttribute fs
     WholeStatement (classWithAttributes p c fs) = EachOf WholeAttribute fs
     WholeStatement (include p c) = Unit {0}
     WholeStatement (Statement.unreadable p) = ⊥
@@ -73,21 +74,21 @@ module _ (S : ℕ → List ℕ) where
 
   -- ---- Attributes
 
-  attribute-back : EntryBack (printedAttribute S) lastLineAttribute (attributeNode S) (maybe Entry.attribute) (further Entry.attribute) WholeAttribute
+  attribute-back : EntryBack types (printedAttribute S) lastLineAttribute (attributeNode S) (maybe Entry.attribute) (further Entry.attribute) WholeAttribute
   unfolding lastLineAttribute attributeNode height rowOf acts act binds spelled
   attribute-back = record {
     entry-back = λ f w v x xs calm d.
-        take-begin refl (omega arith) refl ▹ take refl refl ▹ whole S (every S (f .expression) w) 1 (omega arith) _ _ _ (calm _) (omega arith) (omega arith) ▹ ends-here;
+        take-begin types refl (omega arith) refl ▹ (take types) refl refl ▹ (whole types) S (every types S (f .expression) w) 1 (omega arith) _ _ _ (calm _) (omega arith) (omega arith) ▹ (ends-here types);
   }
 
   -- up to the closing brace
   attributes-back : (fs : List AttributeField) → EachOf WholeAttribute fs → (v : ℕ) (xs : Rest) {k : List Symbol} {q t : ℕ} {h : List Piece} {ks : Nodes} {gs : List Frame} →
       length gs + tallest (nodesOnto (attributeNode S) fs ks) ≤ 32 →
-      state (printedAttributes S fs v (λ u. the u rightBrace ∷ xs u)) (maybe Entry.attribute ∷ k) (build 0 (frame q t h ks) gs)
-      ⇒ state (the (lastLineEntries lastLineAttribute fs v) rightBrace ∷ xs (lastLineEntries lastLineAttribute fs v)) k (build 0 (frame q t h (nodesOnto (attributeNode S) fs ks)) gs)
+      state types (printedAttributes S fs v (λ u. the u rightBrace ∷ xs u)) (maybe Entry.attribute ∷ k) (build 0 (frame q t h ks) gs)
+      ⇒ (state types) (the (lastLineEntries lastLineAttribute fs v) rightBrace ∷ xs (lastLineEntries lastLineAttribute fs v)) k (build 0 (frame q t h (nodesOnto (attributeNode S) fs ks)) gs)
   unfolding printedEntries nodesOnto lastLineEntries rowOf leftOut acts binds
-  attributes-back [] w v xs d = leave refl refl refl
-  attributes-back (f ∷ fs) w v xs d = entries-back _ _ _ _ _ _ attribute-back refl refl f fs (w .0) (w .1) v (λ u. the u rightBrace) xs (λ u. tt) (λ u. refl) d
+  attributes-back [] w v xs d = leave types refl refl refl
+  attributes-back (f ∷ fs) w v xs d = entries-back types _ _ _ _ _ _ attribute-back refl refl f fs (w .0) (w .1) v (λ u. the u rightBrace) xs (λ u. tt) (λ u. refl) d
 
   -- ---- Statements
 
@@ -97,65 +98,65 @@ module _ (S : ℕ → List ℕ) where
   block-taller (next s b) ks = omega (arith, block-taller b (ks ▸ statementNode S s))
 
   pub record StatementBack (s : Statement) : Type 0 where
-    pub statement-back : {y : Symbol} → Sequence y → (v : ℕ) (x : ℕ → Lexeme) (xs : Rest) {k : List Symbol} {q t : ℕ} {h : List Piece} {ks : Nodes} {fs : List Frame} → ((u : ℕ) → Behind (x u)) → length fs + height (statementNode S s) ≤ 32 →
-        state (printedStatement S s v (λ u. x u ∷ xs u)) (y ∷ k) (build 0 (frame q t h ks) fs)
-        ⇒ state (x (lastLineStatement s v) ∷ xs (lastLineStatement s v)) (y ∷ k) (build 0 (frame q t h (ks ▸ statementNode S s)) fs)
+    pub statement-back : {y : Symbol} → Sequence types y → (v : ℕ) (x : ℕ → Lexeme) (xs : Rest) {k : List Symbol} {q t : ℕ} {h : List Piece} {ks : Nodes} {fs : List Frame} → ((u : ℕ) → Behind (x u)) → length fs + height (statementNode S s) ≤ 32 →
+        state types (printedStatement S s v (λ u. x u ∷ xs u)) (y ∷ k) (build 0 (frame q t h ks) fs)
+        ⇒ (state types) (x (lastLineStatement s v) ∷ xs (lastLineStatement s v)) (y ∷ k) (build 0 (frame q t h (ks ▸ statementNode S s)) fs)
 
   -- a block up to its closing brace
   pub record BlockBack (b : Block) : Type 0 where
     pub block-back : (v : ℕ) (xs : Rest) {k : List Symbol} {q t : ℕ} {h : List Piece} {ks : Nodes} {fs : List Frame} → length fs + tallest (blockOnto S b ks) ≤ 32 →
-        state (printedBlock S b v (λ u. the u rightBrace ∷ xs u)) (statements ∷ k) (build 0 (frame q t h ks) fs)
-        ⇒ state (the (lastLineBlock b v) rightBrace ∷ xs (lastLineBlock b v)) k (build 0 (frame q t h (blockOnto S b ks)) fs)
+        state types (printedBlock S b v (λ u. the u rightBrace ∷ xs u)) (statements ∷ k) (build 0 (frame q t h ks) fs)
+        ⇒ (state types) (the (lastLineBlock b v) rightBrace ∷ xs (lastLineBlock b v)) k (build 0 (frame q t h (blockOnto S b ks)) fs)
 
   -- a block in braces, at a symbol that takes the brace for a block
   pub braces-back : {b : Block} → BlockBack b → (v : ℕ) (x : ℕ → Lexeme) (xs : Rest) {k : List Symbol} {q t : ℕ} {h : List Piece} {ks : Nodes} {fs : List Frame} → suc (length fs) + tallest (blockOnto S b empty) ≤ 32 →
-      state (the v leftBrace ∷ printedBlock S b v (λ u. the u rightBrace ∷ x u ∷ xs u)) (block ∷ k) (build 0 (frame q t h ks) fs)
-      ⇒ state (x (lastLineBlock b v) ∷ xs (lastLineBlock b v)) k (build 0 (frame q t h (ks ▸ bareNode 0x20 [] (blockOnto S b empty))) fs)
+      state types (the v leftBrace ∷ printedBlock S b v (λ u. the u rightBrace ∷ x u ∷ xs u)) (block ∷ k) (build 0 (frame q t h ks) fs)
+      ⇒ (state types) (x (lastLineBlock b v) ∷ xs (lastLineBlock b v)) k (build 0 (frame q t h (ks ▸ bareNode 0x20 [] (blockOnto S b empty))) fs)
   unfolding rowOf acts
-  braces-back back-b v x xs d = take-begin refl (omega arith) refl ▹ back-b .block-back _ _ d ▹ take refl refl ▹ ends-here
+  braces-back back-b v x xs d = take-begin types refl (omega arith) refl ▹ back-b .block-back _ _ d ▹ (take types) refl refl ▹ (ends-here types)
 
   back-assignment : (p n : ℕ) (a : Expression) → Whole a → StatementBack (assignment p n a)
   unfolding printedStatement statementNode lastLineStatement height rowOf acts act spelled
   back-assignment p n a w = record {
     statement-back = λ at-y v x xs behind d.
-        take-begin (at-y .on-variable) (omega arith) refl ▹ take refl refl ▹ whole S (every S a w) 1 (omega arith) _ _ _ (behind _ .calm) (omega arith) (omega arith) ▹ ends-here;
+        take-begin types (at-y .on-variable) (omega arith) refl ▹ (take types) refl refl ▹ (whole types) S (every types S a w) 1 (omega arith) _ _ _ (behind _ .calm) (omega arith) (omega arith) ▹ (ends-here types);
   }
 
   -- behind the brace of the first block, whose fields are js: else and a block, or nothing
   else-back : (n : Block) → BlockBack n → (v : ℕ) (x : ℕ → Lexeme) (xs : Rest) {k : List Symbol} {q t : ℕ} {h : List Piece} {js ks : Nodes} {fs : List Frame} → ((u : ℕ) → Behind (x u)) → suc (length fs) + tallest (blockOnto S n empty) ≤ 32 →
-      state (printedElse n (λ z r. printedBlock S n z r) v (λ u. x u ∷ xs u)) (ends ∷ otherwise ∷ k) (build 0 (frame 0 0x20 [] js) (frame q t h ks ∷ fs))
-      ⇒ state (x (lastLineBlock n v) ∷ xs (lastLineBlock n v)) k (build 0 (frame q t h (ks ▸ bareNode 0x20 [] js ▸ bareNode 0x20 [] (blockOnto S n empty))) fs)
+      state types (printedElse n (λ z r. printedBlock S n z r) v (λ u. x u ∷ xs u)) (ends ∷ otherwise ∷ k) (build 0 (frame 0 0x20 [] js) (frame q t h ks ∷ fs))
+      ⇒ (state types) (x (lastLineBlock n v) ∷ xs (lastLineBlock n v)) k (build 0 (frame q t h (ks ▸ bareNode 0x20 [] js ▸ bareNode 0x20 [] (blockOnto S n empty))) fs)
   unfolding printedElse blockOnto lastLineBlock rowOf leftOut acts act
   else-back end back-n v x xs {q = q} {t = t} {h = h} {js = js} {ks = ks} {fs = fs} behind d =
-      ends-here
-      ▹ leave (behind v .noElse) refl (acts-first (Action.void 0x20) [] (x v) _ _ (ap (λ (p : ℕ). added (leaf p 0x20 []) (build 0 (frame q t h (ks ▸ bareNode 0x20 [] js)) fs)) (behind v .unplaced) ∙ added-fits _ 0 q t h _ fs (omega arith)))
-  else-back (next s b) back-n v x xs behind d = ends-here ▹ take refl refl ▹ braces-back back-n v x xs d
+      ends-here types
+      ▹ (leave types) (behind v .noElse) refl (acts-first types (Action.void 0x20) [] (x v) _ _ (ap (λ (p : ℕ). added (leaf p 0x20 []) (build 0 (frame q t h (ks ▸ bareNode 0x20 [] js)) fs)) (behind v .unplaced) ∙ added-fits _ 0 q t h _ fs (omega arith)))
+  else-back (next s b) back-n v x xs behind d = ends-here types ▹ (take types) refl refl ▹ braces-back back-n v x xs d
 
   back-conditional : (p : ℕ) (a : Expression) (y n : Block) → Whole a → BlockBack y → BlockBack n → StatementBack (conditional p a y n)
   unfolding printedStatement statementNode lastLineStatement height rowOf acts act binds
   back-conditional p a y n w back-y back-n = record {
     statement-back = λ at-y v x xs behind d.
-        take-begin (at-y .on-if) (omega arith) refl ▹ whole S (every S a w) 1 (omega arith) _ _ _ tt (omega arith) (omega arith)
-        ▹ take-begin refl (omega arith) refl ▹ back-y .block-back _ _ (omega arith) ▹ take refl refl ▹ else-back n back-n _ x xs behind (omega arith) ▹ ends-here;
+        take-begin types (at-y .on-if) (omega arith) refl ▹ (whole types) S (every types S a w) 1 (omega arith) _ _ _ tt (omega arith) (omega arith)
+        ▹ (take-begin types) refl (omega arith) refl ▹ back-y .block-back _ _ (omega arith) ▹ (take types) refl refl ▹ else-back n back-n _ x xs behind (omega arith) ▹ (ends-here types);
   }
 
   -- type, title and attributes, where the type t makes the tag u
-  resource-back : (u t : ℕ) (a : Expression) (fs : List AttributeField) → resourceTag (S t) ≡ u → Whole a → EachOf WholeAttribute fs → {y : Symbol} → Sequence y → (v : ℕ) (x : ℕ → Lexeme) (xs : Rest) {k : List Symbol} {q r : ℕ} {h : List Piece} {ks : Nodes} {gs : List Frame} →
+  resource-back : (u t : ℕ) (a : Expression) (fs : List AttributeField) → resourceTag types (S t) ≡ u → Whole a → EachOf WholeAttribute fs → {y : Symbol} → Sequence types y → (v : ℕ) (x : ℕ → Lexeme) (xs : Rest) {k : List Symbol} {q r : ℕ} {h : List Piece} {ks : Nodes} {gs : List Frame} →
       length gs + height (bareNode u (name (S t) ∷ []) (nodesOnto (attributeNode S) fs (empty ▸ nodeOf S a))) ≤ 32 →
-      state (printedResource S t a fs v (λ z. x z ∷ xs z)) (y ∷ k) (build 0 (frame q r h ks) gs)
-      ⇒ state (x (lastLineEntries lastLineAttribute fs (lastLine a v)) ∷ xs (lastLineEntries lastLineAttribute fs (lastLine a v))) (y ∷ k)
+      state types (printedResource S t a fs v (λ z. x z ∷ xs z)) (y ∷ k) (build 0 (frame q r h ks) gs)
+      ⇒ (state types) (x (lastLineEntries lastLineAttribute fs (lastLine a v)) ∷ xs (lastLineEntries lastLineAttribute fs (lastLine a v))) (y ∷ k)
       (build 0 (frame q r h (ks ▸ bareNode u (name (S t) ∷ []) (nodesOnto (attributeNode S) fs (empty ▸ nodeOf S a)))) gs)
   unfolding height rowOf acts act binds spelled
   resource-back u t a fs e w ws at-y v x xs {q = q} {r = r} {h = h} {ks = ks} {gs = gs} d =
       let taller = nodes-taller (attributeNode S) fs (empty ▸ nodeOf S a) in
-      take-begun u (at-y .on-word) (ap (λ (z : ℕ). begun 0 z (build 0 (frame q r h ks) gs)) e) (omega arith) refl ▹ take refl refl ▹ whole S (every S a w) 1 (omega arith) _ _ _ tt (omega arith) (omega arith)
-      ▹ take refl refl ▹ attributes-back fs ws _ _ (omega arith) ▹ take refl refl ▹ ends-here
+      take-begun types u (at-y .on-word) (ap (λ (z : ℕ). begun 0 z (build 0 (frame q r h ks) gs)) e) (omega arith) refl ▹ (take types) refl refl ▹ (whole types) S (every types S a w) 1 (omega arith) _ _ _ tt (omega arith) (omega arith)
+      ▹ (take types) refl refl ▹ attributes-back fs ws _ _ (omega arith) ▹ (take types) refl refl ▹ (ends-here types)
 
-  back-built-in : (p t : ℕ) (a : Expression) (fs : List AttributeField) → resourceTag (S t) ≡ 0x25 → Whole a → EachOf WholeAttribute fs → StatementBack (builtInResource p t a fs)
+  back-built-in : (p t : ℕ) (a : Expression) (fs : List AttributeField) → resourceTag types (S t) ≡ 0x25 → Whole a → EachOf WholeAttribute fs → StatementBack (builtInResource p t a fs)
   unfolding printedStatement statementNode lastLineStatement
   back-built-in p t a fs e w ws = record { statement-back = λ at-y v x xs behind d. resource-back 0x25 t a fs e w ws at-y v x xs d }
 
-  back-defined : (p t : ℕ) (a : Expression) (fs : List AttributeField) → resourceTag (S t) ≡ 0x27 → Whole a → EachOf WholeAttribute fs → StatementBack (definedResource p t a fs)
+  back-defined : (p t : ℕ) (a : Expression) (fs : List AttributeField) → resourceTag types (S t) ≡ 0x27 → Whole a → EachOf WholeAttribute fs → StatementBack (definedResource p t a fs)
   unfolding printedStatement statementNode lastLineStatement
   back-defined p t a fs e w ws = record { statement-back = λ at-y v x xs behind d. resource-back 0x27 t a fs e w ws at-y v x xs d }
 
@@ -163,12 +164,12 @@ module _ (S : ℕ → List ℕ) where
   unfolding printedStatement statementNode lastLineStatement height rowOf acts act binds spelled
   back-class p c fs w = record {
     statement-back = λ at-y v x xs behind d.
-        at-y .on-class v v (omega arith) ▹ take refl refl ▹ take refl refl ▹ attributes-back fs w _ _ (omega arith) ▹ take refl refl ▹ ends-here;
+        at-y .on-class v v (omega arith) ▹ (take types) refl refl ▹ (take types) refl refl ▹ attributes-back fs w _ _ (omega arith) ▹ (take types) refl refl ▹ (ends-here types);
   }
 
   back-include : (p c : ℕ) → StatementBack (include p c)
   unfolding printedStatement statementNode lastLineStatement height rowOf acts act spelled
-  back-include p c = record { statement-back = λ at-y v x xs behind d. take-begin (at-y .on-include) (omega arith) refl ▹ take refl refl ▹ ends-here }
+  back-include p c = record { statement-back = λ at-y v x xs behind d. take-begin types (at-y .on-include) (omega arith) refl ▹ (take types) refl refl ▹ (ends-here types) }
 
   -- ---- Case
 
@@ -180,8 +181,8 @@ module _ (S : ℕ → List ℕ) where
 
   record BranchesBack (bs : Branches) : Type 0 where
     branches-back : (v : ℕ) (xs : Rest) {k : List Symbol} {q t : ℕ} {h : List Piece} {ks : Nodes} {fs : List Frame} → length fs + tallest (branchesOnto S bs ks) ≤ 32 →
-        state (printedBranches S bs v (λ u. the u rightBrace ∷ xs u)) (branches ∷ k) (build 0 (frame q t h ks) fs)
-        ⇒ state (the (lastLineBranches bs v) rightBrace ∷ xs (lastLineBranches bs v)) k (build 0 (frame q t h (branchesOnto S bs ks)) fs)
+        state types (printedBranches S bs v (λ u. the u rightBrace ∷ xs u)) (branches ∷ k) (build 0 (frame q t h ks) fs)
+        ⇒ (state types) (the (lastLineBranches bs v) rightBrace ∷ xs (lastLineBranches bs v)) k (build 0 (frame q t h (branchesOnto S bs ks)) fs)
 
   branch-row : (v : Value) → rowOf branches (kind (valueToken S v)) ≡ some (row (Action.begin 0x24 ∷ Action.constant ∷ []) (sign colon ∷ block ∷ ends ∷ branches ∷ []))
   unfolding rowOf valueToken
@@ -200,28 +201,28 @@ module _ (S : ℕ → List ℕ) where
   -- behind a pattern n: the colon and the block, and the branches that follow
   branches-rest : {b : Block} (bs : Branches) → BlockBack b → BranchesBack bs → (v : ℕ) (xs : Rest) (n : Node) {k : List Symbol} {q t : ℕ} {h : List Piece} {ks : Nodes} {fs : List Frame} →
       length fs + tallest (branchesOnto S bs (ks ▸ bareNode 0x24 [] (empty ▸ n ▸ bareNode 0x20 [] (blockOnto S b empty)))) ≤ 32 →
-      state (the v colon ∷ the v leftBrace ∷ printedBlock S b v (λ u. the u rightBrace ∷ printedBranches S bs u (λ w. the w rightBrace ∷ xs w))) (sign colon ∷ block ∷ ends ∷ branches ∷ k) (build 0 (frame 0 0x24 [] (empty ▸ n)) (frame q t h ks ∷ fs))
-      ⇒ state (the (lastLineBranches bs (lastLineBlock b v)) rightBrace ∷ xs (lastLineBranches bs (lastLineBlock b v))) k (build 0 (frame q t h (branchesOnto S bs (ks ▸ bareNode 0x24 [] (empty ▸ n ▸ bareNode 0x20 [] (blockOnto S b empty))))) fs)
+      state types (the v colon ∷ the v leftBrace ∷ printedBlock S b v (λ u. the u rightBrace ∷ printedBranches S bs u (λ w. the w rightBrace ∷ xs w))) (sign colon ∷ block ∷ ends ∷ branches ∷ k) (build 0 (frame 0 0x24 [] (empty ▸ n)) (frame q t h ks ∷ fs))
+      ⇒ (state types) (the (lastLineBranches bs (lastLineBlock b v)) rightBrace ∷ xs (lastLineBranches bs (lastLineBlock b v))) k (build 0 (frame q t h (branchesOnto S bs (ks ▸ bareNode 0x24 [] (empty ▸ n ▸ bareNode 0x20 [] (blockOnto S b empty))))) fs)
   unfolding height rowOf acts
   branches-rest {b} bs back-b back-bs v xs n {k} {q} {t} {h} {ks} {fs} d =
       let taller = branches-taller bs (ks ▸ bareNode 0x24 [] (empty ▸ n ▸ bareNode 0x20 [] (blockOnto S b empty))) in
       let deep : suc (suc (length fs)) + tallest (blockOnto S b empty) ≤ 32 = omega arith in
-      take refl refl
-      ▹ with-branches bs (λ rest. state (the v leftBrace ∷ printedBlock S b v (λ u. the u rightBrace ∷ rest u)) (block ∷ ends ∷ branches ∷ k) (build 0 (frame 0 0x24 [] (empty ▸ n)) (frame q t h ks ∷ fs))
-      ⇒ state (rest (lastLineBlock b v)) (branches ∷ k) (build 0 (frame q t h (ks ▸ bareNode 0x24 [] (empty ▸ n ▸ bareNode 0x20 [] (blockOnto S b empty)))) fs)) xs
-      (λ y ys. braces-back back-b v y ys deep ▹ ends-here)
+      take types refl refl
+      ▹ with-branches bs (λ rest. state types (the v leftBrace ∷ printedBlock S b v (λ u. the u rightBrace ∷ rest u)) (block ∷ ends ∷ branches ∷ k) (build 0 (frame 0 0x24 [] (empty ▸ n)) (frame q t h ks ∷ fs))
+      ⇒ (state types) (rest (lastLineBlock b v)) (branches ∷ k) (build 0 (frame q t h (ks ▸ bareNode 0x24 [] (empty ▸ n ▸ bareNode 0x20 [] (blockOnto S b empty)))) fs)) xs
+      (λ y ys. braces-back back-b v y ys deep ▹ (ends-here types))
       ▹ back-bs .branches-back _ _ d
 
   back-no-branch : BranchesBack noBranch
   unfolding printedBranches branchesOnto lastLineBranches rowOf leftOut acts
-  back-no-branch = record { branches-back = λ v xs d. leave refl refl refl }
+  back-no-branch = record { branches-back = λ v xs d. leave types refl refl refl }
 
   back-branch : (c : Constant) (b : Block) (bs : Branches) → BlockBack b → BranchesBack bs → BranchesBack (branch c b bs)
   unfolding printedBranches branchesOnto lastLineBranches height acts
   back-branch c b bs back-b back-bs = record {
     branches-back = λ v xs {ks = ks} d.
         let taller = branches-taller bs (ks ▸ bareNode 0x24 [] (empty ▸ constantNodeOf S c ▸ bareNode 0x20 [] (blockOnto S b empty))) in
-        take-begin (branch-row (c .value)) (omega arith) (acts-first _ [] _ _ _ (constant-added S c _ ∙ added-fits (constantNodeOf S c) _ _ _ _ _ _ (omega arith)))
+        take-begin types (branch-row (c .value)) (omega arith) (acts-first types _ [] _ _ _ (constant-added types S c _ ∙ added-fits (constantNodeOf S c) _ _ _ _ _ _ (omega arith)))
         ▹ branches-rest bs back-b back-bs _ _ (constantNodeOf S c) d;
   }
 
@@ -230,7 +231,7 @@ module _ (S : ℕ → List ℕ) where
   back-default-branch b bs back-b back-bs = record {
     branches-back = λ v xs {ks = ks} d.
         let taller = branches-taller bs (ks ▸ bareNode 0x24 [] (empty ▸ defaultNode ▸ bareNode 0x20 [] (blockOnto S b empty))) in
-        take-begin refl (omega arith) (acts-first (Action.void 0x1b) [] (the (lineFor (constantsOfBlock b) v) defaultWord) _ _ (added-fits _ _ _ _ _ _ _ (omega arith)))
+        take-begin types refl (omega arith) (acts-first types (Action.void 0x1b) [] (the (lineFor (constantsOfBlock b) v) defaultWord) _ _ (added-fits _ _ _ _ _ _ _ (omega arith)))
         ▹ branches-rest bs back-b back-bs _ _ defaultNode d;
   }
 
@@ -239,8 +240,8 @@ module _ (S : ℕ → List ℕ) where
   back-choice p a bs w back-bs = record {
     statement-back = λ at-y v x xs behind d.
         let taller = branches-taller bs (empty ▸ nodeOf S a) in
-        take-begin (at-y .on-case) (omega arith) refl ▹ whole S (every S a w) 1 (omega arith) _ _ _ tt (omega arith) (omega arith)
-        ▹ take refl refl ▹ back-bs .branches-back _ _ (omega arith) ▹ take refl refl ▹ ends-here;
+        take-begin types (at-y .on-case) (omega arith) refl ▹ (whole types) S (every types S a w) 1 (omega arith) _ _ _ tt (omega arith) (omega arith)
+        ▹ (take types) refl refl ▹ back-bs .branches-back _ _ (omega arith) ▹ (take types) refl refl ▹ (ends-here types);
   }
 
   -- ---- Blocks
@@ -264,7 +265,7 @@ module _ (S : ℕ → List ℕ) where
 
   back-end : BlockBack end
   unfolding printedBlock blockOnto lastLineBlock rowOf leftOut acts
-  back-end = record { block-back = λ v xs d. leave refl refl refl }
+  back-end = record { block-back = λ v xs d. leave types refl refl refl }
 
   back-next : (s : Statement) (b : Block) → WholeBlock b → StatementBack s → BlockBack b → BlockBack (next s b)
   unfolding printedBlock blockOnto lastLineBlock height
@@ -272,8 +273,8 @@ module _ (S : ℕ → List ℕ) where
     block-back = λ v xs {k} {q} {t} {h} {ks} {fs} d.
         let taller = block-taller b (ks ▸ statementNode S s) in
         let u : ℕ = lineFor (constantsOfStatement s) v in
-        with-block b w (λ rest. state (printedStatement S s u rest) (statements ∷ k) (build 0 (frame q t h ks) fs) ⇒ state (rest (lastLineStatement s u)) (statements ∷ k) (build 0 (frame q t h (ks ▸ statementNode S s)) fs)) xs
-        (λ y ys behind. back-s .statement-back in-block u y ys behind (omega arith))
+        with-block b w (λ rest. state types (printedStatement S s u rest) (statements ∷ k) (build 0 (frame q t h ks) fs) ⇒ (state types) (rest (lastLineStatement s u)) (statements ∷ k) (build 0 (frame q t h (ks ▸ statementNode S s)) fs)) xs
+        (λ y ys behind. back-s .statement-back (in-block types) u y ys behind (omega arith))
         ▹ back-b .block-back _ xs d;
   }
 

@@ -10,6 +10,7 @@ use Rattle.notation.specs.Tokens.{Lexeme, kind, tokenOf, placeOf}
 use Rattle.notation.specs.Building.{Piece, Node, node, Nodes, empty, _▸_, height, Frame, frame, Build, build, Action, around, acts, act, added, begun}
 use Rattle.notation.specs.Grammar.{Symbol, operators, ends, row, rowOf, leftOut, binds}
 use Rattle.notation.proofs.Machine.{state, _⇒_, take, leave}
+use Rattle.rules.specs.Types.{Types}
 
 -- ---- Behind an operand
 
@@ -31,9 +32,9 @@ unfolding rowOf
 not-taken l m x none e c = rw (rowOf, e)
 not-taken l m x (some n) e c = rw (rowOf, e, lt-leb l n c)
 
-pub operators-pass : {l m : ℕ} {k : List Symbol} {x : Lexeme} {xs : List Lexeme} {f : Build} → Calm l x → state (x ∷ xs) (operators l m ∷ k) f ⇒ state (x ∷ xs) k f
+pub operators-pass : (types : Types) {l m : ℕ} {k : List Symbol} {x : Lexeme} {xs : List Lexeme} {f : Build} → Calm l x → state types (x ∷ xs) (operators l m ∷ k) f ⇒ (state types) (x ∷ xs) k f
 unfolding leftOut acts
-operators-pass {l} {m} {x = x} c = leave (not-taken l m x (binds (kind (tokenOf x))) refl c) refl refl
+operators-pass types {l} {m} {x = x} c = leave types (not-taken l m x (binds (kind (tokenOf x))) refl c) refl refl
 
 -- ---- Steps whose actions depend on the depth, and the end of a field
 
@@ -45,51 +46,51 @@ pub added-fits : (n : Node) (b q t : ℕ) (h : List Piece) (ks : Nodes) (fs : Li
 unfolding added
 added-fits n b q t h ks fs d = rw (added, le-leb (length fs + 1) 32 d)
 
-pub acts-first : (d : Action) (ds : List Action) (x : Lexeme) (f g : Build) → act d x f ≡ some g → acts (d ∷ ds) x f ≡ acts ds x g
+pub acts-first : (types : Types) (d : Action) (ds : List Action) (x : Lexeme) (f g : Build) → act types d x f ≡ some g → acts types (d ∷ ds) x f ≡ acts types ds x g
 unfolding acts
-acts-first d ds x f g h = rw (acts, h)
+acts-first types d ds x f g h = rw (acts, h)
 
 begun-fits : (p u b : ℕ) (f : Frame) (fs : List Frame) → length fs + 1 ≤ 32 → begun p u (build b f fs) ≡ some (build b (frame p u [] empty) (f ∷ fs))
 unfolding begun
 begun-fits p u b f fs d = rw (begun, le-leb (length fs + 1) 32 d)
 
-around-fits : (u : ℕ) (g : List Piece) (x : Lexeme) (b q t : ℕ) (h : List Piece) (ks : Nodes) (n : Node) (fs : List Frame) → suc (length fs) + height n ≤ 32 →
-    act (around u g) x (build b (frame q t h (ks ▸ n)) fs) ≡ some (build b (frame (placeOf x) u g (empty ▸ n)) (frame q t h ks ∷ fs))
+around-fits : (types : Types) (u : ℕ) (g : List Piece) (x : Lexeme) (b q t : ℕ) (h : List Piece) (ks : Nodes) (n : Node) (fs : List Frame) → suc (length fs) + height n ≤ 32 →
+    act types (around u g) x (build b (frame q t h (ks ▸ n)) fs) ≡ some (build b (frame (placeOf x) u g (empty ▸ n)) (frame q t h ks ∷ fs))
 unfolding act
-around-fits u g x b q t h ks n fs d = rw (le-leb (suc (length fs) + height n) 32 d)
+around-fits types u g x b q t h ks n fs d = rw (le-leb (suc (length fs) + height n) 32 d)
 
-enter-fits : (x : Lexeme) (b : ℕ) (f : Frame) (fs : List Frame) → b < 32 → act Action.enter x (build b f fs) ≡ some (build (suc b) f fs)
+enter-fits : (types : Types) (x : Lexeme) (b : ℕ) (f : Frame) (fs : List Frame) → b < 32 → act types Action.enter x (build b f fs) ≡ some (build (suc b) f fs)
 unfolding act
-enter-fits x b f fs d = rw (lt-ltb b 32 d)
+enter-fits types x b f fs d = rw (lt-ltb b 32 d)
 
-module _ {s : Symbol} {k ss : List Symbol} {x : Lexeme} {xs : List Lexeme} {b : ℕ} {fs : List Frame} where
+module _ (types : Types) {s : Symbol} {k ss : List Symbol} {x : Lexeme} {xs : List Lexeme} {b : ℕ} {fs : List Frame} where
   -- a field begins by an action that only begins it, and the other actions go on in it
-  pub take-begun : {d : Action} (u : ℕ) {ds : List Action} {f : Frame} {g : Build} → rowOf s (kind (tokenOf x)) ≡ some (row (d ∷ ds) ss) → act d x (build b f fs) ≡ begun (placeOf x) u (build b f fs) → length fs + 1 ≤ 32 →
-      acts ds x (build b (frame (placeOf x) u [] empty) (f ∷ fs)) ≡ some g → state (x ∷ xs) (s ∷ k) (build b f fs) ⇒ state xs (ss ++ k) g
-  take-begun {d} u {ds} {f} {g} h a i e = take h (acts-first d ds x _ _ (a ∙ begun-fits (placeOf x) u b f fs i) ∙ e)
+  pub take-begun : {d : Action} (u : ℕ) {ds : List Action} {f : Frame} {g : Build} → rowOf s (kind (tokenOf x)) ≡ some (row (d ∷ ds) ss) → act types d x (build b f fs) ≡ begun (placeOf x) u (build b f fs) → length fs + 1 ≤ 32 →
+      acts types ds x (build b (frame (placeOf x) u [] empty) (f ∷ fs)) ≡ some g → state types (x ∷ xs) (s ∷ k) (build b f fs) ⇒ (state types) xs (ss ++ k) g
+  take-begun {d} u {ds} {f} {g} h a i e = take types h (acts-first types d ds x _ _ (a ∙ begun-fits (placeOf x) u b f fs i) ∙ e)
 
   pub take-begin : {u : ℕ} {ds : List Action} {f : Frame} {g : Build} → rowOf s (kind (tokenOf x)) ≡ some (row (Action.begin u ∷ ds) ss) → length fs + 1 ≤ 32 →
-      acts ds x (build b (frame (placeOf x) u [] empty) (f ∷ fs)) ≡ some g → state (x ∷ xs) (s ∷ k) (build b f fs) ⇒ state xs (ss ++ k) g
+      acts types ds x (build b (frame (placeOf x) u [] empty) (f ∷ fs)) ≡ some g → state types (x ∷ xs) (s ∷ k) (build b f fs) ⇒ (state types) xs (ss ++ k) g
   unfolding act
   take-begin {u} h i e = take-begun u h refl i e
 
   -- a field without parts is added
-  pub take-adding : {d : Action} (n : Node) {q t : ℕ} {h : List Piece} {ks : Nodes} → rowOf s (kind (tokenOf x)) ≡ some (row (d ∷ []) ss) → act d x (build b (frame q t h ks) fs) ≡ added n (build b (frame q t h ks) fs) → length fs + 1 ≤ 32 →
-      state (x ∷ xs) (s ∷ k) (build b (frame q t h ks) fs) ⇒ state xs (ss ++ k) (build b (frame q t h (ks ▸ n)) fs)
+  pub take-adding : {d : Action} (n : Node) {q t : ℕ} {h : List Piece} {ks : Nodes} → rowOf s (kind (tokenOf x)) ≡ some (row (d ∷ []) ss) → act types d x (build b (frame q t h ks) fs) ≡ added n (build b (frame q t h ks) fs) → length fs + 1 ≤ 32 →
+      state types (x ∷ xs) (s ∷ k) (build b (frame q t h ks) fs) ⇒ (state types) xs (ss ++ k) (build b (frame q t h (ks ▸ n)) fs)
   unfolding acts
-  take-adding {d} n {q} {t} {h} {ks} r e i = take r (acts-first d [] x _ _ (e ∙ added-fits n b q t h ks fs i))
+  take-adding {d} n {q} {t} {h} {ks} r e i = take types r (acts-first types d [] x _ _ (e ∙ added-fits n b q t h ks fs i))
 
   pub take-around : {u : ℕ} {g : List Piece} {n : Node} {q t : ℕ} {h : List Piece} {ks : Nodes} → rowOf s (kind (tokenOf x)) ≡ some (row (around u g ∷ []) ss) → suc (length fs) + height n ≤ 32 →
-      state (x ∷ xs) (s ∷ k) (build b (frame q t h (ks ▸ n)) fs) ⇒ state xs (ss ++ k) (build b (frame (placeOf x) u g (empty ▸ n)) (frame q t h ks ∷ fs))
+      state types (x ∷ xs) (s ∷ k) (build b (frame q t h (ks ▸ n)) fs) ⇒ (state types) xs (ss ++ k) (build b (frame (placeOf x) u g (empty ▸ n)) (frame q t h ks ∷ fs))
   unfolding acts
-  take-around {u} {g} {n} {q} {t} {h} {ks} r d = take r (acts-first (around u g) [] x _ _ (around-fits u g x b q t h ks n fs d))
+  take-around {u} {g} {n} {q} {t} {h} {ks} r d = take types r (acts-first types (around u g) [] x _ _ (around-fits types u g x b q t h ks n fs d))
 
-  pub take-enter : {f : Frame} → rowOf s (kind (tokenOf x)) ≡ some (row (Action.enter ∷ []) ss) → b < 32 → state (x ∷ xs) (s ∷ k) (build b f fs) ⇒ state xs (ss ++ k) (build (suc b) f fs)
+  pub take-enter : {f : Frame} → rowOf s (kind (tokenOf x)) ≡ some (row (Action.enter ∷ []) ss) → b < 32 → state types (x ∷ xs) (s ∷ k) (build b f fs) ⇒ (state types) xs (ss ++ k) (build (suc b) f fs)
   unfolding acts
-  take-enter {f} r d = take r (acts-first Action.enter [] x _ _ (enter-fits x b f fs d))
+  take-enter {f} r d = take types r (acts-first types Action.enter [] x _ _ (enter-fits types x b f fs d))
 
 -- the field being read ends
-pub ends-here : {x : Lexeme} {xs : List Lexeme} {k : List Symbol} {b p u : ℕ} {g : List Piece} {js : Nodes} {q t : ℕ} {h : List Piece} {ks : Nodes} {fs : List Frame} →
-    state (x ∷ xs) (ends ∷ k) (build b (frame p u g js) (frame q t h ks ∷ fs)) ⇒ state (x ∷ xs) k (build b (frame q t h (ks ▸ node p u g js)) fs)
+pub ends-here : (types : Types) {x : Lexeme} {xs : List Lexeme} {k : List Symbol} {b p u : ℕ} {g : List Piece} {js : Nodes} {q t : ℕ} {h : List Piece} {ks : Nodes} {fs : List Frame} →
+    state types (x ∷ xs) (ends ∷ k) (build b (frame p u g js) (frame q t h ks ∷ fs)) ⇒ (state types) (x ∷ xs) k (build b (frame q t h (ks ▸ node p u g js)) fs)
 unfolding rowOf leftOut acts act
-ends-here = leave refl refl refl
+ends-here types = leave types refl refl refl

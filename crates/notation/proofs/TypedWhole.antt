@@ -20,6 +20,7 @@ use Rattle.rules.specs.declared.Verdict.the-variants.{Sound}
 use Rattle.rules.proofs.Within.{false-not-true}
 use Rattle.rules.proofs.Listed.{Same, same, OneOf, one, ManyOf, noneOfMany, oneOfMany, NamesOf, defaultName, deviceNames, AsListed, Listed, all-listed}
 use Rattle.rules.proofs.TypedBack.{constantField, expressionField, armFields, attributeFields, statementField, blockFields, branchFields, parameterFields, parentFields, deviceFields, devicesFields, definitionField, itemField, itemFields, fieldsOf, typed-back}
+use Rattle.rules.specs.Types.{Types}
 use Rattle.notation.specs.Building.{resourceTag}
 use Rattle.notation.proofs.Written.{All, noField, alsoField}
 use Rattle.notation.proofs.EntriesBack.{EachOf}
@@ -30,14 +31,14 @@ use Rattle.notation.proofs.ListedParts.{each-inside, all-first, all-oth
 
 -- ---- The types of resources
 
-module _ (S : ℕ → List ℕ) where
+module _ (types : Types) (S : ℕ → List ℕ) where
   abbrev mutual
     pub TypesRightStatement : Statement → Type 0
     TypesRightStatement (assignment p n a) = Unit {0}
     TypesRightStatement (conditional p a y n) = TypesRightBlock y × TypesRightBlock n
     TypesRightStatement (choice p a bs) = TypesRightBranches bs
-    TypesRightStatement (builtInResource p t a fs) = resourceTag (S t) ≡ 0x25
-    TypesRightStatement (definedResource p t a fs) = resourceTag (S t) ≡ 0x27
+    TypesRightStatement (builtInResource p t a fs) = resourceTag types (S t) ≡ 0x25
+    TypesRightStatement (definedResource p t a fs) = resourceTag types (S t) ≡ 0x27
     TypesRightStatement (classWithAttributes p c fs) = Unit {0}
     TypesRightStatement (include p c) = Unit {0}
     TypesRightStatement (Statement.unreadable p) = Unit {0}
@@ -187,11 +188,11 @@ branch-statements : (d : ℕ) (f : Field) (b : Block) → Listed d (field 0 0x24
 unfolding inner
 branch-statements d f b x = statements-in (lower d) b (all-first (all-others (each-within d (field 0 0x24 [] (more f (more (blockField b) noFields))) x)))
 
-module _ (S : ℕ → List ℕ) where
+module _ (types : Types) (S : ℕ → List ℕ) where
   mutual
     unfolding statementField tagOf headOf inner allowed formOf formIn forms
 
-    statement-whole : (s : Statement) (d : ℕ) → Fine d StatementKind (statementField s) → TypesRightStatement S s → WholeStatement S s
+    statement-whole : (s : Statement) (d : ℕ) → Fine d StatementKind (statementField s) → TypesRightStatement types S s → WholeStatement types S s
     statement-whole (assignment p n a) d x r = expression-whole a (lower d) (first-kind (opened d (statementField (assignment p n a)) (x .1) .fields .inFirst))
     statement-whole (conditional p a y n) d x r =
         let k : Field = statementField (conditional p a y n) in
@@ -213,11 +214,11 @@ module _ (S : ℕ → List ℕ) where
     statement-whole (include p c) d x r = tt
     statement-whole (Statement.unreadable p) d x r = false-not-true (x .0)
 
-    block-whole : (b : Block) (d : ℕ) → All (Fine d StatementKind) (blockFields b) → TypesRightBlock S b → WholeBlock S b
+    block-whole : (b : Block) (d : ℕ) → All (Fine d StatementKind) (blockFields b) → TypesRightBlock types S b → WholeBlock types S b
     block-whole end d x r = tt
     block-whole (next s b) d x r = (statement-whole s d (all-first x) (r .0), block-whole b d (all-others x) (r .1))
 
-    branches-whole : (bs : Branches) (d : ℕ) → All (Listed d) (branchFields bs) → TypesRightBranches S bs → WholeBranches S bs
+    branches-whole : (bs : Branches) (d : ℕ) → All (Listed d) (branchFields bs) → TypesRightBranches types S bs → WholeBranches types S bs
     branches-whole noBranch d x r = tt
     branches-whole (branch c b bs) d x r = (block-whole b (lower (lower d)) (branch-statements d (constantField c) b (all-first x)) (r .0), branches-whole bs d (all-others x) (r .1))
     branches-whole (defaultBranch b bs) d x r = (block-whole b (lower (lower d)) (branch-statements d defaultField b (all-first x)) (r .0), branches-whole bs d (all-others x) (r .1))
@@ -265,14 +266,14 @@ statement-kind (classWithAttributes p c fs) e = refl
 statement-kind (include p c) e = refl
 statement-kind (Statement.unreadable p) e = e
 
-module _ (S : ℕ → List ℕ) where
+module _ (types : Types) (S : ℕ → List ℕ) where
   -- a block that is the last part of a field
-  body-whole : (d : ℕ) (b : Block) → All (Listed d) (more (blockField b) noFields) → TypesRightBlock S b → WholeBlock S b
-  body-whole d b x r = block-whole S b (lower d) (statements-in d b (all-first x)) r
+  body-whole : (d : ℕ) (b : Block) → All (Listed d) (more (blockField b) noFields) → TypesRightBlock types S b → WholeBlock types S b
+  body-whole d b x r = block-whole types S b (lower d) (statements-in d b (all-first x)) r
 
-  item-whole : (i : Item) (d : ℕ) → Fine d ItemKind (itemField i) → TypesRightItem S i → WholeItem S i
+  item-whole : (i : Item) (d : ℕ) → Fine d ItemKind (itemField i) → TypesRightItem types S i → WholeItem types S i
   unfolding itemField definitionField tagOf headOf inner formOf formIn forms
-  item-whole (statement s) d x r = statement-whole S s d (statement-kind s (x .0), x .1) r
+  item-whole (statement s) d x r = statement-whole types S s d (statement-kind s (x .0), x .1) r
   item-whole (Item.node ds b) d x r =
       let k : Field = itemField (Item.node ds b) in
       (some-device ds b (opened d k (x .1) .fields .inFirst), body-whole (lower d) b (behind-devices ds (more (blockField b) noFields) (each-within d k (x .1))) r)
@@ -281,7 +282,7 @@ module _ (S : ℕ → List ℕ) where
       let last : Fields = more (blockField (c .body)) noFields in
       body-whole (lower d) (c .body) (behind-parameters (c .parameters) last (behind-parent (c .parent) (parameterFields (c .parameters) last) (each-within d (itemField (definition (classDefinition c))) (x .1)))) r
 
-  items-whole : (is : List Item) (d : ℕ) → All (Fine d ItemKind) (itemFields is) → TypesRight S is → EachOf (WholeItem S) is
+  items-whole : (is : List Item) (d : ℕ) → All (Fine d ItemKind) (itemFields is) → TypesRight types S is → EachOf (WholeItem types S) is
   unfolding itemFields
   items-whole [] d x r = tt
   items-whole (i ∷ is) d x r = (item-whole i d (all-first x) (r .0), items-whole is d (all-others x) (r .1))
@@ -289,9 +290,9 @@ module _ (S : ℕ → List ℕ) where
 -- ---- The manifest
 
 -- the items of a sound manifest, whose resources' types are of the right sort, are whole
-pub manifest-whole : (m : List ℕ) → IsBytes m → check m ≡ Sound → (S : ℕ → List ℕ) → TypesRight S (manifestOf m .items) → EachOf (WholeItem S) (manifestOf m .items)
+pub manifest-whole : (types : Types) (m : List ℕ) → IsBytes m → check m ≡ Sound → (S : ℕ → List ℕ) → TypesRight types S (manifestOf m .items) → EachOf (WholeItem types S) (manifestOf m .items)
 unfolding fieldsOf others
-manifest-whole m bytes w S r =
+manifest-whole types m bytes w S r =
     let parts = parts-unplaced (Listed 32) (Listed 32) (λ f a. listed-unplaced 32 f a) (three (One Table) (Many ItemKind) Over) (all-listed m bytes w) in
     let fine = kinds-behind (parts .inFirst) (parts .inSecond) (parts .inThird) in
-    items-whole S (manifestOf m .items) 32 (subst (λ (ks : Fields). All (Fine 32 ItemKind) (others ks)) (sym (typed-back m bytes w)) fine) r
+    items-whole types S (manifestOf m .items) 32 (subst (λ (ks : Fields). All (Fine 32 ItemKind) (others ks)) (sym (typed-back m bytes w)) fine) r

@@ -7,6 +7,7 @@ use mathlib.Core.Bool.{Bool, true, false}
 use lib.Dec.{leb, ltb}
 use lib.ListN.{length}
 use Rattle.rules.specs.Bytes.{pick}
+use Rattle.rules.specs.Types.{Types}
 use Rattle.notation.specs.Tokens.{word, number, text, variable, topVariable, classVariable, mark, Lexeme, lexeme, kind, tokenOf}
 use Rattle.notation.specs.Building.{Piece, Node, node, Nodes, empty, _▸_, height, tallest, Frame, frame, Build, build, Action, begin, beginResource, around, instead, close, constant, read, named, parentFirst, void, enter, leave, constantNode, variableNode, resourceTag, spelled, leaf, fitting, added, inFront, addedFirst, begun, act, acts, start}
 use Rattle.notation.specs.Grammar.{Symbol, Row, row, rowOf, leftOut, Stepped, stuck, to, toward, step, Ended, built, fault, run, manifest, reading}
@@ -104,36 +105,36 @@ variable-same (lexeme p l (topVariable n)) = refl
 variable-same (lexeme p l (classVariable c n)) = refl
 variable-same (lexeme p l (mark k)) = refl
 
-act-same : (d : Action) (x : Lexeme) (f : Build) → act d (bare x) (unplacedBuild f) ≡ unplacedOption (act d x f)
+act-same : (types : Types) (d : Action) (x : Lexeme) (f : Build) → act types d (bare x) (unplacedBuild f) ≡ unplacedOption (act types d x f)
 unfolding act unplacedBuild unplacedFrames unplacedFrame unplaced
-act-same (begin t) (lexeme p l u) f = begun-same p t f
-act-same beginResource (lexeme p l u) f = begun-same p (resourceTag (spelled u)) f
-act-same (around t h) (lexeme p l u) (build b (frame q v g empty) fs) = refl
-act-same (around t h) (lexeme p l u) (build b (frame q v g (ks ▸ k)) fs) = rw (frames-same fs, height-same k) (fitting-same (suc (length fs)) (height k) (build b (frame p t h (empty ▸ k)) (frame q v g ks ∷ fs)))
-act-same (instead t) x (build b (frame q v g empty) fs) = refl
-act-same (instead t) x (build b (frame q v g (ks ▸ node r w h js)) fs) = refl
-act-same close x (build b (frame q v g ks) []) = refl
-act-same close x (build b (frame q v g ks) (frame r w h js ∷ fs)) = refl
-act-same constant x f = ap (λ (k : Node). added k (unplacedBuild f)) (constant-same x) ∙ added-same (constantNode x) f
-act-same read x f = ap (λ (k : Node). added k (unplacedBuild f)) (variable-same x) ∙ added-same (variableNode x) f
-act-same named (lexeme p l u) (build b (frame q v g ks) fs) = refl
-act-same parentFirst (lexeme p l u) f = added-first-same (leaf p 0x35 (Piece.name (spelled u) ∷ [])) f
-act-same (void t) (lexeme p l u) f = added-same (leaf p t []) f
-act-same enter x (build b f fs) = go (ltb b 32)
+act-same types (begin t) (lexeme p l u) f = begun-same p t f
+act-same types beginResource (lexeme p l u) f = begun-same p (resourceTag types (spelled u)) f
+act-same types (around t h) (lexeme p l u) (build b (frame q v g empty) fs) = refl
+act-same types (around t h) (lexeme p l u) (build b (frame q v g (ks ▸ k)) fs) = rw (frames-same fs, height-same k) (fitting-same (suc (length fs)) (height k) (build b (frame p t h (empty ▸ k)) (frame q v g ks ∷ fs)))
+act-same types (instead t) x (build b (frame q v g empty) fs) = refl
+act-same types (instead t) x (build b (frame q v g (ks ▸ node r w h js)) fs) = refl
+act-same types close x (build b (frame q v g ks) []) = refl
+act-same types close x (build b (frame q v g ks) (frame r w h js ∷ fs)) = refl
+act-same types constant x f = ap (λ (k : Node). added k (unplacedBuild f)) (constant-same x) ∙ added-same (constantNode x) f
+act-same types read x f = ap (λ (k : Node). added k (unplacedBuild f)) (variable-same x) ∙ added-same (variableNode x) f
+act-same types named (lexeme p l u) (build b (frame q v g ks) fs) = refl
+act-same types parentFirst (lexeme p l u) f = added-first-same (leaf p 0x35 (Piece.name (spelled u) ∷ [])) f
+act-same types (void t) (lexeme p l u) f = added-same (leaf p t []) f
+act-same types enter x (build b f fs) = go (ltb b 32)
   where
     go : (o : Bool) → _≡_ {A = Option Build} (pick o (some (build (suc b) (unplacedFrame f) (unplacedFrames fs))) none) (unplacedOption (pick o (some (build (suc b) f fs)) none))
     go true = refl
     go false = refl
-act-same leave x (build zero f fs) = refl
-act-same leave x (build (suc b) f fs) = refl
+act-same types leave x (build zero f fs) = refl
+act-same types leave x (build (suc b) f fs) = refl
 
-acts-same : (ds : List Action) (x : Lexeme) (f : Build) → acts ds (bare x) (unplacedBuild f) ≡ unplacedOption (acts ds x f)
+acts-same : (types : Types) (ds : List Action) (x : Lexeme) (f : Build) → acts types ds (bare x) (unplacedBuild f) ≡ unplacedOption (acts types ds x f)
 unfolding acts
-acts-same [] x f = refl
-acts-same (d ∷ ds) x f = rw (acts, act-same d x f) (go (acts-same ds x) (act d x f))
+acts-same types [] x f = refl
+acts-same types (d ∷ ds) x f = rw (acts, act-same types d x f) (go (acts-same types ds x) (act types d x f))
   where
-    go : ((g : Build) → acts ds (bare x) (unplacedBuild g) ≡ unplacedOption (acts ds x g)) → (o : Option Build) →
-        _≡_ {A = Option Build} (elim (unplacedOption o) as (λ o. Option Build) [ none ↦ none | some g ↦ acts ds (bare x) g ]) (unplacedOption (elim o as (λ o. Option Build) [ none ↦ none | some g ↦ acts ds x g ]))
+    go : ((g : Build) → acts types ds (bare x) (unplacedBuild g) ≡ unplacedOption (acts types ds x g)) → (o : Option Build) →
+        _≡_ {A = Option Build} (elim (unplacedOption o) as (λ o. Option Build) [ none ↦ none | some g ↦ acts types ds (bare x) g ]) (unplacedOption (elim o as (λ o. Option Build) [ none ↦ none | some g ↦ acts types ds x g ]))
     go later none = refl
     go later (some g) = later g
 
@@ -146,30 +147,30 @@ unplacedStepped (to k f) = to k (unplacedBuild f)
 kind-same : (x : Lexeme) → kind (tokenOf (bare x)) ≡ kind (tokenOf x)
 kind-same (lexeme p l t) = refl
 
-step-same : (k : List Symbol) (x : Lexeme) (f : Build) → step k (bare x) (unplacedBuild f) ≡ unplacedStepped (step k x f)
+step-same : (types : Types) (k : List Symbol) (x : Lexeme) (f : Build) → step types k (bare x) (unplacedBuild f) ≡ unplacedStepped (step types k x f)
 unfolding step
-step-same [] x f = refl
-step-same (s ∷ k) x f = rw (step, kind-same x) (go (λ g. step-same k x g) (rowOf s (kind (tokenOf x))))
+step-same types [] x f = refl
+step-same types (s ∷ k) x f = rw (step, kind-same x) (go (λ g. step-same types k x g) (rowOf s (kind (tokenOf x))))
   where
     taken : (ss : List Symbol) (o : Option Build) → toward (ss ++ k) (unplacedOption o) ≡ unplacedStepped (toward (ss ++ k) o)
     taken ss none = refl
     taken ss (some g) = refl
 
-    left : ((g : Build) → step k (bare x) (unplacedBuild g) ≡ unplacedStepped (step k x g)) → (o : Option Build) →
-        _≡_ {A = Stepped} (elim (unplacedOption o) as (λ o. Stepped) [ none ↦ stuck | some g ↦ step k (bare x) g ]) (unplacedStepped (elim o as (λ o. Stepped) [ none ↦ stuck | some g ↦ step k x g ]))
+    left : ((g : Build) → step types k (bare x) (unplacedBuild g) ≡ unplacedStepped (step types k x g)) → (o : Option Build) →
+        _≡_ {A = Stepped} (elim (unplacedOption o) as (λ o. Stepped) [ none ↦ stuck | some g ↦ step types k (bare x) g ]) (unplacedStepped (elim o as (λ o. Stepped) [ none ↦ stuck | some g ↦ step types k x g ]))
     left later none = refl
     left later (some g) = later g
 
-    out : ((g : Build) → step k (bare x) (unplacedBuild g) ≡ unplacedStepped (step k x g)) → (o : Option (List Action)) →
-        _≡_ {A = Stepped} (elim o as (λ o. Stepped) [ none ↦ stuck | some ds ↦ elim (acts ds (bare x) (unplacedBuild f)) as (λ o. Stepped) [ none ↦ stuck | some g ↦ step k (bare x) g ] ]) (unplacedStepped (elim o as (λ o. Stepped) [ none ↦ stuck | some ds ↦ elim (acts ds x f) as (λ o. Stepped) [ none ↦ stuck | some g ↦ step k x g ] ]))
+    out : ((g : Build) → step types k (bare x) (unplacedBuild g) ≡ unplacedStepped (step types k x g)) → (o : Option (List Action)) →
+        _≡_ {A = Stepped} (elim o as (λ o. Stepped) [ none ↦ stuck | some ds ↦ elim (acts types ds (bare x) (unplacedBuild f)) as (λ o. Stepped) [ none ↦ stuck | some g ↦ step types k (bare x) g ] ]) (unplacedStepped (elim o as (λ o. Stepped) [ none ↦ stuck | some ds ↦ elim (acts types ds x f) as (λ o. Stepped) [ none ↦ stuck | some g ↦ step types k x g ] ]))
     out later none = refl
-    out later (some ds) = rw (acts-same ds x f) (left later (acts ds x f))
+    out later (some ds) = rw (acts-same types ds x f) (left later (acts types ds x f))
 
-    go : ((g : Build) → step k (bare x) (unplacedBuild g) ≡ unplacedStepped (step k x g)) → (o : Option Row) →
-        _≡_ {A = Stepped} (elim o as (λ o. Stepped) [ some r ↦ elim r as (λ o. Stepped) [ row ds ss ↦ toward (ss ++ k) (acts ds (bare x) (unplacedBuild f)) ] | none ↦ elim (leftOut s) as (λ o. Stepped) [ none ↦ stuck | some ds ↦ elim (acts ds (bare x) (unplacedBuild f)) as (λ o. Stepped) [ none ↦ stuck | some g ↦ step k (bare x) g ] ] ])
-        (unplacedStepped (elim o as (λ o. Stepped) [ some r ↦ elim r as (λ o. Stepped) [ row ds ss ↦ toward (ss ++ k) (acts ds x f) ] | none ↦ elim (leftOut s) as (λ o. Stepped) [ none ↦ stuck | some ds ↦ elim (acts ds x f) as (λ o. Stepped) [ none ↦ stuck | some g ↦ step k x g ] ] ]))
+    go : ((g : Build) → step types k (bare x) (unplacedBuild g) ≡ unplacedStepped (step types k x g)) → (o : Option Row) →
+        _≡_ {A = Stepped} (elim o as (λ o. Stepped) [ some r ↦ elim r as (λ o. Stepped) [ row ds ss ↦ toward (ss ++ k) (acts types ds (bare x) (unplacedBuild f)) ] | none ↦ elim (leftOut s) as (λ o. Stepped) [ none ↦ stuck | some ds ↦ elim (acts types ds (bare x) (unplacedBuild f)) as (λ o. Stepped) [ none ↦ stuck | some g ↦ step types k (bare x) g ] ] ])
+        (unplacedStepped (elim o as (λ o. Stepped) [ some r ↦ elim r as (λ o. Stepped) [ row ds ss ↦ toward (ss ++ k) (acts types ds x f) ] | none ↦ elim (leftOut s) as (λ o. Stepped) [ none ↦ stuck | some ds ↦ elim (acts types ds x f) as (λ o. Stepped) [ none ↦ stuck | some g ↦ step types k x g ] ] ]))
     go later none = out later (leftOut s)
-    go later (some (row ds ss)) = rw (acts-same ds x f) (taken ss (acts ds x f))
+    go later (some (row ds ss)) = rw (acts-same types ds x f) (taken ss (acts types ds x f))
 
 -- ---- Runs
 
@@ -177,17 +178,17 @@ unfoldable pub unplacedEnded : Ended → Ended
 unplacedEnded (built f) = built (unplacedBuild f)
 unplacedEnded (fault p) = fault 0
 
-run-same : (xs : List Lexeme) (k : List Symbol) (f : Build) → run (bares xs) k (unplacedBuild f) ≡ unplacedEnded (run xs k f)
+run-same : (types : Types) (xs : List Lexeme) (k : List Symbol) (f : Build) → run types (bares xs) k (unplacedBuild f) ≡ unplacedEnded (run types xs k f)
 unfolding run unplacedEnded
-run-same [] [] f = refl
-run-same [] (s ∷ k) f = refl
-run-same (lexeme p l t ∷ xs) k f = rw (run, step-same k (lexeme p l t) f) (go (run-same xs) (step k (lexeme p l t) f))
+run-same types [] [] f = refl
+run-same types [] (s ∷ k) f = refl
+run-same types (lexeme p l t ∷ xs) k f = rw (run, step-same types k (lexeme p l t) f) (go (run-same types xs) (step types k (lexeme p l t) f))
   where
-    go : ((k : List Symbol) (f : Build) → run (bares xs) k (unplacedBuild f) ≡ unplacedEnded (run xs k f)) → (o : Stepped) →
-        _≡_ {A = Ended} (elim (unplacedStepped o) as (λ o. Ended) [ stuck ↦ fault 0 | to k′ g ↦ run (bares xs) k′ g ]) (unplacedEnded (elim o as (λ o. Ended) [ stuck ↦ fault p | to k′ g ↦ run xs k′ g ]))
+    go : ((k : List Symbol) (f : Build) → run types (bares xs) k (unplacedBuild f) ≡ unplacedEnded (run types xs k f)) → (o : Stepped) →
+        _≡_ {A = Ended} (elim (unplacedStepped o) as (λ o. Ended) [ stuck ↦ fault 0 | to k′ g ↦ run types (bares xs) k′ g ]) (unplacedEnded (elim o as (λ o. Ended) [ stuck ↦ fault p | to k′ g ↦ run types xs k′ g ]))
     go later stuck = refl
     go later (to k′ g) = later k′ g
 
-pub reading-same : (xs : List Lexeme) → reading (bares xs) ≡ unplacedEnded (reading xs)
+pub reading-same : (types : Types) (xs : List Lexeme) → reading types (bares xs) ≡ unplacedEnded (reading types xs)
 unfolding reading unplacedBuild unplacedFrames unplacedFrame unplaced
-reading-same xs = run-same xs manifest start
+reading-same types xs = run-same types xs manifest start

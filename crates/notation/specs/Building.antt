@@ -7,7 +7,7 @@ use lib.ListN.{length}
 use Rattle.rules.specs.Bytes.{pick}
 use Rattle.rules.specs.Catalog.{highBytes, word64}
 use Rattle.rules.specs.Evaluate.{any}
-use Rattle.rules.specs.Types.{theEight, builtInTypes}
+use Rattle.rules.specs.Types.{Types, builtInTypes}
 use Rattle.rules.specs.Compile.{sameBytes}
 use Rattle.notation.specs.Tokens.{Token, word, number, text, variable, topVariable, classVariable, mark, trueWord, Lexeme, lexeme, placeOf, tokenOf}
 
@@ -96,8 +96,8 @@ variableNode (lexeme p l (classVariable c n)) = leaf p 0x15 (name c ∷ name n �
 variableNode (lexeme p l (mark k)) = leaf p 0 []
 
 -- "25 if the type list holds the name, else 27"
-unfoldable pub resourceTag : (type : List ℕ) → ℕ
-resourceTag w = pick (any (sameBytes w) (builtInTypes theEight)) 0x25 0x27
+unfoldable pub resourceTag : Types → (type : List ℕ) → ℕ
+resourceTag types w = pick (any (sameBytes w) (builtInTypes types)) 0x25 0x27
 
 -- ---- Actions: each at a token, none where it would pass a limit
 
@@ -137,21 +137,21 @@ abbrev pub closing : (brackets : ℕ) → Frame → List Frame → Option Build
 closing b f [] = none
 closing b (frame p t h ks) (frame q u g js ∷ fs) = some (build b (frame q u g (js ▸ node p t h ks)) fs)
 
-unfoldable pub act : Action → Lexeme → Build → Option Build
-act (begin t) x f = begun (placeOf x) t f
-act beginResource x f = begun (placeOf x) (resourceTag (spelled (tokenOf x))) f
-act (around t h) x (build b (frame q u g ks) fs) = aroundLast (placeOf x) t h b q u g ks fs
-act (instead t) x (build b (frame q u g ks) fs) = insteadOf t b q u g ks fs
-act close x (build b f fs) = closing b f fs
-act constant x f = added (constantNode x) f
-act read x f = added (variableNode x) f
-act named x (build b (frame q u g ks) fs) = some (build b (frame q u (g ++ (name (spelled (tokenOf x)) ∷ [])) ks) fs)
-act parentFirst x f = addedFirst (leaf (placeOf x) 0x35 (name (spelled (tokenOf x)) ∷ [])) f
-act (void t) x f = added (leaf (placeOf x) t []) f
-act enter x (build b f fs) = pick (ltb b 32) (some (build (suc b) f fs)) none  -- "at most 32 are open at one time"
-act leave x (build zero f fs) = none
-act leave x (build (suc b) f fs) = some (build b f fs)
+unfoldable pub act : Types → Action → Lexeme → Build → Option Build
+act types (begin t) x f = begun (placeOf x) t f
+act types beginResource x f = begun (placeOf x) (resourceTag types (spelled (tokenOf x))) f
+act types (around t h) x (build b (frame q u g ks) fs) = aroundLast (placeOf x) t h b q u g ks fs
+act types (instead t) x (build b (frame q u g ks) fs) = insteadOf t b q u g ks fs
+act types close x (build b f fs) = closing b f fs
+act types constant x f = added (constantNode x) f
+act types read x f = added (variableNode x) f
+act types named x (build b (frame q u g ks) fs) = some (build b (frame q u (g ++ (name (spelled (tokenOf x)) ∷ [])) ks) fs)
+act types parentFirst x f = addedFirst (leaf (placeOf x) 0x35 (name (spelled (tokenOf x)) ∷ [])) f
+act types (void t) x f = added (leaf (placeOf x) t []) f
+act types enter x (build b f fs) = pick (ltb b 32) (some (build (suc b) f fs)) none  -- "at most 32 are open at one time"
+act types leave x (build zero f fs) = none
+act types leave x (build (suc b) f fs) = some (build b f fs)
 
-unfoldable pub acts : List Action → Lexeme → Build → Option Build
-acts [] x f = some f
-acts (a ∷ ds) x f = elim (act a x f) as (λ o. Option Build) [ none ↦ none | some g ↦ acts ds x g ]
+unfoldable pub acts : Types → List Action → Lexeme → Build → Option Build
+acts types [] x f = some f
+acts types (a ∷ ds) x f = elim (act types a x f) as (λ o. Option Build) [ none ↦ none | some g ↦ acts types ds x g ]

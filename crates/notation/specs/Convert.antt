@@ -13,8 +13,9 @@ use Rattle.rules.specs.Format.{isConstant}
 use Rattle.rules.specs.Check.{ascends}
 use Rattle.rules.specs.Fields.{Field, field, Fields, none as noFields, more, writeAll}
 use Rattle.rules.specs.Catalog.{highBytes}
-use Rattle.rules.specs.Compile.{stringNumber}
+use Rattle.rules.specs.Compile.{stringNumber, checked}
 use Rattle.rules.specs.Outcome.{Outcome, refused, done, _>>=_, refuseIf}
+use Rattle.rules.specs.Types.{Types, checkTypes}
 use Rattle.notation.specs.Tokens.{Token, word, number, text, variable, topVariable, classVariable, mark, Lexeme, placeOf, tokenOf}
 use Rattle.notation.specs.Lexing.{tokens}
 use Rattle.notation.specs.Building.{Piece, byte, name, Node, node, Nodes, empty, _▸_, frame, build}
@@ -122,19 +123,20 @@ tooLong written outputLength = ltb 65535 (length written) || ltb outputLength (l
 -- ---- The whole
 
 -- the items of a text
-unfoldable pub textItems : List Lexeme → Outcome Nodes
-textItems xs = readText (reading xs) (crowdedAt xs [])
+unfoldable pub textItems : Types → List Lexeme → Outcome Nodes
+textItems types xs = readText (reading types xs) (crowdedAt xs [])
 
 -- a tree of items as a manifest
 unfoldable pub manifestBytes : List Lexeme → Nodes → List ℕ
 manifestBytes xs items = writeAll (manifestFields (tableBehind xs []) items)
 
--- 1; 24 of the text's length; 24; 25; 24 of the manifest's length
-unfoldable pub converted : (given : List ℕ) → (outputLength memoryLength : ℕ) → Outcome (List ℕ)
-converted given outputLength memoryLength = do
+-- 1; 28; 24 of the text's length; 24; 25; 24 of the manifest's length
+unfoldable pub converted : Types → (given : List ℕ) → (outputLength memoryLength : ℕ) → Outcome (List ℕ)
+converted types given outputLength memoryLength = do
   _ ← refuseIf (ltb memoryLength 65536) MemoryTooShort 0
+  _ ← checked (checkTypes types)
   _ ← refuseIf (ltb 65535 (length given)) OutsideNotation 0
-  items ← textItems (tokens given)
+  items ← textItems types (tokens given)
   _ ← refuseAt (lateAmong items) PastLine255
   _ ← refuseIf (tooLong (manifestBytes (tokens given) items) outputLength) OutsideNotation 0
   done (manifestBytes (tokens given) items)
@@ -159,8 +161,8 @@ pub record Effect : Type 0 where
 unfoldable pub effectOf : (outputLength memoryLength : ℕ) → Outcome (List ℕ) → Effect
 effectOf outputLength memoryLength o = record { answer = answerOf o; outputAfter = outputOf outputLength o; memoryAfter = replicate memoryLength 0 }
 
-unfoldable pub convert : (given : List ℕ) → (outputLength memoryLength : ℕ) → Effect
-convert given outputLength memoryLength = effectOf outputLength memoryLength (converted given outputLength memoryLength)
+unfoldable pub convert : Types → (given : List ℕ) → (outputLength memoryLength : ℕ) → Effect
+convert types given outputLength memoryLength = effectOf outputLength memoryLength (converted types given outputLength memoryLength)
 
 -- an answer in the papers' numbers: the length, or number and place
 pub data Said : Type 0 where

@@ -7,6 +7,7 @@ use mathlib.Core.Option.{Option, none, some}
 use mathlib.Core.Bool.{_&&_}
 use lib.Dec.{leb, eqb}
 use Rattle.rules.specs.Bytes.{pick}
+use Rattle.rules.specs.Types.{Types}
 use Rattle.notation.specs.Tokens.{Lexeme, kind, tokenOf, placeOf, aWord, aNumber, aText, aVariable, aQualified, endOfText, leftBrace, rightBrace, leftRound, rightRound, leftSquare, rightSquare, colon, comma, arrow, question, exclamation, plusSign, minusSign, slash, above, twoEquals, equals, andWord, orWord, trueWord, falseWord, defaultWord, ifWord, elseWord, caseWord, classWord, includeWord, nodeWord, defineWord, inheritsWord}
 use Rattle.notation.specs.Lexing.{find}
 use Rattle.notation.specs.Building.{byte, Build, Action, begin, beginResource, around, instead, close, constant, read, named, parentFirst, void, enter, leave, acts, start}
@@ -204,12 +205,12 @@ leftOut ends = some (close ∷ [])
 
 -- ---- What a text means: its tokens, the symbols they follow, what is built before them and behind them
 
-pub data Reads : List Symbol → List Lexeme → Build → Build → Type 0 where
-  done : {f : Build} → Reads [] [] f f
+pub data Reads (types : Types) : List Symbol → List Lexeme → Build → Build → Type 0 where
+  done : {f : Build} → Reads types [] [] f f
   takes : {s : Symbol} {k ss : List Symbol} {ds : List Action} {x : Lexeme} {xs : List Lexeme} {f f′ g : Build} →
-      rowOf s (kind (tokenOf x)) ≡ some (row ds ss) → acts ds x f ≡ some f′ → Reads (ss ++ k) xs f′ g → Reads (s ∷ k) (x ∷ xs) f g
+      rowOf s (kind (tokenOf x)) ≡ some (row ds ss) → acts types ds x f ≡ some f′ → Reads types (ss ++ k) xs f′ g → Reads types (s ∷ k) (x ∷ xs) f g
   leaves : {s : Symbol} {k : List Symbol} {ds : List Action} {x : Lexeme} {xs : List Lexeme} {f f′ g : Build} →
-      leftOut s ≡ some ds → acts ds x f ≡ some f′ → Reads k (x ∷ xs) f′ g → Reads (s ∷ k) (x ∷ xs) f g
+      leftOut s ≡ some ds → acts types ds x f ≡ some f′ → Reads types k (x ∷ xs) f′ g → Reads types (s ∷ k) (x ∷ xs) f g
 
 -- a manifest's text: items, and then the end
 abbrev pub manifest : List Symbol
@@ -226,14 +227,14 @@ toward k none = stuck
 toward k (some f) = to k f
 
 -- one token
-unfoldable pub step : List Symbol → Lexeme → Build → Stepped
-step [] x f = stuck
-step (s ∷ k) x f =
+unfoldable pub step : Types → List Symbol → Lexeme → Build → Stepped
+step types [] x f = stuck
+step types (s ∷ k) x f =
     elim (rowOf s (kind (tokenOf x))) as (λ o. Stepped) [
-      | some r ↦ elim r as (λ o. Stepped) [ row ds ss ↦ toward (ss ++ k) (acts ds x f) ]
+      | some r ↦ elim r as (λ o. Stepped) [ row ds ss ↦ toward (ss ++ k) (acts types ds x f) ]
       | none ↦ elim (leftOut s) as (λ o. Stepped) [
         | none ↦ stuck
-        | some ds ↦ elim (acts ds x f) as (λ o. Stepped) [ none ↦ stuck | some g ↦ step k x g ]
+        | some ds ↦ elim (acts types ds x f) as (λ o. Stepped) [ none ↦ stuck | some g ↦ step types k x g ]
       ]
     ]
 
@@ -242,10 +243,10 @@ pub data Ended : Type 0 where
   built : Build → Ended
   fault : (place : ℕ) → Ended
 
-unfoldable pub run : List Lexeme → List Symbol → Build → Ended
-run [] [] f = built f
-run [] (s ∷ k) f = fault 0
-run (x ∷ xs) k f = elim (step k x f) as (λ o. Ended) [ stuck ↦ fault (placeOf x) | to k′ g ↦ run xs k′ g ]
+unfoldable pub run : Types → List Lexeme → List Symbol → Build → Ended
+run types [] [] f = built f
+run types [] (s ∷ k) f = fault 0
+run types (x ∷ xs) k f = elim (step types k x f) as (λ o. Ended) [ stuck ↦ fault (placeOf x) | to k′ g ↦ run types xs k′ g ]
 
-unfoldable pub reading : List Lexeme → Ended
-reading xs = run xs manifest start
+unfoldable pub reading : Types → List Lexeme → Ended
+reading types xs = run types xs manifest start

@@ -14,7 +14,7 @@ use Rattle.rules.specs.Check.{check}
 use Rattle.rules.specs.Fields.{Field, field, Fields, none as noFields, more, readAll, others}
 use Rattle.rules.specs.Read.{manifestOf}
 use Rattle.rules.specs.Tree.{Manifest}
-use Rattle.rules.specs.Types.{theEight}
+use Rattle.rules.specs.Types.{Types, checkTypes}
 use Rattle.rules.specs.Compile.{stringAt, checked, isBuiltIn}
 use Rattle.rules.specs.Outcome.{Outcome, _>>=_, refuseIf, done}
 use Rattle.notation.specs.Tokens.{Lexeme}
@@ -65,19 +65,20 @@ module _ (strings : List (List ℕ)) where
   unfoldable pub namesSpellable : (tag : ℕ) → (head : List ℕ) → Bool
   namesSpellable t h = eqb t 0x11 || (eqb t 0x31 || (spellable h 0 (formOf t .one) && spellable h (size (formOf t .one)) (formOf t .two)))
 
-  -- "a 25 whose type is not in the list, a 27 whose type is"
-  unfoldable pub typeRight : (tag : ℕ) → (head : List ℕ) → Bool
-  typeRight t h = pick (eqb t 0x25) (isBuiltIn theEight strings (two h 0)) (pick (eqb t 0x27) (not (isBuiltIn theEight strings (two h 0))) true)
-
   -- "a constant whose label is below that of the constant before it": l is that label
   unfoldable pub labelRight : (l tag : ℕ) → (head : List ℕ) → Bool
   labelRight l t h = not (isConstant t) || leb l (byte h 0)
+
+module _ (types : Types) (strings : List (List ℕ)) where
+  -- "a 25 whose type is not in the list, a 27 whose type is"
+  unfoldable pub typeRight : (tag : ℕ) → (head : List ℕ) → Bool
+  typeRight t h = pick (eqb t 0x25) (isBuiltIn types strings (two h 0)) (pick (eqb t 0x27) (not (isBuiltIn types strings (two h 0))) true)
 
   -- the fields in the order of their places
   unfoldable mutual
     pub over : Field → (l : ℕ) → Gone
     over (field p t h ks) l =
-        pick (labelRight l t h && (namesSpellable t h && typeRight t h))
+        pick (labelRight strings l t h && (namesSpellable strings t h && typeRight t h))
         (overAll ks (pick (isConstant t) (byte h 0) l))
         (stops p)
 
@@ -86,8 +87,8 @@ module _ (strings : List (List ℕ)) where
     overAll (more k ks) l = going (over k l) (overAll ks)
 
 -- the items, which come behind the table
-unfoldable pub unprintableAt : (manifest : List ℕ) → Option ℕ
-unprintableAt m = stoppedAt (overAll (manifestOf m .strings) (others (readAll m)) 0)
+unfoldable pub unprintableAt : Types → (manifest : List ℕ) → Option ℕ
+unprintableAt types m = stoppedAt (overAll types (manifestOf m .strings) (others (readAll m)) 0)
 
 -- ---- The whole
 
@@ -97,15 +98,16 @@ tokensOf m = printedItems (stringAt (m .strings)) (m .items) 0 (λ v. [])
 unfoldable pub textOf : Manifest → List ℕ
 textOf m = laidOut (tokensOf m) none 0 0
 
--- 1; 2; 3 and 4; 5; 26; 26 of the text's length
-unfoldable pub printedText : (manifest : List ℕ) → (outputLength memoryLength : ℕ) → Outcome (List ℕ)
-printedText manifest outputLength memoryLength = do
+-- 1; 28; 2; 3 and 4; 5; 26; 26 of the text's length
+unfoldable pub printedText : Types → (manifest : List ℕ) → (outputLength memoryLength : ℕ) → Outcome (List ℕ)
+printedText types manifest outputLength memoryLength = do
   _ ← refuseIf (ltb memoryLength 65536) MemoryTooShort 0
+  _ ← checked (checkTypes types)
   _ ← refuseIf (eqb (length manifest) 0 || ltb 65535 (length manifest)) ManifestLength 0
   _ ← checked (check manifest)
-  _ ← refuseAt (unprintableAt manifest) Unprintable
+  _ ← refuseAt (unprintableAt types manifest) Unprintable
   _ ← refuseIf (tooLong (textOf (manifestOf manifest)) outputLength) Unprintable 0
   done (textOf (manifestOf manifest))
 
-unfoldable pub print : (manifest : List ℕ) → (outputLength memoryLength : ℕ) → Effect
-print manifest outputLength memoryLength = effectOf outputLength memoryLength (printedText manifest outputLength memoryLength)
+unfoldable pub print : Types → (manifest : List ℕ) → (outputLength memoryLength : ℕ) → Effect
+print types manifest outputLength memoryLength = effectOf outputLength memoryLength (printedText types manifest outputLength memoryLength)

@@ -10,6 +10,7 @@ use lib.ListN.{length}
 use borrow.Author.Tests.{leb-true, leb-false, eqb-true}
 use Rattle.rules.specs.Bytes.{pick}
 use Rattle.rules.proofs.Lists.{both-left, both-right}
+use Rattle.rules.specs.Types.{Types}
 use Rattle.notation.specs.Tokens.{Lexeme, kind, tokenOf, question, leftBrace, rightBrace}
 use Rattle.notation.specs.Building.{byte, Build, Action, around, acts, start}
 use Rattle.notation.specs.Grammar.{Entry, arm, attribute, parameter, Symbol, sign, aName, expression, operators, readOrWord, closeBracket, one, maybe, further, statements, block, otherwise, branches, items, classRest, parameters, defaultValue, aConstant, inherits, parent, devices, device, moreDevices, ends, Row, row, operatorByte, operatorRow, operatorIn, binds, rowOf, leftOut, manifest, Stepped, stuck, to, toward, step}
@@ -179,9 +180,9 @@ pub record Kept (k : List Symbol) (f : Build) : Type 0 where
 pub start-kept : Kept manifest start
 start-kept = record { light = (omega arith, (omega arith, tt)); fields = refl; brackets = refl; floor = omega arith; low = (omega arith, omega arith) }
 
-module _ (s : Symbol) (k : List Symbol) (x : Lexeme) (f g : Build) where
+module _ (types : Types) (s : Symbol) (k : List Symbol) (x : Lexeme) (f g : Build) where
   -- a row that suits
-  suited-kept : (ds : List Action) (ss : List Symbol) → suits s (row ds ss) ≡ true → acts ds x f ≡ some g → Kept (s ∷ k) f → Kept (ss ++ k) g
+  suited-kept : (ds : List Action) (ss : List Symbol) → suits s (row ds ss) ≡ true → acts types ds x f ≡ some g → Kept (s ∷ k) f → Kept (ss ++ k) g
   suited-kept ds ss c i h =
       let a = lighter (rank s) ss in
       let b = eqb (count rank 0 ss + count effect 2 ds) (count rank 0 (s ∷ []) + count effect 1 ds) in
@@ -191,7 +192,7 @@ module _ (s : Symbol) (k : List Symbol) (x : Lexeme) (f g : Build) where
       let fields-closed = eqb-true (count rank 0 ss + count effect 2 ds) (count rank 0 (s ∷ []) + count effect 1 ds) (both-left b (d && e) rest) in
       let brackets-closed = eqb-true (count rank 1 ss + count effect 4 ds) (count rank 1 (s ∷ []) + count effect 3 ds) (both-left d e (both-right b (d && e) rest)) in
       let once = leb-true (count rank 2 ss) (count rank 2 (s ∷ [])) (both-right d e (both-right b (d && e) rest)) in
-      let changed = acts-changed x ds f g i in
+      let changed = acts-changed types x ds f g i in
       record {
         light = light-after s ss k (both-left a (b && (d && e)) c) (h .light);
         fields = omega (arith, count-append rank 0 ss k, fields-closed, changed .fields, h .fields);
@@ -201,11 +202,11 @@ module _ (s : Symbol) (k : List Symbol) (x : Lexeme) (f g : Build) where
       }
 
   -- a token is taken
-  pub row-kept : {ds : List Action} {ss : List Symbol} (q : ℕ) → rowOf s q ≡ some (row ds ss) → acts ds x f ≡ some g → Kept (s ∷ k) f → Kept (ss ++ k) g
+  pub row-kept : {ds : List Action} {ss : List Symbol} (q : ℕ) → rowOf s q ≡ some (row ds ss) → acts types ds x f ≡ some g → Kept (s ∷ k) f → Kept (ss ++ k) g
   row-kept {ds} {ss} q e i h = suited-kept ds ss (row-suits s q (row ds ss) e) i h
 
   -- a symbol is left out
-  pub out-kept : {ds : List Action} → leftOut s ≡ some ds → acts ds x f ≡ some g → Kept (s ∷ k) f → Kept k g
+  pub out-kept : {ds : List Action} → leftOut s ≡ some ds → acts types ds x f ≡ some g → Kept (s ∷ k) f → Kept k g
   out-kept {ds} e i h = suited-kept ds [] (ap (outSuits s) (sym e) ∙ out-suits s) i h
 
 -- no step from here
@@ -213,40 +214,40 @@ stuck-not-to : {A : Type 0} {k : List Symbol} {g : Build} → stuck ≡ to k g �
 stuck-not-to e = let z : _≡_ {A = ℕ} 0 1 = cc in absurd (omega arith)
 
 -- a step: what holds of the symbols and the tree while symbols are left out, and then of what a row makes of them
-module _ (Before After : List Symbol → Build → Type 0) (x : Lexeme)
-    (out : (s : Symbol) (k : List Symbol) (f g : Build) (ds : List Action) → leftOut s ≡ some ds → acts ds x f ≡ some g → Before (s ∷ k) f → Before k g)
-    (taken : (s : Symbol) (k : List Symbol) (f g : Build) (ds : List Action) (ss : List Symbol) → rowOf s (kind (tokenOf x)) ≡ some (row ds ss) → acts ds x f ≡ some g → Before (s ∷ k) f → After (ss ++ k) g) where
-  pub step-through : (k : List Symbol) (f : Build) (k′ : List Symbol) (g : Build) → step k x f ≡ to k′ g → Before k f → After k′ g
+module _ (types : Types) (Before After : List Symbol → Build → Type 0) (x : Lexeme)
+    (out : (s : Symbol) (k : List Symbol) (f g : Build) (ds : List Action) → leftOut s ≡ some ds → acts types ds x f ≡ some g → Before (s ∷ k) f → Before k g)
+    (taken : (s : Symbol) (k : List Symbol) (f g : Build) (ds : List Action) (ss : List Symbol) → rowOf s (kind (tokenOf x)) ≡ some (row ds ss) → acts types ds x f ≡ some g → Before (s ∷ k) f → After (ss ++ k) g) where
+  pub step-through : (k : List Symbol) (f : Build) (k′ : List Symbol) (g : Build) → step types k x f ≡ to k′ g → Before k f → After k′ g
   unfolding step
   step-through [] f k′ g e h = stuck-not-to e
   step-through (s ∷ k) f k′ g e h = by-row (λ i. step-through k i k′ g) (rowOf s (kind (tokenOf x))) refl e
     where
-      by-taken : (ds : List Action) (ss : List Symbol) → rowOf s (kind (tokenOf x)) ≡ some (row ds ss) → (o : Option Build) → acts ds x f ≡ o → toward (ss ++ k) o ≡ to k′ g → After k′ g
+      by-taken : (ds : List Action) (ss : List Symbol) → rowOf s (kind (tokenOf x)) ≡ some (row ds ss) → (o : Option Build) → acts types ds x f ≡ o → toward (ss ++ k) o ≡ to k′ g → After k′ g
       by-taken ds ss r none j q = stuck-not-to q
       by-taken ds ss r (some i) j q =
           let same-symbols : ss ++ k ≡ k′ = cc in
           let same-build : i ≡ g = cc in
           subst (λ (j : List Symbol). After j g) same-symbols (subst (After (ss ++ k)) same-build (taken s k f i ds ss r j h))
 
-      by-left : ((i : Build) → step k x i ≡ to k′ g → Before k i → After k′ g) → (ds : List Action) → leftOut s ≡ some ds → (o : Option Build) → acts ds x f ≡ o → _≡_ {A = Stepped} (elim o as (λ o. Stepped) [ none ↦ stuck | some i ↦ step k x i ]) (to k′ g) → After k′ g
+      by-left : ((i : Build) → step types k x i ≡ to k′ g → Before k i → After k′ g) → (ds : List Action) → leftOut s ≡ some ds → (o : Option Build) → acts types ds x f ≡ o → _≡_ {A = Stepped} (elim o as (λ o. Stepped) [ none ↦ stuck | some i ↦ step types k x i ]) (to k′ g) → After k′ g
       by-left later ds l none j q = stuck-not-to q
       by-left later ds l (some i) j q = later i q (out s k f i ds l j h)
 
-      by-out : ((i : Build) → step k x i ≡ to k′ g → Before k i → After k′ g) → (o : Option (List Action)) → leftOut s ≡ o → _≡_ {A = Stepped} (elim o as (λ o. Stepped) [ none ↦ stuck | some ds ↦ elim (acts ds x f) as (λ o. Stepped) [ none ↦ stuck | some i ↦ step k x i ] ]) (to k′ g) → After k′ g
+      by-out : ((i : Build) → step types k x i ≡ to k′ g → Before k i → After k′ g) → (o : Option (List Action)) → leftOut s ≡ o → _≡_ {A = Stepped} (elim o as (λ o. Stepped) [ none ↦ stuck | some ds ↦ elim (acts types ds x f) as (λ o. Stepped) [ none ↦ stuck | some i ↦ step types k x i ] ]) (to k′ g) → After k′ g
       by-out later none l q = stuck-not-to q
-      by-out later (some ds) l q = by-left later ds l (acts ds x f) refl q
+      by-out later (some ds) l q = by-left later ds l (acts types ds x f) refl q
 
-      by-row : ((i : Build) → step k x i ≡ to k′ g → Before k i → After k′ g) → (o : Option Row) → rowOf s (kind (tokenOf x)) ≡ o → _≡_ {A = Stepped} (elim o as (λ o. Stepped) [
-        | some r ↦ elim r as (λ o. Stepped) [ row ds ss ↦ toward (ss ++ k) (acts ds x f) ]
-        | none ↦ elim (leftOut s) as (λ o. Stepped) [ none ↦ stuck | some ds ↦ elim (acts ds x f) as (λ o. Stepped) [ none ↦ stuck | some i ↦ step k x i ] ]
+      by-row : ((i : Build) → step types k x i ≡ to k′ g → Before k i → After k′ g) → (o : Option Row) → rowOf s (kind (tokenOf x)) ≡ o → _≡_ {A = Stepped} (elim o as (λ o. Stepped) [
+        | some r ↦ elim r as (λ o. Stepped) [ row ds ss ↦ toward (ss ++ k) (acts types ds x f) ]
+        | none ↦ elim (leftOut s) as (λ o. Stepped) [ none ↦ stuck | some ds ↦ elim (acts types ds x f) as (λ o. Stepped) [ none ↦ stuck | some i ↦ step types k x i ] ]
       ]) (to k′ g) → After k′ g
       by-row later none r q = by-out later (leftOut s) refl q
-      by-row later (some (row ds ss)) r q = by-taken ds ss r (acts ds x f) refl q
+      by-row later (some (row ds ss)) r q = by-taken ds ss r (acts types ds x f) refl q
 
 -- so a step keeps the bound
-pub step-kept : (k : List Symbol) (x : Lexeme) (f : Build) (k′ : List Symbol) (g : Build) → step k x f ≡ to k′ g → Kept k f → Kept k′ g
-step-kept k x f k′ g e h =
-    step-through Kept Kept x (λ s k f g ds l i h. out-kept s k x f g l i h) (λ s k f g ds ss r i h. row-kept s k x f g (kind (tokenOf x)) r i h) k f k′ g e h
+pub step-kept : (types : Types) (k : List Symbol) (x : Lexeme) (f : Build) (k′ : List Symbol) (g : Build) → step types k x f ≡ to k′ g → Kept k f → Kept k′ g
+step-kept types k x f k′ g e h =
+    step-through types Kept Kept x (λ s k f g ds l i h. out-kept types s k x f g l i h) (λ s k f g ds ss r i h. row-kept types s k x f g (kind (tokenOf x)) r i h) k f k′ g e h
 
 -- ---- The height
 

@@ -9,6 +9,7 @@ use lib.Dec.{leb, ltb, eqb}
 use lib.ListN.{length}
 use borrow.Author.Tests.{leb-true, ltb-true}
 use Rattle.rules.specs.Bytes.{pick}
+use Rattle.rules.specs.Types.{Types}
 use Rattle.notation.specs.Tokens.{Lexeme, placeOf, tokenOf}
 use Rattle.notation.specs.Building.{name, Piece, Node, node, Nodes, empty, _▸_, height, Frame, frame, leaf, spelled, inFront, Build, build, Action, begin, beginResource, around, instead, close, constant, read, named, parentFirst, void, enter, leave, added, addedFirst, begun, act, acts}
 use Rattle.notation.specs.Grammar.{Symbol, sign, aName, expression, operators, readOrWord, closeBracket, one, maybe, further, statements, block, otherwise, branches, items, classRest, parameters, defaultValue, aConstant, inherits, parent, devices, device, moreDevices, ends}
@@ -103,7 +104,7 @@ unfolding inFront
 front-part k empty = refl
 front-part k (ks ▸ j) = refl
 
-module _ (x : Lexeme) where
+module _ (types : Types) (x : Lexeme) where
   -- by a test, by that of the levels, and without one
   tested : (a : Action) (b : Bool) (f h g : Build) → (b ≡ true → Changed (a ∷ []) f h) → _≡_ {A = Option Build} (pick b (some h) none) (some g) → Changed (a ∷ []) f g
   tested a b f h g c e = let p = passed b h g e in subst (Changed (a ∷ []) f) (p .0) (c (p .1))
@@ -123,7 +124,7 @@ module _ (x : Lexeme) where
   adds a i b q u h ks js fs g m e = fitting-in a (length fs + 1) _ _ g (λ l. record { fields = rw i; brackets = rw i; low = λ w. (w .0, omega arith) }) e
 
   -- one action
-  act-changed : (a : Action) (f g : Build) → act a x f ≡ some g → Changed (a ∷ []) f g
+  act-changed : (a : Action) (f g : Build) → act types a x f ≡ some g → Changed (a ∷ []) f g
   unfolding act added addedFirst height
   act-changed (begin t) (build b f fs) g e = begins (begin t) refl _ _ b f fs g e
   act-changed beginResource (build b f fs) g e = begins beginResource refl _ _ b f fs g e
@@ -143,12 +144,12 @@ module _ (x : Lexeme) where
   act-changed leave (build (suc b) (frame q u i ks) fs) g e = plainly leave _ _ g (record { fields = refl; brackets = omega arith; low = λ w. (omega (arith, w .0), w .1) }) e
 
   -- some actions
-  pub acts-changed : (ds : List Action) (f g : Build) → acts ds x f ≡ some g → Changed ds f g
+  pub acts-changed : (ds : List Action) (f g : Build) → acts types ds x f ≡ some g → Changed ds f g
   unfolding acts
   acts-changed [] f g e = subst (Changed [] f) (same-result f g e) (record { fields = refl; brackets = refl; low = λ w. w })
-  acts-changed (a ∷ ds) f g e = go (act a x f) refl (λ h i. acts-changed ds h g i) e
+  acts-changed (a ∷ ds) f g e = go (act types a x f) refl (λ h i. acts-changed ds h g i) e
     where
-      go : (o : Option Build) → act a x f ≡ o → ((h : Build) → acts ds x h ≡ some g → Changed ds h g) → _≡_ {A = Option Build} (elim o as (λ q. Option Build) [ none ↦ none | some h ↦ acts ds x h ]) (some g) → Changed (a ∷ ds) f g
+      go : (o : Option Build) → act types a x f ≡ o → ((h : Build) → acts types ds x h ≡ some g → Changed ds h g) → _≡_ {A = Option Build} (elim o as (λ q. Option Build) [ none ↦ none | some h ↦ acts types ds x h ]) (some g) → Changed (a ∷ ds) f g
       go none h others e = none-not-some e
       go (some i) h others e =
           let first = act-changed a f i h in

@@ -7,24 +7,25 @@ use lib.ListN.{length}
 use Rattle.rules.specs.Bytes.{pick, byte, two}
 use Rattle.rules.specs.Format.{formOf, headSize}
 use Rattle.rules.specs.Check.{stride, nextInOrder}
+use Rattle.rules.specs.Types.{Types}
 use Rattle.syntax.proofs.Reading.{no-places, place-first}
 use Rattle.notation.specs.Printer.{Gone, stops, past}
 use Rattle.printable.specs.Reading.{printsAt, labelBehind, goneOver, goneFrom}
 
-module _ (m : List ℕ) (ss : List (List ℕ)) (p l : ℕ) where
+module _ (types : Types) (m : List ℕ) (ss : List (List ℕ)) (p l : ℕ) where
   -- the field at p, then those from the next one on
-  pub gone-first : p < length m → goneFrom m ss p l ≡ pick (printsAt m ss l p) (goneFrom m ss (nextInOrder m p) (labelBehind m l p)) (stops p)
+  pub gone-first : p < length m → goneFrom types m ss p l ≡ pick (printsAt types m ss l p) (goneFrom types m ss (nextInOrder m p) (labelBehind m l p)) (stops p)
   unfolding goneFrom goneOver
   gone-first h = rw (place-first m p (length m) h)
 
-  pub gone-end : length m ≤ p → goneFrom m ss p l ≡ past l
+  pub gone-end : length m ≤ p → goneFrom types m ss p l ≡ past l
   unfolding goneFrom goneOver
   gone-end h = rw (no-places m p (length m) h)
 
-  pub goes-on : {b : Bool} {k q : ℕ} {whole : Gone} → p < length m → b ≡ printsAt m ss l p → b ≡ true → k ≡ labelBehind m l p → q ≡ nextInOrder m p → goneFrom m ss p l ≡ whole → goneFrom m ss q k ≡ whole
+  pub goes-on : {b : Bool} {k q : ℕ} {whole : Gone} → p < length m → b ≡ printsAt types m ss l p → b ≡ true → k ≡ labelBehind m l p → q ≡ nextInOrder m p → goneFrom types m ss p l ≡ whole → goneFrom types m ss q k ≡ whole
   goes-on h eb t ek eq inv = rw (ek, eq) (sym (gone-first h ∙ rw (← eb, t)) ∙ inv)
 
-  pub stops-here : {b : Bool} {whole : Gone} → p < length m → b ≡ printsAt m ss l p → b ≡ false → goneFrom m ss p l ≡ whole → stops p ≡ whole
+  pub stops-here : {b : Bool} {whole : Gone} → p < length m → b ≡ printsAt types m ss l p → b ≡ false → goneFrom types m ss p l ≡ whole → stops p ≡ whole
   stops-here h eb t inv = sym (gone-first h ∙ rw (← eb, t)) ∙ inv
 
 -- the next field by the tag and the length of the one at p

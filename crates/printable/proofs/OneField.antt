@@ -12,7 +12,7 @@ use Rattle.rules.specs.Bytes.{pick, byte, two}
 use Rattle.rules.specs.Format.{formOf, size, isConstant}
 use Rattle.rules.specs.Check.{text}
 use Rattle.rules.specs.Evaluate.{any}
-use Rattle.rules.specs.Types.{theEight, builtInTypes}
+use Rattle.rules.specs.Types.{Types, builtInTypes}
 use Rattle.rules.specs.Compile.{sameBytes, stringAt, isBuiltIn}
 use Rattle.rules.specs.declared.Piece.{Piece}
 use Rattle.rules.specs.declared.Piece.the-variants.{Nothing, Label, Integer, Boolean, Operator, Name}
@@ -86,20 +86,20 @@ module _ (ss : List (List ℕ)) (m : List ℕ) (p t : ℕ) where
 
 -- ---- Types
 
-pub built-in-named : (ss : List (List ℕ)) (n : ℕ) {x : List ℕ} {b : Bool} → x ≡ stringAt ss n → b ≡ isBuiltInText theEight x → b ≡ isBuiltIn theEight ss n
+pub built-in-named : (types : Types) (ss : List (List ℕ)) (n : ℕ) {x : List ℕ} {b : Bool} → x ≡ stringAt ss n → b ≡ isBuiltInText types x → b ≡ isBuiltIn types ss n
 unfolding isBuiltIn isBuiltInText
-built-in-named ss n named told = told ∙ ap (λ (x : List ℕ). any (sameBytes x) (builtInTypes theEight)) named
+built-in-named types ss n named told = told ∙ ap (λ (x : List ℕ). any (sameBytes x) (builtInTypes types)) named
 
-module _ (ss : List (List ℕ)) (m : List ℕ) (p t : ℕ) where
-  pub type-built-in : {n : ℕ} {b : Bool} → t ≡ 0x25 → n ≡ two m (p + 3) → b ≡ isBuiltIn theEight ss n → b ≡ typeRight ss t (drop (p + 3) m)
+module _ (types : Types) (ss : List (List ℕ)) (m : List ℕ) (p t : ℕ) where
+  pub type-built-in : {n : ℕ} {b : Bool} → t ≡ 0x25 → n ≡ two m (p + 3) → b ≡ isBuiltIn types ss n → b ≡ typeRight types ss t (drop (p + 3) m)
   unfolding typeRight
   type-built-in e en eb = rw (eq-eqb t 0x25 e, first-two m (p + 3), ← en) eb
 
-  pub type-defined : {n : ℕ} {b : Bool} → t ≡ 0x27 → n ≡ two m (p + 3) → b ≡ isBuiltIn theEight ss n → not b ≡ typeRight ss t (drop (p + 3) m)
+  pub type-defined : {n : ℕ} {b : Bool} → t ≡ 0x27 → n ≡ two m (p + 3) → b ≡ isBuiltIn types ss n → not b ≡ typeRight types ss t (drop (p + 3) m)
   unfolding typeRight
   type-defined e en eb = rw (ne-eqb t 0x25 (λ z. omega arith), eq-eqb t 0x27 e, first-two m (p + 3), ← en) (ap not eb)
 
-  pub no-type : (t ≡ 0x25 → ⊥) → (t ≡ 0x27 → ⊥) → true ≡ typeRight ss t (drop (p + 3) m)
+  pub no-type : (t ≡ 0x25 → ⊥) → (t ≡ 0x27 → ⊥) → true ≡ typeRight types ss t (drop (p + 3) m)
   unfolding typeRight
   no-type n k = rw (ne-eqb t 0x25 n, ne-eqb t 0x27 k)
 
@@ -138,16 +138,16 @@ module _ (m : List ℕ) (l p t : ℕ) where
 
 -- ---- The field
 
-module _ (ss : List (List ℕ)) (m : List ℕ) (l p : ℕ) {t : ℕ} {a : Bool} (et : t ≡ byte m p) (ea : a ≡ labelRight ss l t (drop (p + 3) m)) where
-  by-tests : printsAt m ss l p ≡ (a && (namesSpellable ss t (drop (p + 3) m) && typeRight ss t (drop (p + 3) m)))
+module _ (types : Types) (ss : List (List ℕ)) (m : List ℕ) (l p : ℕ) {t : ℕ} {a : Bool} (et : t ≡ byte m p) (ea : a ≡ labelRight ss l t (drop (p + 3) m)) where
+  by-tests : printsAt types m ss l p ≡ (a && (namesSpellable ss t (drop (p + 3) m) && typeRight types ss t (drop (p + 3) m)))
   unfolding printsAt
   by-tests = rw (← et, ← ea)
 
-  pub label-wrong : a ≡ false → false ≡ printsAt m ss l p
+  pub label-wrong : a ≡ false → false ≡ printsAt types m ss l p
   label-wrong h = sym (by-tests ∙ rw h)
 
-  pub names-wrong : {b : Bool} → a ≡ true → b ≡ namesSpellable ss t (drop (p + 3) m) → b ≡ false → false ≡ printsAt m ss l p
+  pub names-wrong : {b : Bool} → a ≡ true → b ≡ namesSpellable ss t (drop (p + 3) m) → b ≡ false → false ≡ printsAt types m ss l p
   names-wrong h eb k = sym (by-tests ∙ rw (h, ← eb, k))
 
-  pub type-decides : {b c : Bool} → a ≡ true → b ≡ namesSpellable ss t (drop (p + 3) m) → b ≡ true → c ≡ typeRight ss t (drop (p + 3) m) → c ≡ printsAt m ss l p
+  pub type-decides : {b c : Bool} → a ≡ true → b ≡ namesSpellable ss t (drop (p + 3) m) → b ≡ true → c ≡ typeRight types ss t (drop (p + 3) m) → c ≡ printsAt types m ss l p
   type-decides h eb k ec = ec ∙ sym (by-tests ∙ rw (h, ← eb, k))

@@ -13,7 +13,7 @@ use Rattle.rules.specs.Bytes.{pick, byte, two, endOf, fieldsIn}
 use Rattle.rules.specs.Format.{three, forms, formIn, formOf, size, headSize, isConstant}
 use Rattle.rules.specs.Check.{walk, inside, stride, nextInOrder, check}
 use Rattle.rules.specs.Fields.{field, Fields, none as noFields, readEach, readBody, readField, readAll, others}
-use Rattle.rules.specs.Types.{theEight}
+use Rattle.rules.specs.Types.{Types}
 use Rattle.rules.specs.Compile.{isBuiltIn}
 use Rattle.rules.specs.declared.Part.the-variants.{Over, Many}
 use Rattle.rules.specs.declared.Kind.the-variants.{Item}
@@ -57,7 +57,7 @@ label-size t h = let b = both-true (leb 0x10 t) (leb t 0x12) h in go (leb-true 0
 type-size : (t n : ℕ) → eqb t n ≡ true → 2 ≤ headSize (formOf n) → 2 ≤ headSize (formOf t)
 type-size t n e h = subst (λ (x : ℕ). 2 ≤ headSize (formOf x)) (sym (eqb-true t n e)) h
 
-module _ (ss : List (List ℕ)) (t : ℕ) (g h : List ℕ) (alike : (i : ℕ) → i < headSize (formOf t) → byte g i ≡ byte h i) where
+module _ (types : Types) (ss : List (List ℕ)) (t : ℕ) (g h : List ℕ) (alike : (i : ℕ) → i < headSize (formOf t) → byte g i ≡ byte h i) where
   two-alike : (i : ℕ) → i + 1 < headSize (formOf t) → two g i ≡ two h i
   unfolding two
   two-alike i l = ap₂ (λ (x y : ℕ). x * 256 + y) (alike i (omega arith)) (alike (i + 1) l)
@@ -84,17 +84,17 @@ module _ (ss : List (List ℕ)) (t : ℕ) (g h : List ℕ) (alike : (i : ℕ) �
       let other = spelled-so ss g h (size (formOf t .one)) (size (formOf t .one)) (formOf t .two) (λ z. two-alike (size (formOf t .one)) (omega arith)) in
       rw (one, other)
 
-  type-alike : typeRight ss t g ≡ typeRight ss t h
+  type-alike : typeRight types ss t g ≡ typeRight types ss t h
   unfolding typeRight headSize size formOf formIn forms
   type-alike = go (eqb t 0x25) refl (eqb t 0x27) refl
     where
-      go : (a : Bool) → eqb t 0x25 ≡ a → (b : Bool) → eqb t 0x27 ≡ b → pick a (isBuiltIn theEight ss (two g 0)) (pick b (not (isBuiltIn theEight ss (two g 0))) true) ≡ pick a (isBuiltIn theEight ss (two h 0)) (pick b (not (isBuiltIn theEight ss (two h 0))) true)
-      go true ea b eb = ap (isBuiltIn theEight ss) (two-alike 0 (type-size t 0x25 ea (omega arith)))
-      go false ea true eb = ap (λ (n : ℕ). not (isBuiltIn theEight ss n)) (two-alike 0 (type-size t 0x27 eb (omega arith)))
+      go : (a : Bool) → eqb t 0x25 ≡ a → (b : Bool) → eqb t 0x27 ≡ b → pick a (isBuiltIn types ss (two g 0)) (pick b (not (isBuiltIn types ss (two g 0))) true) ≡ pick a (isBuiltIn types ss (two h 0)) (pick b (not (isBuiltIn types ss (two h 0))) true)
+      go true ea b eb = ap (isBuiltIn types ss) (two-alike 0 (type-size t 0x25 ea (omega arith)))
+      go false ea true eb = ap (λ (n : ℕ). not (isBuiltIn types ss n)) (two-alike 0 (type-size t 0x27 eb (omega arith)))
       go false ea false eb = refl
 
   -- they pass the same tests
-  pub tests-alike : (l : ℕ) → (labelRight ss l t g && (namesSpellable ss t g && typeRight ss t g)) ≡ (labelRight ss l t h && (namesSpellable ss t h && typeRight ss t h))
+  pub tests-alike : (l : ℕ) → (labelRight ss l t g && (namesSpellable ss t g && typeRight types ss t g)) ≡ (labelRight ss l t h && (namesSpellable ss t h && typeRight types ss t h))
   tests-alike l = rw (label-alike l, names-alike, type-alike)
 
 -- what is cut out begins as what stands there
@@ -112,35 +112,35 @@ to-the-end : (g : Gone) (f : ℕ → Gone) → ((l : ℕ) → f l ≡ past l) �
 to-the-end (stops p) f e = refl
 to-the-end (past l) f e = e l
 
-module _ (m : List ℕ) (ss : List (List ℕ)) where
+module _ (types : Types) (m : List ℕ) (ss : List (List ℕ)) where
   -- the field at q, cut out up to e, and then what is in it
-  gone-field : (q e l : ℕ) (ks : Fields) (k : ℕ → Gone) → q < length m → q + 3 + headSize (formOf (byte m q)) ≤ e → ((j : ℕ) → goneFrom m ss (nextInOrder m q) j ≡ going (overAll ss ks j) k) → goneFrom m ss q l ≡ going (over ss (field q (byte m q) (slice (q + 3) e m) ks) l) k
+  gone-field : (q e l : ℕ) (ks : Fields) (k : ℕ → Gone) → q < length m → q + 3 + headSize (formOf (byte m q)) ≤ e → ((j : ℕ) → goneFrom types m ss (nextInOrder m q) j ≡ going (overAll types ss ks j) k) → goneFrom types m ss q l ≡ going (over types ss (field q (byte m q) (slice (q + 3) e m) ks) l) k
   unfolding over printsAt labelBehind
   gone-field q e l ks k h fit inner =
       let t : ℕ = byte m q in
       let there : (i : ℕ) → i < headSize (formOf t) → byte (slice (q + 3) e m) i ≡ byte (drop (q + 3) m) i = cut-alike m (q + 3) e (headSize (formOf t)) fit in
-      let tests = tests-alike ss t (slice (q + 3) e m) (drop (q + 3) m) there l in
-      let label = behind-alike ss t (slice (q + 3) e m) (drop (q + 3) m) there l ∙ ap (λ (b : ℕ). pick (isConstant t) b l) (first-byte m (q + 3)) in
-      gone-first m ss q l h ∙ choose (printsAt m ss l q) (labelBehind m l q) ∙ ap₂ (λ (b : Bool) (j : ℕ). going (pick b (overAll ss ks j) (stops q)) k) (sym tests) (sym label)
+      let tests = tests-alike types ss t (slice (q + 3) e m) (drop (q + 3) m) there l in
+      let label = behind-alike types ss t (slice (q + 3) e m) (drop (q + 3) m) there l ∙ ap (λ (b : ℕ). pick (isConstant t) b l) (first-byte m (q + 3)) in
+      gone-first types m ss q l h ∙ choose (printsAt types m ss l q) (labelBehind m l q) ∙ ap₂ (λ (b : Bool) (j : ℕ). going (pick b (overAll types ss ks j) (stops q)) k) (sym tests) (sym label)
     where
-      choose : (b : Bool) (j : ℕ) → pick b (goneFrom m ss (nextInOrder m q) j) (stops q) ≡ going (pick b (overAll ss ks j) (stops q)) k
+      choose : (b : Bool) (j : ℕ) → pick b (goneFrom types m ss (nextInOrder m q) j) (stops q) ≡ going (pick b (overAll types ss ks j) (stops q)) k
       choose true j = inner j
       choose false j = refl
 
   -- a sound field at q, read with d levels left
   abbrev GoneAt : ℕ → Type 0
-  GoneAt d = (q l : ℕ) → q < length m → inside m d q ≡ Sound → endOf m q ≤ length m → goneFrom m ss q l ≡ going (over ss (readField m d q) l) (goneFrom m ss (endOf m q))
+  GoneAt d = (q l : ℕ) → q < length m → inside m d q ≡ Sound → endOf m q ≤ length m → goneFrom types m ss q l ≡ going (over types ss (readField m d q) l) (goneFrom types m ss (endOf m q))
 
   -- the fields from q to e
   abbrev FieldsGone : (d q e : ℕ) → Type 0
-  FieldsGone d q e = (l : ℕ) → goneFrom m ss q l ≡ going (overAll ss (readEach (readField m d) (fieldsIn m q e)) l) (goneFrom m ss e)
+  FieldsGone d q e = (l : ℕ) → goneFrom types m ss q l ≡ going (overAll types ss (readEach (readField m d) (fieldsIn m q e)) l) (goneFrom types m ss e)
 
   -- at the end there is none
   none-gone : (d q e : ℕ) → q ≤ e → e ≤ q → FieldsGone d q e
   unfolding readEach overAll
   none-gone d q e a b l =
       let same : q ≡ e = omega arith in
-      rw (no-fields m q e b) (ap (λ (p : ℕ). goneFrom m ss p l) same)
+      rw (no-fields m q e b) (ap (λ (p : ℕ). goneFrom types m ss p l) same)
 
   fields-gone : (k d p : ℕ) (ps : Parts) (q e : ℕ) → GoneAt d → e - q ≤ k → q ≤ e → e ≤ length m → walk m (inside m d) p ps e (fieldsIn m q e) ≡ Sound → FieldsGone d q e
   unfolding readEach overAll
@@ -155,24 +155,24 @@ module _ (m : List ℕ) (ss : List (List ℕ)) where
           let ends : endOf m q ≤ e = f .right .ends in
           let behind = later (f .next) (endOf m q) (omega arith) ends (f .others) in
           let rest : Fields = readEach (readField m d) (fieldsIn m (endOf m q) e) in
-          λ j. each q j (omega arith) (f .sound) (omega arith) ∙ then-on (over ss (readField m d q) j) (goneFrom m ss (endOf m q)) (overAll ss rest) (goneFrom m ss e) behind ∙ rw (field-first m q e before)
+          λ j. each q j (omega arith) (f .sound) (omega arith) ∙ then-on (over types ss (readField m d q) j) (goneFrom types m ss (endOf m q)) (overAll types ss rest) (goneFrom types m ss e) behind ∙ rw (field-first m q e before)
 
   -- one field, by what follows its pieces
-  body-gone : (d q l : ℕ) → GoneAt d → SoundBody m (inside m d) q (formOf (byte m q)) → q < length m → endOf m q ≤ length m → (r : Rest) → formOf (byte m q) .rest ≡ r → goneFrom m ss q l ≡ going (over ss (readBody m (readField m d) q (headSize (formOf (byte m q))) r) l) (goneFrom m ss (endOf m q))
+  body-gone : (d q l : ℕ) → GoneAt d → SoundBody m (inside m d) q (formOf (byte m q)) → q < length m → endOf m q ≤ length m → (r : Rest) → formOf (byte m q) .rest ≡ r → goneFrom types m ss q l ≡ going (over types ss (readBody m (readField m d) q (headSize (formOf (byte m q))) r) l) (goneFrom types m ss (endOf m q))
   unfolding readBody stride overAll
   body-gone d q l each s h ends r x = go r (ap (λ (y : Rest). q + 3 + stride y size-here (two m (q + 1))) x) x
     where
       size-here : ℕ
       size-here = headSize (formOf (byte m q))
 
-      go : (r : Rest) → nextInOrder m q ≡ q + 3 + stride r size-here (two m (q + 1)) → formOf (byte m q) .rest ≡ r → goneFrom m ss q l ≡ going (over ss (readBody m (readField m d) q size-here r) l) (goneFrom m ss (endOf m q))
-      go Only next x = let there = s .pieces in gone-field q (endOf m q) l noFields (goneFrom m ss (endOf m q)) h (omega arith) (λ j. ap (λ (p : ℕ). goneFrom m ss p j) next)
-      go Text next x = let there = s .pieces in gone-field q (endOf m q) l noFields (goneFrom m ss (endOf m q)) h (omega arith) (λ j. ap (λ (p : ℕ). goneFrom m ss p j) next)
+      go : (r : Rest) → nextInOrder m q ≡ q + 3 + stride r size-here (two m (q + 1)) → formOf (byte m q) .rest ≡ r → goneFrom types m ss q l ≡ going (over types ss (readBody m (readField m d) q size-here r) l) (goneFrom types m ss (endOf m q))
+      go Only next x = let there = s .pieces in gone-field q (endOf m q) l noFields (goneFrom types m ss (endOf m q)) h (omega arith) (λ j. ap (λ (p : ℕ). goneFrom types m ss p j) next)
+      go Text next x = let there = s .pieces in gone-field q (endOf m q) l noFields (goneFrom types m ss (endOf m q)) h (omega arith) (λ j. ap (λ (p : ℕ). goneFrom types m ss p j) next)
       go (Inner ps) next x =
           let from : ℕ = q + 3 + size-here in
           let there = s .pieces in
           let within = fields-gone (endOf m q) d q ps from (endOf m q) each (omega arith) (omega arith) ends (s .fields ps x) in
-          gone-field q from l (readEach (readField m d) (fieldsIn m from (endOf m q))) (goneFrom m ss (endOf m q)) h (omega arith) (λ j. ap (λ (p : ℕ). goneFrom m ss p j) next ∙ within j)
+          gone-field q from l (readEach (readField m d) (fieldsIn m from (endOf m q))) (goneFrom types m ss (endOf m q)) h (omega arith) (λ j. ap (λ (p : ℕ). goneFrom types m ss p j) next ∙ within j)
 
   -- a field of at most d levels
   field-gone : (d : ℕ) → GoneAt d
@@ -182,26 +182,26 @@ module _ (m : List ℕ) (ss : List (List ℕ)) where
 
 -- ---- A sound manifest
 
-module _ (m : List ℕ) (w : check m ≡ Sound) where
+module _ (types : Types) (m : List ℕ) (w : check m ≡ Sound) where
   -- the walk over its items finds the first field that cannot be printed
-  pub items-gone : stoppedAt (goneFrom m (stringTexts m) (endOf m 0) 0) ≡ unprintableAt m
+  pub items-gone : stoppedAt (goneFrom types m (stringTexts m) (endOf m 0) 0) ≡ unprintableAt types m
   unfolding unprintableAt readAll readEach others
   items-gone =
       let t = shape-sound m (check-sound m w .shaped) in
       let ends = t .within .ends in
       let first : 0 < length m = omega arith in
       let ss : List (List ℕ) = stringTexts m in
-      let all = fields-gone m ss (length m) 32 0 (three Over (Many Item) Over) (endOf m 0) (length m) (field-gone m ss 32) (omega arith) (omega arith) (omega arith) (t .others) in
-      let items : Gone = overAll ss (readEach (readField m 32) (fieldsIn m (endOf m 0) (length m))) 0 in
-      let whole = all 0 ∙ to-the-end items (goneFrom m ss (length m)) (λ l. gone-end m ss (length m) l (omega arith)) in
+      let all = fields-gone types m ss (length m) 32 0 (three Over (Many Item) Over) (endOf m 0) (length m) (field-gone types m ss 32) (omega arith) (omega arith) (omega arith) (t .others) in
+      let items : Gone = overAll types ss (readEach (readField m 32) (fieldsIn m (endOf m 0) (length m))) 0 in
+      let whole = all 0 ∙ to-the-end items (goneFrom types m ss (length m)) (λ l. gone-end types m ss (length m) l (omega arith)) in
       rw (strings-read m w, field-first m 0 (length m) first) (ap stoppedAt whole)
 
   -- a field that stops the walk is the answer
-  pub found-at : {p q : ℕ} → q ≡ endOf m 0 → stops p ≡ goneFrom m (stringTexts m) q 0 → At p ≡ foundOf (unprintableAt m)
+  pub found-at : {p q : ℕ} → q ≡ endOf m 0 → stops p ≡ goneFrom types m (stringTexts m) q 0 → At p ≡ foundOf (unprintableAt types m)
   unfolding foundOf stoppedAt
-  found-at eq e = ap (λ (g : Gone). foundOf (stoppedAt g)) e ∙ ap (λ (q : ℕ). foundOf (stoppedAt (goneFrom m (stringTexts m) q 0))) eq ∙ ap foundOf items-gone
+  found-at eq e = ap (λ (g : Gone). foundOf (stoppedAt g)) e ∙ ap (λ (q : ℕ). foundOf (stoppedAt (goneFrom types m (stringTexts m) q 0))) eq ∙ ap foundOf items-gone
 
   -- and where none does there is no answer
-  pub found-none : {l q : ℕ} → q ≡ endOf m 0 → past l ≡ goneFrom m (stringTexts m) q 0 → Nothing ≡ foundOf (unprintableAt m)
+  pub found-none : {l q : ℕ} → q ≡ endOf m 0 → past l ≡ goneFrom types m (stringTexts m) q 0 → Nothing ≡ foundOf (unprintableAt types m)
   unfolding foundOf stoppedAt
-  found-none eq e = ap (λ (g : Gone). foundOf (stoppedAt g)) e ∙ ap (λ (q : ℕ). foundOf (stoppedAt (goneFrom m (stringTexts m) q 0))) eq ∙ ap foundOf items-gone
+  found-none eq e = ap (λ (g : Gone). foundOf (stoppedAt g)) e ∙ ap (λ (q : ℕ). foundOf (stoppedAt (goneFrom types m (stringTexts m) q 0))) eq ∙ ap foundOf items-gone

@@ -6,16 +6,17 @@ use lib.ListN.{drop, length}
 use Rattle.rules.specs.Bytes.{pick, byte}
 use Rattle.rules.specs.Format.{isConstant}
 use Rattle.rules.specs.Check.{placesIn}
+use Rattle.rules.specs.Types.{Types}
 use Rattle.notation.specs.Printer.{Gone, stops, past, labelRight, namesSpellable, typeRight}
 
 -- the label of the last constant, where that of the one before the field at p is l
 unfoldable pub labelBehind : (manifest : List ℕ) → (l p : ℕ) → ℕ
 labelBehind m l p = pick (isConstant (byte m p)) (byte m (p + 3)) l
 
-module _ (m : List ℕ) (strings : List (List ℕ)) where
+module _ (types : Types) (m : List ℕ) (strings : List (List ℕ)) where
   -- the field at p can be printed behind a constant with the label l
   unfoldable pub printsAt : (l p : ℕ) → Bool
-  printsAt l p = labelRight strings l (byte m p) (drop (p + 3) m) && (namesSpellable strings (byte m p) (drop (p + 3) m) && typeRight strings (byte m p) (drop (p + 3) m))
+  printsAt l p = labelRight strings l (byte m p) (drop (p + 3) m) && (namesSpellable strings (byte m p) (drop (p + 3) m) && typeRight types strings (byte m p) (drop (p + 3) m))
 
   -- the first field that cannot be printed, or the label of the last constant
   unfoldable pub goneOver : List ℕ → (l : ℕ) → Gone

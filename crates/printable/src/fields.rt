@@ -5,18 +5,18 @@ ghost use Prim.Native.Nat.{ℕ, _+_, _<_};
 ghost use lib.ListN.{length, drop};
 ghost use Rattle.rules.specs.Format.{formOf, size};
 ghost use Rattle.rules.specs.Check.{nextInOrder};
-ghost use Rattle.rules.specs.Types.{theEight};
 ghost use Rattle.rules.specs.Compile.{isBuiltIn};
 ghost use Rattle.rules.specs.declared.Piece.{Piece};
 ghost use Rattle.format.specs.Numbers.{nameNumber, lineNumber};
 ghost use Rattle.syntax.specs.Strings.{stringTexts, Indexed};
+ghost use Rattle.type_list.specs.Listed.{chosen, Listed};
 ghost use Rattle.notation.specs.Printer.{spellable, labelRight, namesSpellable, typeRight};
 ghost use Rattle.printable.specs.Reading.{printsAt, labelBehind};
 use crate::names::is_name;
 use format::lines::line_of;
 use format::lines::stride;
-use syntax::strings::is_built_in_text;
 use syntax::strings::string_at;
+use type_list::is_type;
 use wire::byte_at;
 use wire::byte_in;
 use wire::length_at;
@@ -68,21 +68,38 @@ fn names_spellable(m: &[u8], table: &[u8], strings: u16, p: usize, tag: u8) -> b
 }
 
 // Whether the type with this name is built in.
-fn is_built_in_type(m: &[u8], table: &[u8], strings: u16, n: u16) -> bool
-    requires { ⌜ Indexed (now m) (now table) strings ⌝ }
-    ensures { λ r. ⌜ r ≡ isBuiltIn theEight (stringTexts (now (m .entry))) n ⌝ }
+fn is_built_in_type(
+    types: &[u8],
+    index: &[u8],
+    count: u16,
+    m: &[u8],
+    table: &[u8],
+    strings: u16,
+    n: u16,
+) -> bool
+    requires { ⌜ Listed (now types) (now index) count × Indexed (now m) (now table) strings ⌝ }
+    ensures { λ r. ⌜ r ≡ isBuiltIn (chosen (now (types .entry))) (stringTexts (now (m .entry))) n ⌝ }
 {
-    is_built_in_text(string_at(m, table, strings, n))
+    is_type(types, index, count, string_at(m, table, strings, n))
 }
 
 // Whether a built-in resource has a built-in type, and a defined one another.
-fn type_right(m: &[u8], table: &[u8], strings: u16, p: usize, tag: u8) -> bool
-    requires { ⌜ (Indexed (now m) (now table) strings) × (p < length (now m)) ⌝ }
-    ensures { λ r. ⌜ r ≡ typeRight (stringTexts (now (m .entry))) tag (drop (p + 3) (now (m .entry))) ⌝ }
+fn type_right(
+    types: &[u8],
+    index: &[u8],
+    count: u16,
+    m: &[u8],
+    table: &[u8],
+    strings: u16,
+    p: usize,
+    tag: u8,
+) -> bool
+    requires { ⌜ Listed (now types) (now index) count × ((Indexed (now m) (now table) strings) × (p < length (now m))) ⌝ }
+    ensures { λ r. ⌜ r ≡ typeRight (chosen (now (types .entry))) (stringTexts (now (m .entry))) tag (drop (p + 3) (now (m .entry))) ⌝ }
 {
     match tag {
-        0x25 => is_built_in_type(m, table, strings, two_at(m, p + 3)),
-        0x27 => !is_built_in_type(m, table, strings, two_at(m, p + 3)),
+        0x25 => is_built_in_type(types, index, count, m, table, strings, two_at(m, p + 3)),
+        0x27 => !is_built_in_type(types, index, count, m, table, strings, two_at(m, p + 3)),
         _ => true,
     }
 }
@@ -102,9 +119,18 @@ fn label_right(m: &[u8], last: u8, p: usize, tag: u8) -> bool
 }
 
 // Whether the field at `p` can be printed behind a constant with the label `last`.
-pub fn prints_at(m: &[u8], table: &[u8], strings: u16, last: u8, p: usize) -> bool
-    requires { ⌜ (Indexed (now m) (now table) strings) × (p < length (now m)) ⌝ }
-    ensures { λ r. ⌜ r ≡ printsAt (now (m .entry)) (stringTexts (now (m .entry))) last p ⌝ }
+pub fn prints_at(
+    types: &[u8],
+    index: &[u8],
+    count: u16,
+    m: &[u8],
+    table: &[u8],
+    strings: u16,
+    last: u8,
+    p: usize,
+) -> bool
+    requires { ⌜ Listed (now types) (now index) count × ((Indexed (now m) (now table) strings) × (p < length (now m))) ⌝ }
+    ensures { λ r. ⌜ r ≡ printsAt (chosen (now (types .entry))) (now (m .entry)) (stringTexts (now (m .entry))) last p ⌝ }
 {
     let tag = byte_in(m, p);
     if !label_right(m, last, p, tag) {
@@ -113,7 +139,7 @@ pub fn prints_at(m: &[u8], table: &[u8], strings: u16, last: u8, p: usize) -> bo
     if !names_spellable(m, table, strings, p, tag) {
         return false;
     }
-    type_right(m, table, strings, p, tag)
+    type_right(types, index, count, m, table, strings, p, tag)
 }
 
 // The label of the last constant, where that of the one before the field at `p` is `last`.

@@ -19,6 +19,7 @@ use Rattle.rules.specs.Read.{manifestOf}
 use Rattle.rules.specs.declared.Verdict.{Verdict}
 use Rattle.rules.specs.declared.Verdict.the-variants.{Sound, Fault}
 use Rattle.rules.proofs.Within.{false-not-true}
+use Rattle.rules.specs.Types.{Types, checkTypes}
 use Rattle.places.specs.At.{itemsAt}
 use Rattle.places.proofs.Items.{manifest-opens}
 use Rattle.syntax.specs.Before.{before}
@@ -102,18 +103,18 @@ module _ (m : List ℕ) (room : ℕ) where
 pub index-holds : (m table : List ℕ) {n : ℕ} {t : List ℕ} → check m ≡ Sound → length m ≤ 65535 → 2048 ≤ length table → n ≡ length (stringPlaces m) → t ≡ indexed m table → Indexed m t n
 index-holds m table w short room en et = rw (en, et) (table-holds m table w short room)
 
-module _ (m : List ℕ) (room : ℕ) {x : Found} (told : x ≡ foundOf (unprintableAt m)) where
-  pub unprintable : {p : ℕ} → x ≡ At p → printableText m room ≡ refused Unprintable p
+module _ (types : Types) (m : List ℕ) (room : ℕ) {x : Found} (told : x ≡ foundOf (unprintableAt types m)) where
+  pub unprintable : {p : ℕ} → x ≡ At p → printableText types m room ≡ refused Unprintable p
   unfolding printableText refuseAt _>>=_ foundOf
-  unprintable {p} h = go (unprintableAt m) (sym told ∙ h)
+  unprintable {p} h = go (unprintableAt types m) (sym told ∙ h)
     where
       go : (o : Option ℕ) → foundOf o ≡ At p → (refuseAt o Unprintable >>= λ _. fittingText m room) ≡ refused Unprintable p
       go none e = absurd (let z : _≡_ {A = ℕ} 0 1 = cc in omega arith)
       go (some q) e = let same : q ≡ p = cc in ap (refused Unprintable) same
 
-  pub all-printable : x ≡ Nothing → printableText m room ≡ fittingText m room
+  pub all-printable : x ≡ Nothing → printableText types m room ≡ fittingText m room
   unfolding printableText refuseAt _>>=_ foundOf
-  all-printable h = go (unprintableAt m) (sym told ∙ h)
+  all-printable h = go (unprintableAt types m) (sym told ∙ h)
     where
       go : (o : Option ℕ) → foundOf o ≡ Nothing → (refuseAt o Unprintable >>= λ _. fittingText m room) ≡ fittingText m room
       go none e = refl
@@ -121,25 +122,30 @@ module _ (m : List ℕ) (room : ℕ) {x : Found} (told : x ≡ foundOf (unprinta
 
 -- ---- print
 
-module _ (m : List ℕ) (room memory : ℕ) where
-  in-order : printedText m room memory ≡ (refuseIf (ltb memory 65536) MemoryTooShort 0 >>= λ _. checked (before m) >>= λ _. printableText m room)
+module _ (types : Types) (m : List ℕ) (room memory : ℕ) where
+  in-order : printedText types m room memory ≡ (refuseIf (ltb memory 65536) MemoryTooShort 0 >>= λ _. checked (checkTypes types) >>= λ _. checked (before m) >>= λ _. printableText types m room)
   unfolding printedText printableText fittingText
-  in-order = ap (λ (o : Outcome (List ℕ)). refuseIf (ltb memory 65536) MemoryTooShort 0 >>= λ _. o) (before-both m (λ _. printableText m room))
+  in-order = ap (λ (o : Outcome (List ℕ)). refuseIf (ltb memory 65536) MemoryTooShort 0 >>= λ _. checked (checkTypes types) >>= λ _. o) (before-both m (λ _. printableText types m room))
 
-  pub short-memory : memory < 65536 → printedText m room memory ≡ refused MemoryTooShort 0
+  pub short-memory : memory < 65536 → printedText types m room memory ≡ refused MemoryTooShort 0
   unfolding refuseIf _>>=_
   short-memory h = in-order ∙ rw (lt-ltb memory 65536 h) refl
 
-  pub fault-first : {v : Verdict} {r : Reason} {p : ℕ} → 65536 ≤ memory → v ≡ before m → v ≡ Fault r p → printedText m room memory ≡ refused r p
+  pub fault-of-types : {v : Verdict} {r : Reason} {p : ℕ} → 65536 ≤ memory → v ≡ checkTypes types → v ≡ Fault r p → printedText types m room memory ≡ refused r p
   unfolding refuseIf _>>=_ checked
-  fault-first h e f = in-order ∙ rw (le-ltb memory 65536 h, sym e, f) refl
+  fault-of-types h e f = in-order ∙ rw (le-ltb memory 65536 h, sym e, f) refl
 
-  pub sound-first : {v : Verdict} → 65536 ≤ memory → v ≡ before m → v ≡ Sound → printedText m room memory ≡ printableText m room
-  unfolding refuseIf _>>=_ checked
-  sound-first h e f = in-order ∙ rw (le-ltb memory 65536 h, sym e, f) refl
+  module _ (h : 65536 ≤ memory) (types-sound : checkTypes types ≡ Sound) where
+    pub fault-first : {v : Verdict} {r : Reason} {p : ℕ} → v ≡ before m → v ≡ Fault r p → printedText types m room memory ≡ refused r p
+    unfolding refuseIf _>>=_ checked
+    fault-first e f = in-order ∙ rw (le-ltb memory 65536 h, types-sound, sym e, f) refl
 
-pub prints : (m : List ℕ) {o : Outcome (List ℕ)} {out out′ work work′ : List ℕ} {a : Answer} → printedText m (length out) (length work) ≡ o → Leaves o out out′ work work′ a → Prints m out out′ work work′ a
+    pub sound-first : {v : Verdict} → v ≡ before m → v ≡ Sound → printedText types m room memory ≡ printableText types m room
+    unfolding refuseIf _>>=_ checked
+    sound-first e f = in-order ∙ rw (le-ltb memory 65536 h, types-sound, sym e, f) refl
+
+pub prints : (types : Types) (m : List ℕ) {o : Outcome (List ℕ)} {out out′ work work′ : List ℕ} {a : Answer} → printedText types m (length out) (length work) ≡ o → Leaves o out out′ work work′ a → Prints types m out out′ work work′ a
 unfolding print
-prints m {out = out} {out′ = out′} {work = work} {work′ = work′} {a = a} e x =
-    let left : Leaves (printedText m (length out) (length work)) out out′ work work′ a = leaves-as e refl refl x in
+prints types m {out = out} {out′ = out′} {work = work} {work′ = work′} {a = a} e x =
+    let left : Leaves (printedText types m (length out) (length work)) out out′ work work′ a = leaves-as e refl refl x in
     record { effect = left .effect }

@@ -8,6 +8,7 @@ use Rattle.rules.specs.Bytes.{byte}
 use Rattle.rules.specs.Outcome.{Outcome, _>>=_, refuseIf, done}
 use Rattle.rules.specs.Read.{manifestOf}
 use Rattle.rules.specs.declared.Kind.the-variants.{Item}
+use Rattle.rules.specs.Types.{Types}
 use Rattle.places.specs.At.{StandsAs}
 use Rattle.notation.specs.declared.Answer.{Answer}
 use Rattle.notation.specs.Convert.{refuseAt, tooLong}
@@ -33,13 +34,13 @@ fittingText m outputLength = do
   _ ← refuseIf (tooLong (textOf (manifestOf m)) outputLength) Unprintable 0
   done (textOf (manifestOf m))
 
-unfoldable pub printableText : (manifest : List ℕ) → (outputLength : ℕ) → Outcome (List ℕ)
-printableText m outputLength = do
-  _ ← refuseAt (unprintableAt m) Unprintable
+unfoldable pub printableText : (types : Types) (manifest : List ℕ) → (outputLength : ℕ) → Outcome (List ℕ)
+printableText types m outputLength = do
+  _ ← refuseAt (unprintableAt types m) Unprintable
   fittingText m outputLength
 
 -- ---- What a call leaves
 
 -- what `print` promises: the answer and all bytes lent are those of the definition, for this manifest
-pub record Prints (manifest outputBefore outputAfter memoryBefore memoryAfter : List ℕ) (answer : Answer) : Type 0 where
-  pub effect : record { answer = answer; outputAfter = outputAfter; memoryAfter = memoryAfter } ≡ print manifest (length outputBefore) (length memoryBefore)
+pub record Prints (types : Types) (manifest outputBefore outputAfter memoryBefore memoryAfter : List ℕ) (answer : Answer) : Type 0 where
+  pub effect : record { answer = answer; outputAfter = outputAfter; memoryAfter = memoryAfter } ≡ print types manifest (length outputBefore) (length memoryBefore)

@@ -1,12 +1,15 @@
 // Compiles, converts, prints or asks about the cases on standard input, a case to a line, and writes an answer line for each. The formats are those of
-// `reference batch`, `reference text-batch` and `reference why-batch` (docs/CASES.md).
+// `reference batch`, `reference text-batch`, `reference why-batch` and `reference types-batch` (docs/CASES.md).
 ghost use Prim.Native.Nat.{_≤_};
 ghost use lib.ListN.{length};
 
 // Places in a text, and numbers and bytes as text.
 mod text;
 
-// The first word of a text case or a why case with the space behind it, as a number: the eight bytes "convert ", the six bytes "print ", the four bytes "why ".
+// The first word of a case other than a compile, with the space behind it, as a number: the six bytes "types ", the eight bytes "convert ", the six bytes
+// "print ", the four bytes "why ".
+const TYPES: u64 = 0x747970657320;
+
 const CONVERT: u64 = 0x636f6e7665727420;
 
 const PRINT: u64 = 0x7072696e7420;
@@ -70,45 +73,78 @@ fn answer_lines(lines: &[u8]) -> usize
     at
 }
 
-// The first word tells the sort of a case; a device in hexadecimal digits is none of the three words.
+// A line may begin with a list of types; a device in hexadecimal digits is not that word.
 fn answer_line(line: &[u8]) {
     let start = wire::number_at(line, 0);
+    if start / 65536 == TYPES {
+        answer_typed(line);
+        return;
+    }
+    answer_case(line, false, b"");
+}
+
+// The word, the list, and a case. What does not fit the room here is cut.
+fn answer_typed(line: &[u8]) {
+    let mut types = [0u8; 3000];
+    let list = text::next_part(line, 0);
+    let case = text::next_part(line, list);
+    let size = text::read_hex(&line[list..], &mut types);
+    answer_case(&line[case..], true, &types[..size]);
+}
+
+// The first word tells the sort of a case; a device in hexadecimal digits is none of the three words. A list of types is lent or not.
+fn answer_case(line: &[u8], lent: bool, types: &[u8]) {
+    let start = wire::number_at(line, 0);
     if start == CONVERT {
-        answer_text(line, true);
+        answer_text(line, true, lent, types);
         return;
     }
     if start / 65536 == PRINT {
-        answer_text(line, false);
+        answer_text(line, false, lent, types);
         return;
     }
     if start / 4294967296 == WHY {
-        answer_why(line);
+        answer_why(line, lent, types);
         return;
     }
-    answer_compile(line);
+    answer_compile(line, lent, types);
 }
 
 // Device, limit, output length, memory length, manifest. What does not fit the room here is cut.
-fn answer_compile(line: &[u8]) {
+fn answer_compile(line: &[u8], lent: bool, types: &[u8]) {
     let second = text::next_part(line, 0);
     let third = text::next_part(line, second);
     let fourth = text::next_part(line, third);
     let fifth = text::next_part(line, fourth);
     let limit = text::read_number(&line[second..], 65535) as u16;
-    read_bytes(&line[fifth..], line, limit, &line[third..]);
+    read_bytes(&line[fifth..], line, limit, &line[third..], lent, types);
 }
 
 // Manifest and device from their digits.
-fn read_bytes(manifest_text: &[u8], device_text: &[u8], limit: u16, lengths: &[u8]) {
+fn read_bytes(
+    manifest_text: &[u8],
+    device_text: &[u8],
+    limit: u16,
+    lengths: &[u8],
+    lent: bool,
+    types: &[u8],
+) {
     let mut manifest = [0u8; 70000];
     let mut device = [0u8; 300];
     let size = text::read_hex(manifest_text, &mut manifest);
     let named = text::read_hex(device_text, &mut device);
-    lend(&manifest[..size], &device[..named], limit, lengths);
+    lend(
+        &manifest[..size],
+        &device[..named],
+        limit,
+        lengths,
+        lent,
+        types,
+    );
 }
 
 // Output and memory of the two lengths at the start of `lengths`.
-fn lend(manifest: &[u8], device: &[u8], limit: u16, lengths: &[u8]) {
+fn lend(manifest: &[u8], device: &[u8], limit: u16, lengths: &[u8], lent: bool, types: &[u8]) {
     let mut out = [0u8; 70000];
     let mut work = [0u8; 70000];
     let second = text::next_part(lengths, 0);
@@ -120,37 +156,69 @@ fn lend(manifest: &[u8], device: &[u8], limit: u16, lengths: &[u8]) {
         limit,
         &mut out[..output],
         &mut work[..memory],
+        lent,
+        types,
     );
 }
 
-fn compile(manifest: &[u8], device: &[u8], limit: u16, out: &mut [u8], work: &mut [u8]) {
-    let answer = library::rigbanut_compile(manifest, device, limit, out, work);
-    write_answer(answer, out);
+fn compile(
+    manifest: &[u8],
+    device: &[u8],
+    limit: u16,
+    out: &mut [u8],
+    work: &mut [u8],
+    lent: bool,
+    types: &[u8],
+) {
+    if lent {
+        let answer = library::rigbanut_compile_with_types(
+            types,
+            manifest,
+            device,
+            limit,
+            out,
+            work,
+        );
+        write_answer(answer, out);
+    } else {
+        let answer = library::rigbanut_compile(manifest, device, limit, out, work);
+        write_answer(answer, out);
+    }
 }
 
 // The word, output length, memory length, and the text to convert or the manifest to print. What does not fit the room here is cut.
-fn answer_text(line: &[u8], converts: bool) {
+fn answer_text(line: &[u8], converts: bool, lent: bool, types: &[u8]) {
     let second = text::next_part(line, 0);
     let third = text::next_part(line, second);
     let fourth = text::next_part(line, third);
-    read_text(&line[fourth..], converts, &line[second..]);
+    read_text(&line[fourth..], converts, &line[second..], lent, types);
 }
 
 // The text or the manifest from its digits.
-fn read_text(digits: &[u8], converts: bool, lengths: &[u8]) {
+fn read_text(digits: &[u8], converts: bool, lengths: &[u8], lent: bool, types: &[u8]) {
     let mut given = [0u8; 70000];
     let size = text::read_hex(digits, &mut given);
-    lend_to_text(&given[..size], converts, lengths);
+    lend_to_text(&given[..size], converts, lengths, lent, types);
 }
 
 // Output and memory of the two lengths at the start of `lengths`.
-fn lend_to_text(given: &[u8], converts: bool, lengths: &[u8]) {
+fn lend_to_text(given: &[u8], converts: bool, lengths: &[u8], lent: bool, types: &[u8]) {
     let mut out = [0u8; 70000];
     let mut work = [0u8; 70000];
     let second = text::next_part(lengths, 0);
     let output = text::read_length(lengths, &out);
     let memory = text::read_length(&lengths[second..], &work);
-    convert_or_print(given, converts, &mut out[..output], &mut work[..memory]);
+    if lent {
+        use_types(
+            types,
+            given,
+            converts,
+            &mut out[..output],
+            &mut work[..memory],
+        );
+    } else {
+        convert_or_print(given, converts, &mut out[..output], &mut work[..memory]);
+    }
 }
 
 fn convert_or_print(given: &[u8], converts: bool, out: &mut [u8], work: &mut [u8]) {
@@ -163,8 +231,18 @@ fn convert_or_print(given: &[u8], converts: bool, out: &mut [u8], work: &mut [u8
     }
 }
 
+fn use_types(types: &[u8], given: &[u8], converts: bool, out: &mut [u8], work: &mut [u8]) {
+    if converts {
+        let answer = library::rigbanut_convert_with_types(types, given, out, work);
+        write_text_answer(answer, out);
+    } else {
+        let answer = library::rigbanut_print_with_types(types, given, out, work);
+        write_text_answer(answer, out);
+    }
+}
+
 // The word, device, type, title, attribute, label, memory length, manifest. What does not fit the room here is cut.
-fn answer_why(line: &[u8]) {
+fn answer_why(line: &[u8], lent: bool, types: &[u8]) {
     let device = text::next_part(line, 0);
     let kind = text::next_part(line, device);
     let title = text::next_part(line, kind);
@@ -179,6 +257,8 @@ fn answer_why(line: &[u8]) {
         &line[title..],
         &line[attribute..],
         &line[label..],
+        lent,
+        types,
     );
 }
 
@@ -190,6 +270,8 @@ fn read_question(
     title_text: &[u8],
     attribute_text: &[u8],
     numbers: &[u8],
+    lent: bool,
+    types: &[u8],
 ) {
     let mut manifest = [0u8; 70000];
     let mut device = [0u8; 300];
@@ -208,6 +290,8 @@ fn read_question(
         &title[..titles],
         &attribute[..attributes],
         numbers,
+        lent,
+        types,
     );
 }
 
@@ -219,6 +303,8 @@ fn lend_to_question(
     title: &[u8],
     attribute: &[u8],
     numbers: &[u8],
+    lent: bool,
+    types: &[u8],
 ) {
     let mut work = [0u8; 70000];
     let second = text::next_part(numbers, 0);
@@ -232,6 +318,8 @@ fn lend_to_question(
         attribute,
         label,
         &mut work[..memory],
+        lent,
+        types,
     );
 }
 
@@ -243,9 +331,25 @@ fn ask(
     attribute: &[u8],
     label: u8,
     work: &mut [u8],
+    lent: bool,
+    types: &[u8],
 ) {
-    let answer = library::rigbanut_why(manifest, device, kind, title, attribute, label, work);
-    write_explanation(answer);
+    if lent {
+        let answer = library::rigbanut_why_with_types(
+            types,
+            manifest,
+            device,
+            kind,
+            title,
+            attribute,
+            label,
+            work,
+        );
+        write_explanation(answer);
+    } else {
+        let answer = library::rigbanut_why(manifest, device, kind, title, attribute, label, work);
+        write_explanation(answer);
+    }
 }
 
 // Among them: part * 65536 + place. Not among them: 0. Refused: number * 2^32 + place.

@@ -10,6 +10,7 @@ use lib.ListN.{length, length-append}
 use Rattle.wire.specs.Bytes.{pick, byte as at}
 use Rattle.rules.proofs.Lists.{both-left, both-right}
 use Rattle.rules.proofs.Within.{false-not-true}
+use Rattle.rules.specs.Types.{Types}
 use Rattle.notation.specs.Tokens.{Lexeme, lexeme, word, number, text, variable, topVariable, classVariable, mark, tokenOf, placeOf}
 use Rattle.notation.specs.Building.{Piece, byte, name, Node, node, Nodes, empty, _▸_, leaf, height, Frame, frame, Build, build, Action, begin, beginResource, around, instead, close, constant, read, named, parentFirst, void, enter, leave, act, acts, added, addedFirst, begun, inFront, constantNode, variableNode, spelled, resourceTag}
 use Rattle.notation.proofs.NeedsKept.{none-not-some, same-result}
@@ -174,7 +175,7 @@ pub fitted : (P : Build → Type 0) (c : Bool) (f g : Build) → P f → _≡_ {
 fitted P true f g h e = subst P (same-result f g e) h
 fitted P false f g h e = none-not-some e
 
-module _ (x : Lexeme) where
+module _ (types : Types) (x : Lexeme) where
   -- a field of the token comes last
   own-added : (k : Node) (b q u : ℕ) (g : List Piece) (ks : Nodes) (fs : List Frame) → Own x k → Grown x (build b (frame q u g ks) fs) false (build b (frame q u g (ks ▸ k)) fs)
   unfolding treeMarks
@@ -204,10 +205,10 @@ module _ (x : Lexeme) where
         not-one = λ z. omega arith;
       }
 
-  act-grown : (a : Action) (f g : Build) (fresh : Bool) → appendsOne fresh a ≡ true → (fresh ≡ true → Fresh f) → act a x f ≡ some g → Grown x f (freshBehind fresh a) g
+  act-grown : (a : Action) (f g : Build) (fresh : Bool) → appendsOne fresh a ≡ true → (fresh ≡ true → Fresh f) → act types a x f ≡ some g → Grown x f (freshBehind fresh a) g
   unfolding act begun added treeMarks
   act-grown (begin t) (build b (frame q u i ks) fs) g fresh h new e = fitted (Grown x _ true) (leb (length fs + 1) 32) _ g (own-begun t b q u i ks fs) e
-  act-grown beginResource (build b (frame q u i ks) fs) g fresh h new e = fitted (Grown x _ true) (leb (length fs + 1) 32) _ g (own-begun (resourceTag (spelled (tokenOf x))) b q u i ks fs) e
+  act-grown beginResource (build b (frame q u i ks) fs) g fresh h new e = fitted (Grown x _ true) (leb (length fs + 1) 32) _ g (own-begun (resourceTag types (spelled (tokenOf x))) b q u i ks fs) e
   act-grown (around t h) f g fresh i new e = false-not-true i
   act-grown (instead t) f g fresh i new e = false-not-true i
   act-grown close (build b (frame q u i ks) []) g fresh h new e = none-not-some e
@@ -225,27 +226,27 @@ module _ (x : Lexeme) where
   act-grown leave (build zero (frame q u i ks) fs) g fresh h new e = none-not-some e
   act-grown leave (build (suc b) (frame q u i ks) fs) g fresh h new e = subst (Grown x _ fresh) (same-result _ g e) (record { more = nothing-came (placeOf x) (openMarks q i ks fs); new = new })
 
-  pub acts-grown : (ds : List Action) (f g : Build) (fresh : Bool) → appends fresh ds ≡ true → (fresh ≡ true → Fresh f) → acts ds x f ≡ some g → Appended (placeOf x) (treeMarks f) (treeMarks g)
+  pub acts-grown : (ds : List Action) (f g : Build) (fresh : Bool) → appends fresh ds ≡ true → (fresh ≡ true → Fresh f) → acts types ds x f ≡ some g → Appended (placeOf x) (treeMarks f) (treeMarks g)
   unfolding acts
   acts-grown [] f g fresh h new e = subst (λ (i : Build). Appended (placeOf x) (treeMarks f) (treeMarks i)) (same-result f g e) (nothing-came (placeOf x) (treeMarks f))
   acts-grown (a ∷ ds) f g fresh h new e =
-      go (act a x f) refl (λ i first. acts-grown ds i g (freshBehind fresh a) (both-right (appendsOne fresh a) (appends (freshBehind fresh a) ds) h) (first .new)) e
+      go (act types a x f) refl (λ i first. acts-grown ds i g (freshBehind fresh a) (both-right (appendsOne fresh a) (appends (freshBehind fresh a) ds) h) (first .new)) e
     where
-      go : (o : Option Build) → act a x f ≡ o → ((i : Build) → Grown x f (freshBehind fresh a) i → acts ds x i ≡ some g → Appended (placeOf x) (treeMarks i) (treeMarks g)) → _≡_ {A = Option Build} (elim o as (λ o. Option Build) [ none ↦ none | some i ↦ acts ds x i ]) (some g) → Appended (placeOf x) (treeMarks f) (treeMarks g)
+      go : (o : Option Build) → act types a x f ≡ o → ((i : Build) → Grown x f (freshBehind fresh a) i → acts types ds x i ≡ some g → Appended (placeOf x) (treeMarks i) (treeMarks g)) → _≡_ {A = Option Build} (elim o as (λ o. Option Build) [ none ↦ none | some i ↦ acts types ds x i ]) (some g) → Appended (placeOf x) (treeMarks f) (treeMarks g)
       go none i others j = none-not-some j
       go (some k) i others j =
           let first = act-grown a f k fresh (both-left (appendsOne fresh a) (appends (freshBehind fresh a) ds) h) new i in
           appended-both (first .more) (others k first j)
 
   -- a constant has a header
-  pub constant-wide : (f g : Build) → act constant x f ≡ some g → sizeOf f + 3 ≤ sizeOf g
+  pub constant-wide : (f g : Build) → act types constant x f ≡ some g → sizeOf f + 3 ≤ sizeOf g
   unfolding act added treeMarks sizeOf
   constant-wide (build b (frame q u i ks) fs) g e =
       fitted (λ (j : Build). sizeOf (build b (frame q u i ks) fs) + 3 ≤ sizeOf j) (leb (length fs + 1) 32) (build b (frame q u i (ks ▸ constantNode x)) fs) g
       (omega (arith, ap length (more-marks q i ks fs (constantNode x)), length-append (openMarks q i ks fs) (nodeMarks (constantNode x)), node-wide (constantNode x))) e
 
   -- a field that ends moves nothing
-  pub closed-same : (f g : Build) → acts (close ∷ []) x f ≡ some g → treeMarks g ≡ treeMarks f
+  pub closed-same : (f g : Build) → acts types (close ∷ []) x f ≡ some g → treeMarks g ≡ treeMarks f
   unfolding acts act treeMarks
   closed-same (build b (frame p t h ks) []) g e = none-not-some e
   closed-same (build b (frame p t h ks) (frame q u i js ∷ fs)) g e = ap treeMarks (sym (same-result _ g e)) ∙ end-marks q i js fs u p t h ks
@@ -253,14 +254,14 @@ module _ (x : Lexeme) where
   -- ---- Those that do not
 
   -- a name comes before the parts
-  pub named-inserts : (f g : Build) → act named x f ≡ some g → Inserted (bodyOf f) (placeOf x) (treeMarks f) (treeMarks g)
+  pub named-inserts : (f g : Build) → act types named x f ≡ some g → Inserted (bodyOf f) (placeOf x) (treeMarks f) (treeMarks g)
   unfolding act treeMarks bodyOf
   named-inserts (build b (frame q u i ks) fs) g e =
       subst (λ (j : Build). Inserted (bodyOf (build b (frame q u i ks) fs)) (placeOf x) (treeMarks (build b (frame q u i ks) fs)) (treeMarks j)) (same-result _ g e)
       (record { front = frontMarks q i fs; come = 0 ∷ 0 ∷ []; behind = partMarks ks; before = unfold openMarks in refl; after = named-marks q i ks fs (spelled (tokenOf x)); offset = refl; whose = name-only (placeOf x); not-one = λ z. omega arith })
 
   -- so does a parent
-  pub parent-inserts : (f g : Build) → act parentFirst x f ≡ some g → Inserted (bodyOf f) (placeOf x) (treeMarks f) (treeMarks g)
+  pub parent-inserts : (f g : Build) → act types parentFirst x f ≡ some g → Inserted (bodyOf f) (placeOf x) (treeMarks f) (treeMarks g)
   unfolding act addedFirst treeMarks bodyOf
   parent-inserts (build b (frame q u i ks) fs) g e =
       let parent : Node = leaf (placeOf x) 0x35 (name (spelled (tokenOf x)) ∷ []) in
@@ -268,7 +269,7 @@ module _ (x : Lexeme) where
       (record { front = frontMarks q i fs; come = nodeMarks parent; behind = partMarks ks; before = unfold openMarks in refl; after = front-marks q i ks fs parent; offset = refl; whose = leaf-only (placeOf x) 0x35 (name (spelled (tokenOf x)) ∷ []); not-one = λ z. omega (arith, z, node-wide parent) }) e
 
   -- an operator comes before the last part
-  pub around-inserts : (t : ℕ) (h : List Piece) (f g : Build) → act (around t h) x f ≡ some g → Inserted (startOf g) (placeOf x) (treeMarks f) (treeMarks g)
+  pub around-inserts : (t : ℕ) (h : List Piece) (f g : Build) → act types (around t h) x f ≡ some g → Inserted (startOf g) (placeOf x) (treeMarks f) (treeMarks g)
   unfolding act treeMarks startOf partMarks
   around-inserts t h (build b (frame q u i empty) fs) g e = none-not-some e
   around-inserts t h (build b (frame q u i (ks ▸ k)) fs) g e =
@@ -285,7 +286,7 @@ module _ (x : Lexeme) where
       }) e
 
   -- a name comes in the place of a constant of two pieces, of which the first is a byte: that byte goes
-  instead-leaf : (t b q u : ℕ) (i : List Piece) (kept : Nodes) (p v l : ℕ) (y : Piece) (fs : List Frame) (g : Build) → act (instead t) x (build b (frame q u i (kept ▸ leaf p v (byte l ∷ y ∷ []))) fs) ≡ some g
+  instead-leaf : (t b q u : ℕ) (i : List Piece) (kept : Nodes) (p v l : ℕ) (y : Piece) (fs : List Frame) (g : Build) → act types (instead t) x (build b (frame q u i (kept ▸ leaf p v (byte l ∷ y ∷ []))) fs) ≡ some g
       → Shortened 1 (treeMarks (build b (frame q u i (kept ▸ leaf p v (byte l ∷ y ∷ []))) fs)) (treeMarks g)
   unfolding act treeMarks nodeMarks headMarks partMarks
   instead-leaf t b q u i kept p v l y fs g e =
@@ -296,7 +297,7 @@ module _ (x : Lexeme) where
       go (byte c) = sym (append-assoc (openMarks q i kept fs) (suc p ∷ 0 ∷ 0 ∷ 0 ∷ []) (0 ∷ []))
       go (name s) = sym (append-assoc (openMarks q i kept fs) (suc p ∷ 0 ∷ 0 ∷ 0 ∷ 0 ∷ []) (0 ∷ []))
 
-  pub instead-shortens : (t : ℕ) (f g : Build) → EndsInLeaf f → act (instead t) x f ≡ some g → Shortened 1 (treeMarks f) (treeMarks g)
+  pub instead-shortens : (t : ℕ) (f g : Build) → EndsInLeaf f → act types (instead t) x f ≡ some g → Shortened 1 (treeMarks f) (treeMarks g)
   instead-shortens t (build b (frame q u i ks) fs) g w e =
-      subst (λ (js : Nodes). act (instead t) x (build b (frame q u i js) fs) ≡ some g → Shortened 1 (treeMarks (build b (frame q u i js) fs)) (treeMarks g)) (sym (w .is))
+      subst (λ (js : Nodes). act types (instead t) x (build b (frame q u i js) fs) ≡ some g → Shortened 1 (treeMarks (build b (frame q u i js) fs)) (treeMarks g)) (sym (w .is))
       (instead-leaf t b q u i (w .kept) (w .place) (w .tag) (w .line) (w .piece) fs g) e

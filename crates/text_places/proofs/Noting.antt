@@ -9,6 +9,7 @@ use lib.Dec.{eqb}
 use lib.ListN.{length}
 use Rattle.rules.specs.Bytes.{byte, pick}
 use Rattle.rules.specs.EditRule.{IsBytes}
+use Rattle.rules.specs.Types.{Types}
 use Rattle.notation.specs.Tokens as tokens
 use Rattle.notation.specs.Tokens.{Lexeme, lexeme, topVariable, classVariable, mark, kind, tokenOf, placeOf, aWord, aNumber, aText, aVariable, aQualified, endOfText, malformed}
 use Rattle.notation.specs.Lexing.{tokens as tokensOf}
@@ -80,22 +81,22 @@ found-first t at line o r x xs f e = go (eqb (r .kind) endOfText) refl (eqb (r .
 -- ---- The loop
 
 -- behind some tokens: the log so far goes on to that of the text
-pub record Noting (t out₀ m₀ st₀ tb₀ log₀ out m st tb log : List ℕ) (p : Pass) (entries : ℕ) : Type 0 where
-  pub along : Along t (strings t tb₀ 0) out₀ m₀ st₀ tb₀ out m st tb p
+pub record Noting (types : Types) (t out₀ m₀ st₀ tb₀ log₀ out m st tb log : List ℕ) (p : Pass) (entries : ℕ) : Type 0 where
+  pub along : Along types t (strings t tb₀ 0) out₀ m₀ st₀ tb₀ out m st tb p
   pub so-far : List Insertion
-  pub same-log : textLog t ≡ logged (tokensLeft t p) (symbolsOf st p) (along .going .ready .tree) so-far
+  pub same-log : textLog types t ≡ logged types (tokensLeft t p) (symbolsOf st p) (along .going .ready .tree) so-far
   pub count : length so-far ≡ entries
   pub written : 8 * entries ≤ length log → logIn log entries ≡ so-far
   pub few : entries ≤ p .at
   pub size : length log ≡ length log₀
 
-logged-on : (x : Lexeme) (xs : List Lexeme) (k : List Symbol) (f : Build) (k′ : List Symbol) (g : Build) (l : List Insertion) → step k x f ≡ to k′ g → logged (x ∷ xs) k f l ≡ logged xs k′ g (noted k x f g l)
+logged-on : (types : Types) (x : Lexeme) (xs : List Lexeme) (k : List Symbol) (f : Build) (k′ : List Symbol) (g : Build) (l : List Insertion) → step types k x f ≡ to k′ g → logged types (x ∷ xs) k f l ≡ logged types xs k′ g (noted k x f g l)
 unfolding logged
-logged-on x xs k f k′ g l e = rw (logged, e)
+logged-on types x xs k f k′ g l e = rw (logged, e)
 
-logged-none : (k : List Symbol) (f : Build) (l : List Insertion) → logged [] k f l ≡ l
+logged-none : (types : Types) (k : List Symbol) (f : Build) (l : List Insertion) → logged types [] k f l ≡ l
 unfolding logged
-logged-none k f l = refl
+logged-none types k f l = refl
 
 -- what is noted by the states is what is to be noted by the trees
 noted-so : (k : List Symbol) (x : Lexeme) (f g : Build) (y q p : ℕ) (s r : Building) (l : List Insertion) → topBeforeParts k ≡ eqb (sort (symbolOf y)) 1 → kind (tokenOf x) ≡ q → placeOf x ≡ p
@@ -103,7 +104,7 @@ noted-so : (k : List Symbol) (x : Lexeme) (f g : Build) (y q p : ℕ) (s r : Bui
 unfolding noted notedBy
 noted-so k x f g y q p s r l top kinds places a b c d = rw (a, b, c, d, sym top, sym kinds, sym places)
 
-module _ (t out₀ m₀ st₀ tb₀ log₀ out m st tb log : List ℕ) (p : Pass) (entries : ℕ) (g : Noting t out₀ m₀ st₀ tb₀ log₀ out m st tb log p entries)
+module _ (types : Types) (t out₀ m₀ st₀ tb₀ log₀ out m st tb log : List ℕ) (p : Pass) (entries : ℕ) (g : Noting types t out₀ m₀ st₀ tb₀ log₀ out m st tb log p entries)
     (r : Token) (found : Found t (p .at) (p .line) (p .operand) r) (y : ℕ) (top : topBeforeParts (symbolsOf st p) ≡ eqb (sort (symbolOf y)) 1) where
   abbrev f : Build
   f = g .along .going .ready .tree
@@ -112,7 +113,7 @@ module _ (t out₀ m₀ st₀ tb₀ log₀ out m st tb log : List ℕ) (p : Pass
   s = p .machine .building
 
   -- a token is taken
-  module _ (next : Pass) (out′ m′ st′ tb′ : List ℕ) (rest : List Lexeme) (w : TokenTaken t st tb p f next out′ m′ st′ tb′ rest) where
+  module _ (next : Pass) (out′ m′ st′ tb′ : List ℕ) (rest : List Lexeme) (w : TokenTaken types t st tb p f next out′ m′ st′ tb′ rest) where
     taken-notable : Notable entries (r .start) s (next .machine .building)
     taken-notable =
         let pass = g .along .going .ready in
@@ -121,7 +122,7 @@ module _ (t out₀ m₀ st₀ tb₀ log₀ out m st tb log : List ℕ) (p : Pass
           small = omega (arith, found .forward, found .high, pass .short);
           ready = ready (stringsSoFar t tb p) s m out f (omega (arith, pass .stage .low)) (pass .stage .shows);
           ready-behind = ready (stringsSoFar t tb′ next) (next .machine .building) m′ out′ (w .tree)
-              (omega (arith, filled-next t (strings t tb₀ 0) out m st tb p (g .along .going) next out′ m′ st′ tb′ rest w, pass .within, pass .short)) (w .shows);
+              (omega (arith, filled-next types t (strings t tb₀ 0) out m st tb p (g .along .going) next out′ m′ st′ tb′ rest w, pass .within, pass .short)) (w .shows);
         }
 
     -- the log with what the token inserted
@@ -135,8 +136,8 @@ module _ (t out₀ m₀ st₀ tb₀ log₀ out m st tb log : List ℕ) (p : Pass
         noted-so (symbolsOf st p) (w .token) f (w .tree) y (r .kind) (r .start) s (next .machine .building) (g .so-far) top (hand .kind-is) (hand .place)
         (shown-size (stringsSoFar t tb p) s m out f here) (shown-body (stringsSoFar t tb p) s m out f here) (shown-size (stringsSoFar t tb′ next) (next .machine .building) m′ out′ (w .tree) (w .shows)) (shown-start (stringsSoFar t tb′ next) (next .machine .building) m′ out′ (w .tree) (w .shows))
 
-    taken-log : textLog t ≡ logged rest (symbolsOf st′ next) (w .tree) longer
-    taken-log = g .same-log ∙ ap (λ (ys : List Lexeme). logged ys (symbolsOf st p) f (g .so-far)) (w .first) ∙ logged-on (w .token) rest (symbolsOf st p) f (symbolsOf st′ next) (w .tree) (g .so-far) (w .stepped)
+    taken-log : textLog types t ≡ logged types rest (symbolsOf st′ next) (w .tree) longer
+    taken-log = g .same-log ∙ ap (λ (ys : List Lexeme). logged types ys (symbolsOf st p) f (g .so-far)) (w .first) ∙ logged-on types (w .token) rest (symbolsOf st p) f (symbolsOf st′ next) (w .tree) (g .so-far) (w .stepped)
 
     module _ {log′ : List ℕ} {e : ℕ} (n : Noted log log′ entries e (notedBy y (r .kind) (r .start) s (next .machine .building))) where
       taken-count : length longer ≡ e
@@ -146,9 +147,9 @@ module _ (t out₀ m₀ st₀ tb₀ log₀ out m st tb log : List ℕ) (p : Pass
       taken-written room = n .is room ∙ ap (notedBy y (r .kind) (r .start) s (next .machine .building)) (g .written (omega (arith, n .no-less, n .size))) ∙ longer-so
 
   -- what reading the token answers
-  module _ (a : Read) (out′ m′ st′ tb′ : List ℕ) (reads : ReadsToken t out m st tb p a out′ m′ st′ tb′) where
-    unfoldable told : (b : Read) → a ≡ b → ReadSo t st tb p f b out′ m′ st′ tb′
-    told = answer t (strings t tb₀ 0) out₀ m₀ st₀ tb₀ out m st tb p (g .along) a out′ m′ st′ tb′ reads
+  module _ (a : Read) (out′ m′ st′ tb′ : List ℕ) (reads : ReadsToken types t out m st tb p a out′ m′ st′ tb′) where
+    unfoldable told : (b : Read) → a ≡ b → ReadSo types t st tb p f b out′ m′ st′ tb′
+    told = answer types t (strings t tb₀ 0) out₀ m₀ st₀ tb₀ out m st tb p (g .along) a out′ m′ st′ tb′ reads
 
     -- more tokens follow
     module _ (next : Pass) (i : a ≡ On next) where
@@ -157,12 +158,12 @@ module _ (t out₀ m₀ st₀ tb₀ log₀ out m st tb log : List ℕ) (p : Pass
       next-notable = taken-notable next out′ m′ st′ tb′ (tokensLeft t next) (told (On next) i .0)
 
       pub next-noting : {log′ : List ℕ} {e : ℕ} → length out′ ≡ length out → length m′ ≡ length m → length st′ ≡ length st → length tb′ ≡ length tb → Noted log log′ entries e (notedBy y (r .kind) (r .start) s (next .machine .building))
-          → Noting t out₀ m₀ st₀ tb₀ log₀ out′ m′ st′ tb′ log′ next e
+          → Noting types t out₀ m₀ st₀ tb₀ log₀ out′ m′ st′ tb′ log′ next e
       unfolding ReadSo along-next going-next told
       next-noting out-size frames-size stack-size table-size n =
           let w = told (On next) i in
           record {
-            along = along-next t (strings t tb₀ 0) out₀ m₀ st₀ tb₀ out m st tb p (g .along) a out′ m′ st′ tb′ reads next i out-size frames-size stack-size table-size;
+            along = along-next types t (strings t tb₀ 0) out₀ m₀ st₀ tb₀ out m st tb p (g .along) a out′ m′ st′ tb′ reads next i out-size frames-size stack-size table-size;
             so-far = longer next out′ m′ st′ tb′ (tokensLeft t next) (w .0);
             same-log = taken-log next out′ m′ st′ tb′ (tokensLeft t next) (w .0);
             count = taken-count next out′ m′ st′ tb′ (tokensLeft t next) (w .0) n;
@@ -177,12 +178,12 @@ module _ (t out₀ m₀ st₀ tb₀ log₀ out m st tb log : List ℕ) (p : Pass
       unfolding ReadSo
       last-notable = taken-notable last out′ m′ st′ tb′ [] (told (Done last) i)
 
-      pub whole-noted : {log′ : List ℕ} {e : ℕ} → Noted log log′ entries e (notedBy y (r .kind) (r .start) s (last .machine .building)) → TextNoted t (Whole (last .count) e) tb′ log′
+      pub whole-noted : {log′ : List ℕ} {e : ℕ} → Noted log log′ entries e (notedBy y (r .kind) (r .start) s (last .machine .building)) → TextNoted types t (Whole (last .count) e) tb′ log′
       unfolding ReadSo TextRead TextNoted textItems strings listed
       whole-noted {log′} {e} n =
           let w = told (Done last) i in
-          let whole = whole-read t (strings t tb₀ 0) out₀ m₀ st₀ tb₀ out m st tb p (g .along) a out′ m′ st′ tb′ reads last i in
-          let text-log : textLog t ≡ longer last out′ m′ st′ tb′ [] w = taken-log last out′ m′ st′ tb′ [] w ∙ logged-none (symbolsOf st′ last) (w .tree) (longer last out′ m′ st′ tb′ [] w) in
+          let whole = whole-read types t (strings t tb₀ 0) out₀ m₀ st₀ tb₀ out m st tb p (g .along) a out′ m′ st′ tb′ reads last i in
+          let text-log : textLog types t ≡ longer last out′ m′ st′ tb′ [] w = taken-log last out′ m′ st′ tb′ [] w ∙ logged-none types (symbolsOf st′ last) (w .tree) (longer last out′ m′ st′ tb′ [] w) in
           let pass = g .along .going .ready in
           record {
             table-is = whole .table-is;
@@ -193,24 +194,24 @@ module _ (t out₀ m₀ st₀ tb₀ log₀ out m st tb log : List ℕ) (p : Pass
           }
 
     -- it may not stand there
-    pub none-noted : (place : ℕ) → a ≡ Fault place → (log′ : List ℕ) → TextNoted t Refused tb′ log′
+    pub none-noted : (place : ℕ) → a ≡ Fault place → (log′ : List ℕ) → TextNoted types t Refused tb′ log′
     unfolding TextRead TextNoted textItems strings listed
-    none-noted place i log′ items e = refused-not-done (sym (refused-read t (strings t tb₀ 0) out₀ m₀ st₀ tb₀ out m st tb p (g .along) a out′ m′ st′ tb′ reads place i .read) ∙ e)
+    none-noted place i log′ items e = refused-not-done (sym (refused-read types t (strings t tb₀ 0) out₀ m₀ st₀ tb₀ out m st tb p (g .along) a out′ m′ st′ tb′ reads place i .read) ∙ e)
 
 -- before the first token
-first-log : (t st : List ℕ) (top : ℕ) → stackOf st top ≡ manifest → textLog t ≡ logged (tokensFrom t 0 0 true) (stackOf st top) start []
+first-log : (types : Types) (t st : List ℕ) (top : ℕ) → stackOf st top ≡ manifest → textLog types t ≡ logged types (tokensFrom t 0 0 true) (stackOf st top) start []
 unfolding textLog tokensOf
-first-log t st top e = ap (λ (k : List Symbol). logged (tokensFrom t 0 0 true) k start []) (sym e)
+first-log types t st top e = ap (λ (k : List Symbol). logged types (tokensFrom t 0 0 true) k start []) (sym e)
 
-pub first-noting : (t out m st₀ st tb log : List ℕ) (top : ℕ) (s : Building) → IsBytes t → Readable t out m st₀ tb 0 → Pushed st₀ st 1 0x2c05 top → ((table : List (List ℕ)) (frames o : List ℕ) → Shows table s frames o start)
-    → Noting t out m st tb log out m st tb log (record { at = 0; line = 0; operand = true; machine = record { top = top; building = s }; count = 0 }) 0
+pub first-noting : (types : Types) (t out m st₀ st tb log : List ℕ) (top : ℕ) (s : Building) → IsBytes t → Readable t out m st₀ tb 0 → Pushed st₀ st 1 0x2c05 top → ((table : List (List ℕ)) (frames o : List ℕ) → Shows table s frames o start)
+    → Noting types t out m st tb log out m st tb log (record { at = 0; line = 0; operand = true; machine = record { top = top; building = s }; count = 0 }) 0
 unfolding going-first logIn
-first-noting t out m st₀ st tb log top s bytes h pushed fresh =
+first-noting types t out m st₀ st tb log top s bytes h pushed fresh =
     let symbols : stackOf st top ≡ manifest = pushed .symbols ∙ (unfold stackOf in ap (λ (k : List Symbol). k ++ []) manifest-coded) in
     record {
-      along = record { going = going-first t out m st₀ st tb 0 top s h pushed fresh; bytes = bytes; out-size = refl; frames-size = refl; stack-size = refl; table-size = refl };
+      along = record { going = going-first types t out m st₀ st tb 0 top s h pushed fresh; bytes = bytes; out-size = refl; frames-size = refl; stack-size = refl; table-size = refl };
       so-far = [];
-      same-log = first-log t st top symbols;
+      same-log = first-log types t st top symbols;
       count = refl;
       written = λ room. refl;
       few = omega arith;

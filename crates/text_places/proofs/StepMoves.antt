@@ -11,6 +11,7 @@ use lib.ListN.{length, length-append}
 use borrow.Author.Tests.{eqb-true, eqb-false, ltb-true, ltb-false}
 use Rattle.wire.specs.Bytes.{pick}
 use Rattle.rules.proofs.Within.{false-not-true}
+use Rattle.rules.specs.Types.{Types}
 use Rattle.notation.specs.Tokens.{Lexeme, lexeme, word, number, text, variable, topVariable, classVariable, mark, kind, tokenOf, placeOf, aWord}
 use Rattle.notation.specs.Building.{frame, Build, build, start, Action, begin, beginResource, around, instead, close, constant, read, named, parentFirst, void, enter, leave, act, acts, added, constantNode}
 use Rattle.notation.specs.Grammar.{Symbol, row, rowOf, leftOut, manifest, to, step}
@@ -25,22 +26,22 @@ use Rattle.text_places.proofs.StepCases.{by-step}
 -- ---- One action
 
 -- a word is a constant of two pieces; so is a mark of its kind, which the lexer does not make
-word-leaf : (x : Lexeme) (f g : Build) → kind (tokenOf x) ≡ aWord → act constant x f ≡ some g → EndsInLeaf g
+word-leaf : (types : Types) (x : Lexeme) (f g : Build) → kind (tokenOf x) ≡ aWord → act types constant x f ≡ some g → EndsInLeaf g
 unfolding act added constantNode
-word-leaf (lexeme p l (word w)) (build b (frame q u i ks) fs) g k e = fitted EndsInLeaf (leb (length fs + 1) 32) _ g (record { kept = ks; place = p; tag = 0x11; line = l; piece = _; is = refl }) e
-word-leaf (lexeme p l (number z)) f g k e = absurd (omega arith)
-word-leaf (lexeme p l (text s)) f g k e = absurd (omega arith)
-word-leaf (lexeme p l (variable n)) f g k e = absurd (omega arith)
-word-leaf (lexeme p l (topVariable n)) f g k e = absurd (omega arith)
-word-leaf (lexeme p l (classVariable c n)) f g k e = absurd (omega arith)
-word-leaf (lexeme p l (mark m)) (build b (frame q u i ks) fs) g k e = fitted EndsInLeaf (leb (length fs + 1) 32) _ g (record { kept = ks; place = p; tag = 0x12; line = l; piece = _; is = refl }) e
+word-leaf types (lexeme p l (word w)) (build b (frame q u i ks) fs) g k e = fitted EndsInLeaf (leb (length fs + 1) 32) _ g (record { kept = ks; place = p; tag = 0x11; line = l; piece = _; is = refl }) e
+word-leaf types (lexeme p l (number z)) f g k e = absurd (omega arith)
+word-leaf types (lexeme p l (text s)) f g k e = absurd (omega arith)
+word-leaf types (lexeme p l (variable n)) f g k e = absurd (omega arith)
+word-leaf types (lexeme p l (topVariable n)) f g k e = absurd (omega arith)
+word-leaf types (lexeme p l (classVariable c n)) f g k e = absurd (omega arith)
+word-leaf types (lexeme p l (mark m)) (build b (frame q u i ks) fs) g k e = fitted EndsInLeaf (leb (length fs + 1) 32) _ g (record { kept = ks; place = p; tag = 0x12; line = l; piece = _; is = refl }) e
 
 -- it is the last part, and has a header
 pub record WordRead (f g : Build) : Type 0 where
   pub leaf : EndsInLeaf g
   pub wide : sizeOf f + 3 ≤ sizeOf g
 
-module _ (x : Lexeme) where
+module _ (types : Types) (x : Lexeme) where
   -- what an action does, by its code
   record Done (n : ℕ) (f g : Build) : Type 0 where
     before : n ≡ 1 → Inserted (bodyOf f) (placeOf x) (treeMarks f) (treeMarks g)
@@ -54,27 +55,27 @@ module _ (x : Lexeme) where
   before-done : (f g : Build) → Inserted (bodyOf f) (placeOf x) (treeMarks f) (treeMarks g) → Done 1 f g
   before-done f g i = record { before = λ e. i; instead-of = λ e. absurd (omega arith); lifts = λ e. absurd (omega arith); word = λ e. absurd (omega arith) }
 
-  act-done : (a : Action) (f g : Build) → act a x f ≡ some g → Done (codeOf a) f g
+  act-done : (a : Action) (f g : Build) → act types a x f ≡ some g → Done (codeOf a) f g
   act-done (begin t) f g e = other-done f g
   act-done beginResource f g e = other-done f g
-  act-done (around t h) f g e = record { before = λ z. absurd (omega arith); instead-of = λ z. absurd (omega arith); lifts = λ z. around-inserts x t h f g e; word = λ z. absurd (omega arith) }
-  act-done (instead t) f g e = record { before = λ z. absurd (omega arith); instead-of = λ z w. instead-shortens x t f g w e; lifts = λ z. absurd (omega arith); word = λ z. absurd (omega arith) }
+  act-done (around t h) f g e = record { before = λ z. absurd (omega arith); instead-of = λ z. absurd (omega arith); lifts = λ z. around-inserts types x t h f g e; word = λ z. absurd (omega arith) }
+  act-done (instead t) f g e = record { before = λ z. absurd (omega arith); instead-of = λ z w. instead-shortens types x t f g w e; lifts = λ z. absurd (omega arith); word = λ z. absurd (omega arith) }
   act-done close f g e = other-done f g
-  act-done constant f g e = record { before = λ z. absurd (omega arith); instead-of = λ z. absurd (omega arith); lifts = λ z. absurd (omega arith); word = λ z k. record { leaf = word-leaf x f g k e; wide = constant-wide x f g e } }
+  act-done constant f g e = record { before = λ z. absurd (omega arith); instead-of = λ z. absurd (omega arith); lifts = λ z. absurd (omega arith); word = λ z k. record { leaf = word-leaf types x f g k e; wide = constant-wide types x f g e } }
   act-done read f g e = other-done f g
-  act-done named f g e = before-done f g (named-inserts x f g e)
-  act-done parentFirst f g e = before-done f g (parent-inserts x f g e)
+  act-done named f g e = before-done f g (named-inserts types x f g e)
+  act-done parentFirst f g e = before-done f g (parent-inserts types x f g e)
   act-done (void t) f g e = other-done f g
   act-done enter f g e = other-done f g
   act-done leave f g e = other-done f g
 
   -- one action alone
-  sole-done : (ds : List Action) (f g : Build) → acts ds x f ≡ some g → Done (soleCode ds) f g
+  sole-done : (ds : List Action) (f g : Build) → acts types ds x f ≡ some g → Done (soleCode ds) f g
   unfolding acts
   sole-done [] f g e = other-done f g
-  sole-done (a ∷ []) f g e = go (act a x f) refl e
+  sole-done (a ∷ []) f g e = go (act types a x f) refl e
     where
-      go : (o : Option Build) → act a x f ≡ o → _≡_ {A = Option Build} (elim o as (λ o. Option Build) [ none ↦ none | some i ↦ some i ]) (some g) → Done (codeOf a) f g
+      go : (o : Option Build) → act types a x f ≡ o → _≡_ {A = Option Build} (elim o as (λ o. Option Build) [ none ↦ none | some i ↦ some i ]) (some g) → Done (codeOf a) f g
       go none i j = none-not-some j
       go (some h) i j = act-done a f g (i ∙ j)
   sole-done (a ∷ b ∷ ds) f g e = other-done f g
@@ -104,7 +105,7 @@ module _ (x : Lexeme) where
 
   module _ (most : ℕ) (g : Build) where
     -- the symbol takes the token
-    rest-taken : (s : Symbol) (k : List Symbol) (f i : Build) (ds : List Action) (ss : List Symbol) → rowOf s (kind (tokenOf x)) ≡ some (row ds ss) → acts ds x i ≡ some g → eqb (sort s) 1 ≡ false → eqb (sort s) 2 ≡ false → Since f i (s ∷ k) → Outcome most f g
+    rest-taken : (s : Symbol) (k : List Symbol) (f i : Build) (ds : List Action) (ss : List Symbol) → rowOf s (kind (tokenOf x)) ≡ some (row ds ss) → acts types ds x i ≡ some g → eqb (sort s) 1 ≡ false → eqb (sort s) 2 ≡ false → Since f i (s ∷ k) → Outcome most f g
     unfolding acts sizeOf
     rest-taken s k f i ds ss r e no-one no-two h = by-code (eqb (soleCode ds) 3) refl
       where
@@ -121,9 +122,9 @@ module _ (x : Lexeme) where
 
         last : (appends false ds ≡ true) × (operator ≡ true → ds ≡ []) → (o : Bool) → operator ≡ o → Moved most (pick o (startOf g) (length (treeMarks f))) (placeOf x) (treeMarks f) (treeMarks g)
         last a true o =
-            let none-done : acts [] x i ≡ some g = subst (λ (l : List Action). acts l x i ≡ some g) (a .1 o) e in
+            let none-done : acts types [] x i ≡ some g = subst (λ (l : List Action). acts types l x i ≡ some g) (a .1 o) e in
             unmoved (ap treeMarks (sym (same-result i g none-done)) ∙ same-before o)
-        last a false o = inserted (appended-inserted refl (appended-both (h .come) (acts-grown x ds i g false (a .0) (λ z. false-not-true z) e)))
+        last a false o = inserted (appended-inserted refl (appended-both (h .come) (acts-grown types x ds i g false (a .0) (λ z. false-not-true z) e)))
 
         by-code : (b : Bool) → eqb (soleCode ds) 3 ≡ b → Outcome most f g
         by-code true c =
@@ -133,7 +134,7 @@ module _ (x : Lexeme) where
         by-code false c = last (told .last no-one no-two (eqb-false (soleCode ds) 3 c)) operator refl
 
     -- the symbol is left out
-    rest-left : (s : Symbol) (k : List Symbol) (f j : Build) (ds : List Action) (i : Build) → leftOut s ≡ some ds → acts ds x j ≡ some i → Stacked (s ∷ k) → Since f j (s ∷ k) → (plainTop k ≡ true → Stacked k → Since f i k → Outcome most f g) → Outcome most f g
+    rest-left : (s : Symbol) (k : List Symbol) (f j : Build) (ds : List Action) (i : Build) → leftOut s ≡ some ds → acts types ds x j ≡ some i → Stacked (s ∷ k) → Since f j (s ∷ k) → (plainTop k ≡ true → Stacked k → Since f i k → Outcome most f g) → Outcome most f g
     unfolding acts
     rest-left s k f j ds i l e stacked h others = go (sort s) refl ds (out-left s ds l) e
       where
@@ -151,17 +152,17 @@ module _ (x : Lexeme) where
             still (inl as-was) = inl (same ∙ as-was)
             still (inr b) = inr (below (eqb (sort s) 0) (eqb (sort s) 3 || eqb (sort s) 4) (ap (λ (a : ℕ). eqb a 0) m ∙ no-sign) b)
 
-        go : (n : ℕ) → sort s ≡ n → (ds : List Action) → Left n ds → acts ds x j ≡ some i → Outcome most f g
+        go : (n : ℕ) → sort s ≡ n → (ds : List Action) → Left n ds → acts types ds x j ≡ some i → Outcome most f g
         go n m [] (leftAlone no-sign no-one) q = passed n m no-sign (ap treeMarks (sym (same-result j i q)))
-        go n m (close ∷ []) leftClosed q = passed 4 m refl (closed-same x j i q)
+        go n m (close ∷ []) leftClosed q = passed 4 m refl (closed-same types x j i q)
         go n m (void t ∷ []) leftEmpty q =
             others (plain-below 3 k refl (subst (λ (a : ℕ). next a k ≡ true) m (stacked .0))) (stacked .2)
-            (record { come = appended-both (h .come) (acts-grown x (void t ∷ []) j i false refl (λ z. false-not-true z) q); guard = λ o. inr (stacked .1 (ap (λ (a : ℕ). eqb a 3) m)) })
+            (record { come = appended-both (h .come) (acts-grown types x (void t ∷ []) j i false refl (λ z. false-not-true z) q); guard = λ o. inr (stacked .1 (ap (λ (a : ℕ). eqb a 3) m)) })
 
     module _ (k′ : List Symbol) where
-      rest : (f : Build) (k : List Symbol) (i : Build) → step k x i ≡ to k′ g → plainTop k ≡ true → Stacked k → Since f i k → Outcome most f g
+      rest : (f : Build) (k : List Symbol) (i : Build) → step types k x i ≡ to k′ g → plainTop k ≡ true → Stacked k → Since f i k → Outcome most f g
       rest f =
-          by-step x k′ g (λ k i. plainTop k ≡ true → Stacked k → Since f i k → Outcome most f g)
+          by-step types x k′ g (λ k i. plainTop k ≡ true → Stacked k → Since f i k → Outcome most f g)
           (λ s k i ds ss r e m p stacked h. rest-taken s k f i ds ss r e (no-one (eqb (sort s) 2) (eqb (sort s) 1) p) (no-two (eqb (sort s) 2) (eqb (sort s) 1) p) h)
           (λ s k j ds i l e q later p stacked h. rest-left s k f j ds i l e stacked h later)
         where
@@ -193,9 +194,9 @@ no-word n (z ∷ k) h w = go (eqb (sort z) 2) (not (eqb (sort z) 1) || eqb n 0) 
 sound-below : (s : Symbol) (k : List Symbol) (f i : Build) → Sound (s ∷ k) f → Sound k i
 sound-below s k f i h = record { stacked = h .stacked .2; word = λ w. no-word (sort s) k (h .stacked .0) w }
 
-left-grows : (x : Lexeme) (n : ℕ) (ds : List Action) (f i : Build) → Left n ds → acts ds x f ≡ some i → sizeOf f ≤ sizeOf i
+left-grows : (types : Types) (x : Lexeme) (n : ℕ) (ds : List Action) (f i : Build) → Left n ds → acts types ds x f ≡ some i → sizeOf f ≤ sizeOf i
 unfolding sizeOf
-left-grows x n ds f i l e = let a = acts-grown x ds f i false (left-appends ds l) (λ z. false-not-true z) e in omega (arith, ap length (a .after), length-append (treeMarks f) (a .come))
+left-grows types x n ds f i l e = let a = acts-grown types x ds f i false (left-appends ds l) (λ z. false-not-true z) e in omega (arith, ap length (a .after), length-append (treeMarks f) (a .come))
   where
     left-appends : {n : ℕ} (ds : List Action) → Left n ds → appends false ds ≡ true
     left-appends [] (leftAlone a b) = refl
@@ -206,58 +207,58 @@ pub start-sound : Sound manifest start
 unfolding isOperator
 start-sound = record { stacked = (refl, λ e. refl, (refl, λ e. false-not-true e, tt)); word = λ e. false-not-true e }
 
-module _ (x : Lexeme) (k′ : List Symbol) (g : Build) where
+module _ (types : Types) (x : Lexeme) (k′ : List Symbol) (g : Build) where
   -- a step inserts at the place that is noted
-  pub step-moves : (k : List Symbol) (f : Build) → step k x f ≡ to k′ g → Sound k f → Moved (pick (wordOnTop k) 1 0) (insertedAt (topBeforeParts k) (isOperator (kind (tokenOf x))) (bodyOf f) (startOf g) (sizeOf f)) (placeOf x) (treeMarks f) (treeMarks g)
+  pub step-moves : (k : List Symbol) (f : Build) → step types k x f ≡ to k′ g → Sound k f → Moved (pick (wordOnTop k) 1 0) (insertedAt (topBeforeParts k) (isOperator (kind (tokenOf x))) (bodyOf f) (startOf g) (sizeOf f)) (placeOf x) (treeMarks f) (treeMarks g)
   unfolding insertedAt
   step-moves =
-      by-step x k′ g (λ k f. Sound k f → Moved (pick (wordOnTop k) 1 0) (insertedAt (topBeforeParts k) (isOperator (kind (tokenOf x))) (bodyOf f) (startOf g) (sizeOf f)) (placeOf x) (treeMarks f) (treeMarks g))
+      by-step types x k′ g (λ k f. Sound k f → Moved (pick (wordOnTop k) 1 0) (insertedAt (topBeforeParts k) (isOperator (kind (tokenOf x))) (bodyOf f) (startOf g) (sizeOf f)) (placeOf x) (treeMarks f) (treeMarks g))
       (λ s k f ds ss r e m h. takes s k f ds ss r e h (eqb (sort s) 1) refl (eqb (sort s) 2) refl)
       (λ s k f ds i l e q later h. leaves s k f ds i l e q h (eqb (sort s) 1) refl)
     where
-      nothing : (f : Build) (k : List Symbol) → Since x f f k
+      nothing : (f : Build) (k : List Symbol) → Since types x f f k
       nothing f k = record { come = nothing-came (placeOf x) (treeMarks f); guard = λ o. inl refl }
 
-      takes : (s : Symbol) (k : List Symbol) (f : Build) (ds : List Action) (ss : List Symbol) → rowOf s (kind (tokenOf x)) ≡ some (row ds ss) → acts ds x f ≡ some g → Sound (s ∷ k) f → (a : Bool) → eqb (sort s) 1 ≡ a → (b : Bool) → eqb (sort s) 2 ≡ b → Moved (pick b 1 0) (pick a (bodyOf f) (pick (isOperator (kind (tokenOf x))) (startOf g) (sizeOf f))) (placeOf x) (treeMarks f) (treeMarks g)
-      takes s k f ds ss r e h true i b j = inserted (sole-done x ds f g e .before (row-told x s ds ss r .before i))
-      takes s k f ds ss r e h false i true j = shortened (sole-done x ds f g e .instead-of (row-told x s ds ss r .instead-of i j) (h .word j))
-      takes s k f ds ss r e h false i false j = rest-taken x 0 g s k f f ds ss r e i j (nothing f (s ∷ k))
+      takes : (s : Symbol) (k : List Symbol) (f : Build) (ds : List Action) (ss : List Symbol) → rowOf s (kind (tokenOf x)) ≡ some (row ds ss) → acts types ds x f ≡ some g → Sound (s ∷ k) f → (a : Bool) → eqb (sort s) 1 ≡ a → (b : Bool) → eqb (sort s) 2 ≡ b → Moved (pick b 1 0) (pick a (bodyOf f) (pick (isOperator (kind (tokenOf x))) (startOf g) (sizeOf f))) (placeOf x) (treeMarks f) (treeMarks g)
+      takes s k f ds ss r e h true i b j = inserted (sole-done types x ds f g e .before (row-told types x s ds ss r .before i))
+      takes s k f ds ss r e h false i true j = shortened (sole-done types x ds f g e .instead-of (row-told types x s ds ss r .instead-of i j) (h .word j))
+      takes s k f ds ss r e h false i false j = rest-taken types x 0 g s k f f ds ss r e i j (nothing f (s ∷ k))
 
       not-left : {A : Type 0} (n : ℕ) (ds : List Action) → Left n ds → eqb n 1 ≡ true → A
       not-left n [] (leftAlone no-sign no-one) i = false-not-true (sym no-one ∙ i)
       not-left n (close ∷ []) leftClosed i = false-not-true i
       not-left n (void t ∷ []) leftEmpty i = false-not-true i
 
-      leaves : (s : Symbol) (k : List Symbol) (f : Build) (ds : List Action) (i : Build) → leftOut s ≡ some ds → acts ds x f ≡ some i → step k x i ≡ to k′ g → Sound (s ∷ k) f → (a : Bool) → eqb (sort s) 1 ≡ a → Moved (pick (eqb (sort s) 2) 1 0) (pick a (bodyOf f) (pick (isOperator (kind (tokenOf x))) (startOf g) (sizeOf f))) (placeOf x) (treeMarks f) (treeMarks g)
+      leaves : (s : Symbol) (k : List Symbol) (f : Build) (ds : List Action) (i : Build) → leftOut s ≡ some ds → acts types ds x f ≡ some i → step types k x i ≡ to k′ g → Sound (s ∷ k) f → (a : Bool) → eqb (sort s) 1 ≡ a → Moved (pick (eqb (sort s) 2) 1 0) (pick a (bodyOf f) (pick (isOperator (kind (tokenOf x))) (startOf g) (sizeOf f))) (placeOf x) (treeMarks f) (treeMarks g)
       leaves s k f ds i l e q h true j = not-left (sort s) ds (out-left s ds l) j
-      leaves s k f ds i l e q h false j = rest-left x (pick (eqb (sort s) 2) 1 0) g s k f f ds i l e (h .stacked) (nothing f (s ∷ k)) (rest x (pick (eqb (sort s) 2) 1 0) g k′ f k i q)
+      leaves s k f ds i l e q h false j = rest-left types x (pick (eqb (sort s) 2) 1 0) g s k f f ds i l e (h .stacked) (nothing f (s ∷ k)) (rest types x (pick (eqb (sort s) 2) 1 0) g k′ f k i q)
 
   -- what is of sort 2 is on top only behind a word just read
-  word-behind : (s : Symbol) (k : List Symbol) (f : Build) (ds : List Action) (ss : List Symbol) → rowOf s (kind (tokenOf x)) ≡ some (row ds ss) → acts ds x f ≡ some g → Sound (s ∷ k) f → wordOnTop (ss ++ k) ≡ true → WordRead f g
+  word-behind : (s : Symbol) (k : List Symbol) (f : Build) (ds : List Action) (ss : List Symbol) → rowOf s (kind (tokenOf x)) ≡ some (row ds ss) → acts types ds x f ≡ some g → Sound (s ∷ k) f → wordOnTop (ss ++ k) ≡ true → WordRead f g
   word-behind s k f ds [] r e h w = no-word (sort s) k (h .stacked .0) w
-  word-behind s k f ds (y ∷ ss) r e h w = let told = row-told x s ds (y ∷ ss) r .behind-word w in sole-done x ds f g e .word (told .0) (told .1)
+  word-behind s k f ds (y ∷ ss) r e h w = let told = row-told types x s ds (y ∷ ss) r .behind-word w in sole-done types x ds f g e .word (told .0) (told .1)
 
   -- and the machine comes to such a state again
-  pub step-sound : (k : List Symbol) (f : Build) → step k x f ≡ to k′ g → Sound k f → Sound k′ g
+  pub step-sound : (k : List Symbol) (f : Build) → step types k x f ≡ to k′ g → Sound k f → Sound k′ g
   step-sound =
-      by-step x k′ g (λ k f. Sound k f → Sound k′ g)
-      (λ s k f ds ss r e m h. subst (λ (j : List Symbol). Sound j g) m (record { stacked = row-told x s ds ss r .keeps k (h .stacked .0) (h .stacked .1) (h .stacked .2); word = λ w. word-behind s k f ds ss r e h w .leaf }))
+      by-step types x k′ g (λ k f. Sound k f → Sound k′ g)
+      (λ s k f ds ss r e m h. subst (λ (j : List Symbol). Sound j g) m (record { stacked = row-told types x s ds ss r .keeps k (h .stacked .0) (h .stacked .1) (h .stacked .2); word = λ w. word-behind s k f ds ss r e h w .leaf }))
       (λ s k f ds i l e q later h. later (sound-below s k f i h))
 
   -- a step that reads one
-  pub step-word : (k : List Symbol) (f : Build) → step k x f ≡ to k′ g → Sound k f → wordOnTop k′ ≡ true → sizeOf f + 3 ≤ sizeOf g
+  pub step-word : (k : List Symbol) (f : Build) → step types k x f ≡ to k′ g → Sound k f → wordOnTop k′ ≡ true → sizeOf f + 3 ≤ sizeOf g
   step-word =
-      by-step x k′ g (λ k f. Sound k f → wordOnTop k′ ≡ true → sizeOf f + 3 ≤ sizeOf g)
+      by-step types x k′ g (λ k f. Sound k f → wordOnTop k′ ≡ true → sizeOf f + 3 ≤ sizeOf g)
       (λ s k f ds ss r e m h w. word-behind s k f ds ss r e h (ap wordOnTop m ∙ w) .wide)
-      (λ s k f ds i l e q later h w. omega (arith, later (sound-below s k f i h) w, left-grows x (sort s) ds f i (out-left s ds l) e))
+      (λ s k f ds i l e q later h w. omega (arith, later (sound-below s k f i h) w, left-grows types x (sort s) ds f i (out-left s ds l) e))
 
   -- so the log leads from the fields of the new tree, if it led from those of the old one
-  pub step-leads : (k : List Symbol) (f : Build) (l : List Insertion) → step k x f ≡ to k′ g → Sound k f → Leads l (treeMarks f) → Leads (noted k x f g l) (treeMarks g)
+  pub step-leads : (k : List Symbol) (f : Build) (l : List Insertion) → step types k x f ≡ to k′ g → Sound k f → Leads l (treeMarks f) → Leads (noted k x f g l) (treeMarks g)
   unfolding noted sizeOf
   step-leads k f l e h leads = moved-leads l (step-moves k f e h) leads
 
   -- and each entry stands for two bytes or more: one that goes again was of a word just read
-  pub step-short : (k : List Symbol) (f : Build) (l : List Insertion) → step k x f ≡ to k′ g → Sound k f → 2 * length l + pick (wordOnTop k) 1 0 ≤ sizeOf f → 2 * length (noted k x f g l) + pick (wordOnTop k′) 1 0 ≤ sizeOf g
+  pub step-short : (k : List Symbol) (f : Build) (l : List Insertion) → step types k x f ≡ to k′ g → Sound k f → 2 * length l + pick (wordOnTop k) 1 0 ≤ sizeOf f → 2 * length (noted k x f g l) + pick (wordOnTop k′) 1 0 ≤ sizeOf g
   unfolding noted sizeOf
   step-short k f l e h short = go (ltb (length (treeMarks f)) (length (treeMarks g))) refl (wordOnTop k′) refl (step-moves k f e h)
     where

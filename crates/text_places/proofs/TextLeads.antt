@@ -10,6 +10,7 @@ use Rattle.values.specs.declared.Reason.{Reason}
 use Rattle.rules.specs.EditRule.{IsBytes}
 use Rattle.rules.specs.Fields.{field, none as noFields, write, writeAll}
 use Rattle.rules.specs.Outcome.{Outcome, refused, done}
+use Rattle.rules.specs.Types.{Types}
 use Rattle.notation.specs.Tokens.{Lexeme, placeOf}
 use Rattle.notation.specs.Lexing.{tokens}
 use Rattle.notation.specs.Building.{Nodes, frame, Build, build, start}
@@ -41,18 +42,18 @@ first-following : Following manifest start []
 unfolding sizeOf treeMarks openMarks frontMarks aroundMarks openingMarks headMarks partMarks
 first-following = record { sound = start-sound; leads = record { leads = λ o p e. absurd (omega arith) }; short = omega arith }
 
-run-following : (xs : List Lexeme) (k : List Symbol) (f : Build) (l : List Insertion) (g : Build) → run xs k f ≡ built g → Following k f l → Following [] g (logged xs k f l)
+run-following : (types : Types) (xs : List Lexeme) (k : List Symbol) (f : Build) (l : List Insertion) (g : Build) → run types xs k f ≡ built g → Following k f l → Following [] g (logged types xs k f l)
 unfolding run logged
-run-following [] [] f l g e h = subst (λ (i : Build). Following [] i l) (same-built e) h
-run-following [] (y ∷ k) f l g e h = fault-not-built e
-run-following (x ∷ xs) k f l g e h = go (run-following xs) (step k x f) refl e
+run-following types [] [] f l g e h = subst (λ (i : Build). Following [] i l) (same-built e) h
+run-following types [] (y ∷ k) f l g e h = fault-not-built e
+run-following types (x ∷ xs) k f l g e h = go (run-following types xs) (step types k x f) refl e
   where
-    go : ((k : List Symbol) (f : Build) (l : List Insertion) (g : Build) → run xs k f ≡ built g → Following k f l → Following [] g (logged xs k f l)) → (o : Stepped) → step k x f ≡ o
-        → _≡_ {A = Ended} (elim o as (λ q. Ended) [ stuck ↦ fault (placeOf x) | to k′ i ↦ run xs k′ i ]) (built g) → Following [] g (elim o as (λ q. List Insertion) [ stuck ↦ l | to k′ i ↦ logged xs k′ i (noted k x f i l) ])
+    go : ((k : List Symbol) (f : Build) (l : List Insertion) (g : Build) → run types xs k f ≡ built g → Following k f l → Following [] g (logged types xs k f l)) → (o : Stepped) → step types k x f ≡ o
+        → _≡_ {A = Ended} (elim o as (λ q. Ended) [ stuck ↦ fault (placeOf x) | to k′ i ↦ run types xs k′ i ]) (built g) → Following [] g (elim o as (λ q. List Insertion) [ stuck ↦ l | to k′ i ↦ logged types xs k′ i (noted k x f i l) ])
     go later stuck j q = fault-not-built q
     go later (to k′ i) j q =
         later k′ i (noted k x f i l) g q
-        (record { sound = step-sound x k′ i k f j (h .sound); leads = step-leads x k′ i k f l j (h .sound) (h .leads); short = step-short x k′ i k f l j (h .sound) (h .short) })
+        (record { sound = step-sound types x k′ i k f j (h .sound); leads = step-leads types x k′ i k f l j (h .sound) (h .leads); short = step-short types x k′ i k f l j (h .sound) (h .short) })
 
 -- ---- Items
 
@@ -71,33 +72,33 @@ fault-gives p none items e = refused-not-done e
 fault-gives p (some q) items e = refused-not-done e
 
 -- the tree of a text that gives items
-record TreeOf (t : List ℕ) (items : Nodes) : Type 0 where
+record TreeOf (types : Types) (t : List ℕ) (items : Nodes) : Type 0 where
   tree : Build
   same : treeMarks tree ≡ partMarks items
-  following : Following [] tree (textLog t)
+  following : Following [] tree (textLog types t)
 
-tree-of : (t : List ℕ) → IsBytes t → (items : Nodes) → textItems (tokens t) ≡ done items → TreeOf t items
+tree-of : (types : Types) (t : List ℕ) → IsBytes t → (items : Nodes) → textItems types (tokens t) ≡ done items → TreeOf types t items
 unfolding textItems reading textLog
-tree-of t bytes items e = go (run (tokens t) manifest start) refl e
+tree-of types t bytes items e = go (run types (tokens t) manifest start) refl e
   where
-    go : (r : Ended) → run (tokens t) manifest start ≡ r → readText r (crowdedAt (tokens t) []) ≡ done items → TreeOf t items
+    go : (r : Ended) → run types (tokens t) manifest start ≡ r → readText r (crowdedAt (tokens t) []) ≡ done items → TreeOf types t items
     go (fault p) i j = fault-gives p (crowdedAt (tokens t) []) items j
     go (built g) i j =
-        let all = outermost t bytes g i in
+        let all = outermost types t bytes g i in
         record {
           tree = g;
           same = ap treeMarks (all .same) ∙ built-marks (all .nodes) (crowdedAt (tokens t) []) items (ap (λ (f : Build). readText (built f) (crowdedAt (tokens t) [])) (sym (all .same)) ∙ j);
-          following = run-following (tokens t) manifest start [] g i first-following;
+          following = run-following types (tokens t) manifest start [] g i first-following;
         }
 
-module _ (t : List ℕ) (bytes : IsBytes t) (items : Nodes) (e : textItems (tokens t) ≡ done items) where
-  pub items-lead : Leads (textLog t) (partMarks items)
-  items-lead = let w = tree-of t bytes items e in subst (Leads (textLog t)) (w .same) (w .following .leads)
+module _ (types : Types) (t : List ℕ) (bytes : IsBytes t) (items : Nodes) (e : textItems types (tokens t) ≡ done items) where
+  pub items-lead : Leads (textLog types t) (partMarks items)
+  items-lead = let w = tree-of types t bytes items e in subst (Leads (textLog types t)) (w .same) (w .following .leads)
 
   -- 262,144 bytes hold the log of a text whose manifest is not too long
-  pub log-short : length (manifestBytes (tokens t) items) ≤ 65535 → 8 * length (textLog t) ≤ 262144
+  pub log-short : length (manifestBytes (tokens t) items) ≤ 65535 → 8 * length (textLog types t) ≤ 262144
   unfolding sizeOf manifestBytes manifestFields write partsBytes
   log-short short =
-      let w = tree-of t bytes items e in
+      let w = tree-of types t bytes items e in
       let S : List (List ℕ) = tableBehind (tokens t) [] in
       omega (arith, short, w .following .short, ap length (w .same), parts-size S items, length-append (write (field 0 0x01 [] (stringFields S))) (writeAll (numberedOnto S items noFields)))

@@ -16,6 +16,7 @@ use Rattle.parse_table.specs.Codes.{symbolOf}
 use Rattle.tree_builder.specs.declared.Building.{Building}
 use Rattle.tree_builder.specs.Shows.{Ready}
 use Rattle.text_places.specs.Marks.{startOf, bodyOf, sizeOf}
+use Rattle.rules.specs.Types.{Types}
 
 -- bytes were inserted from an offset on, by the token at a place
 pub data Insertion : Type 0 where
@@ -81,13 +82,13 @@ noted k x f g l =
     l
 
 -- the log behind some tokens: one entry for each that inserts
-unfoldable pub logged : List Lexeme → List Symbol → Build → List Insertion → List Insertion
-logged [] k f l = l
-logged (x ∷ xs) k f l = elim (step k x f) as (λ o. List Insertion) [ stuck ↦ l | to k′ g ↦ logged xs k′ g (noted k x f g l) ]
+unfoldable pub logged : (types : Types) → List Lexeme → List Symbol → Build → List Insertion → List Insertion
+logged types [] k f l = l
+logged types (x ∷ xs) k f l = elim (step types k x f) as (λ o. List Insertion) [ stuck ↦ l | to k′ g ↦ logged types xs k′ g (noted k x f g l) ]
 
 -- the log of a text
-unfoldable pub textLog : (t : List ℕ) → List Insertion
-textLog t = logged (tokens t) manifest start []
+unfoldable pub textLog : (types : Types) (t : List ℕ) → List Insertion
+textLog types t = logged types (tokens t) manifest start []
 
 -- ---- The log in bytes: three for the offset, three for the size, two for the place
 

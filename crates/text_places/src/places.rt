@@ -1,13 +1,17 @@
 // The place in a text of a field of its manifest: the text is read as the converter reads it, and what each token inserts is noted.
 ghost use mathlib.Core.Path.{_≡_};
+ghost use mathlib.Core.Bool.{true};
 ghost use Prim.Native.Nat.{_≤_};
 ghost use lib.Dec.{eqb};
 ghost use lib.ListN.{length};
 ghost use Rattle.parse_table.specs.Codes.{symbolOf};
 ghost use Rattle.parse_table.specs.Stack.{stackOf};
+ghost use Rattle.rules.specs.Types.{Types, checkTypes};
+ghost use Rattle.rules.specs.declared.Verdict.the-variants.{Sound};
+ghost use Rattle.type_list.specs.Listed.{chosen, Listed};
 ghost use Rattle.converter.specs.Reading.{Readable};
 ghost use Rattle.text_places.specs.Log.{sort, topBeforeParts};
-ghost use Rattle.text_places.specs.Places.{NotedWhole, TextNoted, PlaceTold};
+ghost use Rattle.text_places.specs.Places.{NotedWhole, Noted, TextNoted, PlaceTold, PlaceGiven};
 use crate::log::follow;
 use crate::log::note;
 use converter::steps::Machine;
@@ -18,6 +22,7 @@ use interner::fields::table_size;
 use lexer::next_token;
 use parse_table::stack::MANIFEST;
 use parse_table::stack::push;
+use rules::Verdict;
 use tree_builder::nothing;
 
 // What comes of a text: how many strings and how many entries of the log it has, or that it is refused.
@@ -39,6 +44,9 @@ fn top_symbol(stack: &[u8], top: usize) -> u8
 
 // All tokens of a text, with the log.
 fn note_text(
+    types: &[u8],
+    index: &[u8],
+    listed: u16,
     text: &[u8],
     out: &mut [u8],
     frames: &mut [u8],
@@ -46,8 +54,8 @@ fn note_text(
     table: &mut [u8],
     log: &mut [u8],
 ) -> NotedText
-    requires { ⌜ Readable (now text) (now out) (now frames) (now stack) (now table) 0 ⌝ }
-    ensures { λ r. ⌜ TextNoted (now (text .entry)) r (now (table .exit)) (now (log .exit)) ⌝ }
+    requires { ⌜ Listed (now types) (now index) listed × Readable (now text) (now out) (now frames) (now stack) (now table) 0 ⌝ }
+    ensures { λ r. ⌜ TextNoted (chosen (now (types .entry))) (now (text .entry)) r (now (table .exit)) (now (log .exit)) ⌝ }
 {
     let top = push(stack, 1, MANIFEST);
     let mut pass = Pass {
@@ -66,7 +74,7 @@ fn note_text(
         let before = machine.building;
         let symbol = top_symbol(stack, machine.top);
         let token = next_token(text, pass.at, pass.line, pass.operand);
-        match read_token(text, out, frames, stack, table, pass) {
+        match read_token(types, index, listed, text, out, frames, stack, table, pass) {
             Read::On(next) => {
                 let behind = next.machine;
                 entries = note(log, entries, symbol, token, before, behind.building);
@@ -94,8 +102,8 @@ fn place_in(
     entries: usize,
     field: usize,
 ) -> usize
-    requires { ⌜ (length (now text) ≤ 65535) × (2050 ≤ length (now table)) × NotedWhole (now text) (now table) (now log) count entries ⌝ }
-    ensures { λ r. ⌜ PlaceTold (now (text .entry)) field (length (now (log .entry))) r ⌝ }
+    requires { ⌜ (length (now text) ≤ 65535) × (2050 ≤ length (now table)) × Noted (now text) (now table) (now log) count entries ⌝ }
+    ensures { λ r. ⌜ ((types : Types) → NotedWhole types (now (text .entry)) (now (table .entry)) (now (log .entry)) count entries → PlaceTold types (now (text .entry)) field (length (now (log .entry))) r) ⌝ }
 {
     let strings = table_size(text, table, count);
     if field < strings {
@@ -107,10 +115,10 @@ fn place_in(
     follow(log, entries, field - strings)
 }
 
-// The place in the text of the token that brought the field at the offset `field` of the text's manifest. The log needs eight bytes for each token that
-// inserts bytes: 262,144 are enough for a manifest that is not too long.
-pub fn field_place(text: &[u8], field: usize, log: &mut [u8]) -> usize
-    ensures { λ r. ⌜ PlaceTold (now (text .entry)) field (length (now (log .entry))) r ⌝ }
+// The place in the text of the token that brought the field at the offset `field`, with types without fault.
+fn place_chosen(types: &[u8], text: &[u8], field: usize, log: &mut [u8]) -> usize
+    requires { ⌜ checkTypes (chosen (now types)) ≡ Sound ⌝ }
+    ensures { λ r. ⌜ PlaceTold (chosen (now (types .entry))) (now (text .entry)) field (length (now (log .entry))) r ⌝ }
 {
     if 65535 < text.len() {
         return 0;
@@ -119,7 +127,12 @@ pub fn field_place(text: &[u8], field: usize, log: &mut [u8]) -> usize
     let mut frames = [0u8; 256];
     let mut stack = [0u8; 468];
     let mut table = [0u8; 2050];
+    let mut index = [0u8; type_list::INDEX];
+    let listed = type_list::index_types(types, &mut index);
     match note_text(
+        types,
+        &index,
+        listed,
         text,
         &mut out[0..0],
         &mut frames,
@@ -130,4 +143,32 @@ pub fn field_place(text: &[u8], field: usize, log: &mut [u8]) -> usize
         NotedText::Whole { count, entries } => place_in(text, &table, log, count, entries, field),
         NotedText::Refused => 0,
     }
+}
+
+// Whether a list, which may be none, is without fault.
+fn is_sound(types: &[u8]) -> bool
+    ensures { λ r. ⌜ (r ≡ true → checkTypes (chosen (now (types .entry))) ≡ Sound) × (checkTypes (chosen (now (types .entry))) ≡ Sound → r ≡ true) ⌝ }
+{
+    if types.len() == 0 {
+        return true;
+    }
+    let v = type_list::check_types(types);
+    match v {
+        Verdict::Sound => true,
+        Verdict::Fault {
+            reason: _,
+            place: _,
+        } => false,
+    }
+}
+
+// The place in the text of the token that brought the field at the offset `field` of the text's manifest, where these types are built in: an empty list means the
+// eight, and with one at fault there is no manifest. The log needs eight bytes for each token that inserts bytes: 262,144 are enough for a manifest that is not too long.
+pub fn field_place(types: &[u8], text: &[u8], field: usize, log: &mut [u8]) -> usize
+    ensures { λ r. ⌜ PlaceGiven (chosen (now (types .entry))) (now (text .entry)) field (length (now (log .entry))) r ⌝ }
+{
+    if !is_sound(types) {
+        return 0;
+    }
+    place_chosen(types, text, field, log)
 }

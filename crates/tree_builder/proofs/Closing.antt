@@ -9,6 +9,7 @@ use Rattle.wire.specs.Numbers.{highBytes}
 use Rattle.wire.specs.Runs.{over}
 use Rattle.wire.proofs.Laws.{high-length}
 use Rattle.rules.specs.Fields.{wrap, write}
+use Rattle.rules.specs.Types.{Types}
 use Rattle.notation.specs.Building.{Piece, node, Nodes, _▸_, tallest, Frame, frame, Build, build, close, act}
 use Rattle.notation.specs.Tokens.{Lexeme}
 use Rattle.notation.specs.Convert.{headBytes, numbered}
@@ -30,8 +31,8 @@ body-wrapped table p t h ks = refl
 slot-parts : (p q n : ℕ) {k : ℕ} → q < 4194304 → n < 64 → k ≡ slotNumber p q n → (k / 268435456 ≡ p) × (k / 64 % 4194304 ≡ q) × (k % 64 ≡ n)
 slot-parts p q n {k} a b e = (omega arith, omega arith, omega arith)
 
-module _ (table : List (List ℕ)) (s : Building) (m out : List ℕ) where
-  pub close-refused : (x : Lexeme) (f : Build) → s .depth ≡ 0 → Shows table s m out f → act close x f ≡ none
+module _ (types : Types) (table : List (List ℕ)) (s : Building) (m out : List ℕ) where
+  pub close-refused : (x : Lexeme) (f : Build) → s .depth ≡ 0 → Shows table s m out f → act types close x f ≡ none
   unfolding Shows act
   close-refused x (build b (frame p t h ks) []) outermost a = refl
   close-refused x (build b (frame p t h ks) (f ∷ fs)) outermost a = absurd (omega (arith, a .depth))
@@ -105,7 +106,7 @@ module _ (table : List (List ℕ)) (s : Building) (m out : List ℕ) where
         }
 
   pub close-made : (x : Lexeme) (f : Build) {n : ℕ} {out′ : List ℕ} {s′ : Building} → 0 < s .depth → Ready s → out′ ≡ over out (s .start + 1) (highBytes 2 ((s .fill - s .start - 3) % 65536)) → n ≡ slotIn m (s .depth - 1)
-      → s′ ≡ closedInto s n → Shows table s m out f → Made table (s .fill) out s′ m out′ (act close x f)
+      → s′ ≡ closedInto s n → Shows table s m out f → Made table (s .fill) out s′ m out′ (act types close x f)
   unfolding Shows act closedInto
   close-made x (build b (frame p t h ks) []) inside ready put read e a = absurd (omega (arith, a .depth))
   close-made x (build b (frame p t h ks) (frame q u g js ∷ fs)) inside ready put read e a =

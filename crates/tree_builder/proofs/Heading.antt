@@ -10,6 +10,7 @@ use Rattle.wire.specs.Numbers.{highBytes}
 use Rattle.wire.specs.Runs.{bytesAt, over}
 use Rattle.wire.proofs.Laws.{high-length}
 use Rattle.rules.specs.Fields.{Fields, none as noFields, more, write, writeAll}
+use Rattle.rules.specs.Types.{Types}
 use Rattle.notation.specs.Building.{Piece, byte, name, Node, node, Nodes, empty, _▸_, leaf, height, tallest, Frame, frame, build, named, parentFirst, act, inFront, addedFirst, spelled}
 use Rattle.notation.specs.Tokens.{placeOf, tokenOf}
 use Rattle.notation.specs.Convert.{labelIn, lateIn, lateAmong, orLater, headBytes, pieceBytes, numbered, numberedOnto}
@@ -17,7 +18,7 @@ use Rattle.tree_builder.specs.declared.Building.{Building}
 use Rattle.tree_builder.specs.declared.Step.the-variants.{Did, No}
 use Rattle.tree_builder.specs.Open.{low, Holds, partsBytes, aroundBytes, opening, headEnd, openBytes, lateAround, lateOpen, lateNumber}
 use Rattle.tree_builder.specs.State.{raised, withPart}
-use Rattle.tree_builder.specs.Shows.{numberIn, LastPart, Shown, Shows, Answers, Does, AName}
+use Rattle.tree_builder.specs.Shows.{numberIn, LastPart, Shown, Shows, Answers, DoesAt, AName}
 use Rattle.tree_builder.proofs.Stores.{low-append, low-length, holds-inserted, kept-lifted}
 use Rattle.tree_builder.proofs.Bytes.{low-high}
 use Rattle.tree_builder.proofs.Slots.{around-higher}
@@ -197,9 +198,9 @@ module _ (table : List (List ℕ)) (s : Building) (m out : List ℕ) {moved out�
 
 -- ---- The ways of `add_name` and `parent_first`
 
-module _ (s : Building) (m out : List ℕ) (n : ℕ) {moved out′ : List ℕ} {s′ : Building} where
-  pub name-made : moved ≡ over out (s .body + 2) (bytesAt out (s .body) (s .fill - s .body)) → out′ ≡ over moved (s .body) (highBytes 2 n) → s′ ≡ raised s 2 2 → Does (AName n) named s m out (Did s′) m out′
-  unfolding Does Answers act Shows AName raised
+module _ (types : Types) (s : Building) (m out : List ℕ) (n : ℕ) {moved out′ : List ℕ} {s′ : Building} where
+  pub name-made : moved ≡ over out (s .body + 2) (bytesAt out (s .body) (s .fill - s .body)) → out′ ≡ over moved (s .body) (highBytes 2 n) → s′ ≡ raised s 2 2 → DoesAt types (AName n) named s m out (Did s′) m out′
+  unfolding DoesAt Answers act Shows AName raised
   name-made up put e table (build b (frame q t h ks) fs) x is a =
       record {
         made = build b (frame q t (h ++ (name (spelled (tokenOf x)) ∷ [])) ks) fs;
@@ -210,8 +211,8 @@ module _ (s : Building) (m out : List ℕ) (n : ℕ) {moved out′ : List ℕ} {
       }
 
   module _ (room : s .depth < 32) (up : moved ≡ over out (s .body + 5) (bytesAt out (s .body) (s .fill - s .body))) (put : out′ ≡ over moved (s .body) ((0x35 ∷ highBytes 2 2) ++ highBytes 2 n)) where
-    pub parent-only : s .tallest ≡ 0 → s′ ≡ withPart s 5 (s .late) → Does (AName n) parentFirst s m out (Did s′) m out′
-    unfolding Does Answers act Shows AName addedFirst tallest height highBytes withPart raised
+    pub parent-only : s .tallest ≡ 0 → s′ ≡ withPart s 5 (s .late) → DoesAt types (AName n) parentFirst s m out (Did s′) m out′
+    unfolding DoesAt Answers act Shows AName addedFirst tallest height highBytes withPart raised
     parent-only flat e table (build b (frame q t h (ks ▸ node p v g js)) fs) x is a = absurd (omega (arith, a .tall))
     parent-only flat e table (build b (frame q t h empty) fs) x is a =
         record {
@@ -224,8 +225,8 @@ module _ (s : Building) (m out : List ℕ) (n : ℕ) {moved out′ : List ℕ} {
               (name-bytes table (placeOf x) 0x35 n (spelled (tokenOf x)) (omega arith) is) refl up put room a);
         }
 
-    pub parent-before : 0 < s .tallest → s′ ≡ raised s 0 5 → Does (AName n) parentFirst s m out (Did s′) m out′
-    unfolding Does Answers act Shows AName addedFirst tallest height highBytes withPart raised
+    pub parent-before : 0 < s .tallest → s′ ≡ raised s 0 5 → DoesAt types (AName n) parentFirst s m out (Did s′) m out′
+    unfolding DoesAt Answers act Shows AName addedFirst tallest height highBytes withPart raised
     parent-before tall e table (build b (frame q t h empty) fs) x is a = absurd (omega (arith, a .tall))
     parent-before tall e table (build b (frame q t h (ks ▸ j)) fs) x is a =
         record {
@@ -238,6 +239,6 @@ module _ (s : Building) (m out : List ℕ) (n : ℕ) {moved out′ : List ℕ} {
               (name-bytes table (placeOf x) 0x35 n (spelled (tokenOf x)) (omega arith) is) refl up put room a);
         }
 
-pub parent-refused : (s : Building) (m out : List ℕ) (n : ℕ) → 32 ≤ s .depth → Does (AName n) parentFirst s m out No m out
-unfolding Does Answers act Shows addedFirst
-parent-refused s m out n full table (build b (frame q t h ks) fs) x is a = rw (lt-leb (length fs + 1) 32 (omega (arith, a .depth)))
+pub parent-refused : (types : Types) (s : Building) (m out : List ℕ) (n : ℕ) → 32 ≤ s .depth → DoesAt types (AName n) parentFirst s m out No m out
+unfolding DoesAt Answers act Shows addedFirst
+parent-refused types s m out n full table (build b (frame q t h ks) fs) x is a = rw (lt-leb (length fs + 1) 32 (omega (arith, a .depth)))

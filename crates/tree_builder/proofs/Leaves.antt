@@ -11,6 +11,7 @@ use Rattle.wire.specs.Numbers.{highBytes, word64}
 use Rattle.wire.specs.Runs.{over}
 use Rattle.wire.proofs.Laws.{then-store}
 use Rattle.rules.specs.Fields.{write}
+use Rattle.rules.specs.Types.{Types}
 use Rattle.notation.specs.Tokens.{Lexeme, placeOf}
 use Rattle.notation.specs.Building.{Piece, byte, name, Node, _▸_, leaf, height, tallest, frame, build, void, constant, read, act, added, constantNode, variableNode}
 use Rattle.notation.specs.Convert.{lateIn, lateAmong, pieceBytes, headBytes, numbered}
@@ -18,7 +19,7 @@ use Rattle.tree_builder.specs.declared.Building.{Building}
 use Rattle.tree_builder.specs.declared.Step.the-variants.{Did, No}
 use Rattle.tree_builder.specs.Open.{low, lateNumber}
 use Rattle.tree_builder.specs.State.{withPart, lateWith}
-use Rattle.tree_builder.specs.Shows.{numberIn, LastPart, Shown, Shows, Answers, Does, AnyToken, AnInteger, ABoolean, AString, AVariable, AClassVariable}
+use Rattle.tree_builder.specs.Shows.{numberIn, LastPart, Shown, Shows, Answers, DoesAt, AnyToken, AnInteger, ABoolean, AString, AVariable, AClassVariable}
 use Rattle.tree_builder.proofs.Stores.{low-append, low-length, kept-behind}
 use Rattle.tree_builder.proofs.Bytes.{low-high, low-leaf}
 use Rattle.tree_builder.proofs.Late.{late-plain, late-constant}
@@ -89,36 +90,36 @@ signed-stored m p a q z {y} first second e end = then-store m p a q (highBytes 8
 abbrev asWord : Building → (name before : ℕ) → Building
 asWord r n o = record { brackets = r .brackets; depth = r .depth; fill = r .fill; start = r .start; body = r .body; tallest = r .tallest; last = r .last; height = r .height; late = r .late; word = true; name = n; before = o }
 
-module _ (s : Building) (m out : List ℕ) where
+module _ (types : Types) (s : Building) (m out : List ℕ) where
   module _ (P : List (List ℕ) → Lexeme → Type 0) (full : 32 ≤ s .depth) where
-    pub void-refused : (t : ℕ) → Does P (void t) s m out No m out
-    unfolding Does Answers act
+    pub void-refused : (t : ℕ) → DoesAt types P (void t) s m out No m out
+    unfolding DoesAt Answers act
     void-refused t table f x p a = no-room table s m out (leaf (placeOf x) t []) f full a
 
-    pub constant-refused : Does P constant s m out No m out
-    unfolding Does Answers act
+    pub constant-refused : DoesAt types P constant s m out No m out
+    unfolding DoesAt Answers act
     constant-refused table f x p a = no-room table s m out (constantNode x) f full a
 
-    pub read-refused : Does P read s m out No m out
-    unfolding Does Answers act
+    pub read-refused : DoesAt types P read s m out No m out
+    unfolding DoesAt Answers act
     read-refused table f x p a = no-room table s m out (variableNode x) f full a
 
   module _ {out′ : List ℕ} {s′ : Building} (room : s .depth < 32) where
-    pub void-made : (t : ℕ) → t < 256 → out′ ≡ over out (s .fill) (t ∷ highBytes 2 0) → s′ ≡ withPart s 3 (s .late) → Does AnyToken (void t) s m out (Did s′) m out′
-    unfolding Does Answers act height highBytes
+    pub void-made : (t : ℕ) → t < 256 → out′ ≡ over out (s .fill) (t ∷ highBytes 2 0) → s′ ≡ withPart s 3 (s .late) → DoesAt types AnyToken (void t) s m out (Did s′) m out′
+    unfolding DoesAt Answers act height highBytes
     void-made t small put e table f x p a =
         part-added table s m out (leaf (placeOf x) t []) (s .late) 3 (t ∷ highBytes 2 0) refl (void-bytes table (placeOf x) t small) refl (omega arith) put
         (λ o n. n ∙ ap lateNumber (sym (late-plain (placeOf x) t [] o (omega arith)))) f room e a
 
-    pub variable-made : (t n : ℕ) → t < 256 → out′ ≡ over out (s .fill) ((t ∷ highBytes 2 2) ++ highBytes 2 n) → s′ ≡ withPart s 5 (s .late) → Does (AVariable t n) read s m out (Did s′) m out′
-    unfolding Does Answers act height highBytes
+    pub variable-made : (t n : ℕ) → t < 256 → out′ ≡ over out (s .fill) ((t ∷ highBytes 2 2) ++ highBytes 2 n) → s′ ≡ withPart s 5 (s .late) → DoesAt types (AVariable t n) read s m out (Did s′) m out′
+    unfolding DoesAt Answers act height highBytes
     variable-made t n small put e table f x v a =
         rw (v .is)
         (part-added table s m out (leaf (v .place) t (name (v .spelled) ∷ [])) (s .late) 5 ((t ∷ highBytes 2 2) ++ highBytes 2 n) refl (name-bytes table (v .place) t n (v .spelled) small (v .number)) refl (omega arith) put
         (λ o n. n ∙ ap lateNumber (sym (late-plain (v .place) t (name (v .spelled) ∷ []) o (omega arith)))) f room e a)
 
-    pub class-made : (c n : ℕ) → out′ ≡ over out (s .fill) (((0x15 ∷ highBytes 2 4) ++ highBytes 2 c) ++ highBytes 2 n) → s′ ≡ withPart s 7 (s .late) → Does (AClassVariable c n) read s m out (Did s′) m out′
-    unfolding Does Answers act height highBytes
+    pub class-made : (c n : ℕ) → out′ ≡ over out (s .fill) (((0x15 ∷ highBytes 2 4) ++ highBytes 2 c) ++ highBytes 2 n) → s′ ≡ withPart s 7 (s .late) → DoesAt types (AClassVariable c n) read s m out (Did s′) m out′
+    unfolding DoesAt Answers act height highBytes
     class-made c n put e table f x v a =
         rw (v .is)
         (part-added table s m out (leaf (v .place) 0x15 (name (v .scope) ∷ name (v .spelled) ∷ [])) (s .late) 7 (((0x15 ∷ highBytes 2 4) ++ highBytes 2 c) ++ highBytes 2 n) refl
@@ -126,22 +127,22 @@ module _ (s : Building) (m out : List ℕ) where
         (λ o n. n ∙ ap lateNumber (sym (late-plain (v .place) 0x15 (name (v .scope) ∷ name (v .spelled) ∷ []) o (omega arith)))) f room e a)
 
     module _ (l p : ℕ) {late : ℕ} (lately : late ≡ lateWith (s .late) l p) where
-      pub integer-made : (z : ℤ) → out′ ≡ over out (s .fill) ((0x10 ∷ highBytes 2 9 ++ (l % 256 ∷ [])) ++ highBytes 8 (word64 z)) → s′ ≡ withPart s 12 late → Does (AnInteger l p z) constant s m out (Did s′) m out′
-      unfolding Does Answers act height highBytes AnInteger constantNode lateIn lateAmong
+      pub integer-made : (z : ℤ) → out′ ≡ over out (s .fill) ((0x10 ∷ highBytes 2 9 ++ (l % 256 ∷ [])) ++ highBytes 8 (word64 z)) → s′ ≡ withPart s 12 late → DoesAt types (AnInteger l p z) constant s m out (Did s′) m out′
+      unfolding DoesAt Answers act height highBytes AnInteger constantNode lateIn lateAmong
       integer-made z put e table f x is a =
           rw is
           (part-added table s m out (leaf p 0x10 (byte l ∷ map byte (highBytes 8 (word64 z)))) late 12 ((0x10 ∷ highBytes 2 9 ++ (l % 256 ∷ [])) ++ highBytes 8 (word64 z)) refl (integer-bytes table p l z) refl (omega arith) put
           (λ o n. lately ∙ late-constant o (s .late) l p n) f room e a)
 
-      pub boolean-made : (v : ℕ) → out′ ≡ over out (s .fill) ((0x12 ∷ highBytes 2 2 ++ (l % 256 ∷ [])) ++ highBytes 1 v) → s′ ≡ withPart s 5 late → Does (ABoolean l p v) constant s m out (Did s′) m out′
-      unfolding Does Answers act height highBytes ABoolean lateIn lateAmong
+      pub boolean-made : (v : ℕ) → out′ ≡ over out (s .fill) ((0x12 ∷ highBytes 2 2 ++ (l % 256 ∷ [])) ++ highBytes 1 v) → s′ ≡ withPart s 5 late → DoesAt types (ABoolean l p v) constant s m out (Did s′) m out′
+      unfolding DoesAt Answers act height highBytes ABoolean lateIn lateAmong
       boolean-made v put e table f x is a =
           rw is
           (part-added table s m out (leaf p 0x12 (byte l ∷ byte v ∷ [])) late 5 ((0x12 ∷ highBytes 2 2 ++ (l % 256 ∷ [])) ++ highBytes 1 v) refl (boolean-bytes table p l v) refl (omega arith) put
           (λ o n. lately ∙ late-constant o (s .late) l p n) f room e a)
 
-      pub string-made : (n : ℕ) → out′ ≡ over out (s .fill) ((0x11 ∷ highBytes 2 3 ++ (l % 256 ∷ [])) ++ highBytes 2 n) → s′ ≡ withPart s 6 late → Does (AString l p n) constant s m out (Did (asWord s′ n (s .late))) m out′
-      unfolding Does Answers act height highBytes lateIn lateAmong Shows added LastPart withPart
+      pub string-made : (n : ℕ) → out′ ≡ over out (s .fill) ((0x11 ∷ highBytes 2 3 ++ (l % 256 ∷ [])) ++ highBytes 2 n) → s′ ≡ withPart s 6 late → DoesAt types (AString l p n) constant s m out (Did (asWord s′ n (s .late))) m out′
+      unfolding DoesAt Answers act height highBytes lateIn lateAmong Shows added LastPart withPart
       string-made n put e table (build b (frame q t h ks) fs) x v a =
           let k : Node = leaf p 0x11 (byte l ∷ name (v .spelled) ∷ []) in
           let y : Shown table s′ m out′ b t h (ks ▸ k) fs =

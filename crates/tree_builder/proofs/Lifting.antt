@@ -11,6 +11,7 @@ use Rattle.wire.specs.Numbers.{highBytes}
 use Rattle.wire.specs.Runs.{bytesAt, over}
 use Rattle.wire.proofs.Laws.{high-length, then-store}
 use Rattle.rules.specs.Fields.{write}
+use Rattle.rules.specs.Types.{Types}
 use Rattle.notation.specs.Building.{Piece, byte, name, Node, node, Nodes, empty, _▸_, leaf, height, tallest, Frame, frame, Build, build, around, instead, act}
 use Rattle.notation.specs.Tokens.{Lexeme, placeOf}
 use Rattle.notation.specs.Convert.{labelIn, headBytes, pieceBytes, numbered}
@@ -18,21 +19,21 @@ use Rattle.tree_builder.specs.declared.Building.{Building}
 use Rattle.tree_builder.specs.declared.Step.the-variants.{Did, No}
 use Rattle.tree_builder.specs.Open.{low, Holds, headEnd, openBytes, lateOpen, lateNumber}
 use Rattle.tree_builder.specs.State.{slotNumber, openedAt}
-use Rattle.tree_builder.specs.Shows.{numberIn, LastPart, LastWord, Shown, Shows, Made, Answers, Does, AnyToken, Ready}
+use Rattle.tree_builder.specs.Shows.{numberIn, LastPart, LastWord, Shown, Shows, Made, Answers, DoesAt, AnyToken, Ready}
 use Rattle.tree_builder.proofs.Stores.{low-append, low-length, holds-more, holds-less, holds-inserted, kept-behind, kept-lifted}
 use Rattle.tree_builder.proofs.Bytes.{head-end, open-none, open-more, low-header}
 use Rattle.tree_builder.proofs.Late.{late-begun, late-around}
 use Rattle.tree_builder.proofs.Opening.{NewField, field-shown}
 use Rattle.tree_builder.proofs.Leaves.{head-name, head-none}
 
-module _ (table : List (List ℕ)) (s : Building) (m out : List ℕ) where
+module _ (types : Types) (table : List (List ℕ)) (s : Building) (m out : List ℕ) where
   -- the field being read has no part, or the last one would be too deep
-  pub around-nothing : (u : ℕ) (g : List Piece) (x : Lexeme) (f : Build) → s .tallest ≡ 0 → Shows table s m out f → act (around u g) x f ≡ none
+  pub around-nothing : (u : ℕ) (g : List Piece) (x : Lexeme) (f : Build) → s .tallest ≡ 0 → Shows table s m out f → act types (around u g) x f ≡ none
   unfolding Shows act tallest
   around-nothing u g x (build b (frame p t h empty) fs) flat a = refl
   around-nothing u g x (build b (frame p t h (ks ▸ node q v i js)) fs) flat a = absurd (omega (arith, a .tall))
 
-  pub around-refused : (u : ℕ) (g : List Piece) (x : Lexeme) (f : Build) → 32 ≤ s .depth + s .height → Shows table s m out f → act (around u g) x f ≡ none
+  pub around-refused : (u : ℕ) (g : List Piece) (x : Lexeme) (f : Build) → 32 ≤ s .depth + s .height → Shows table s m out f → act types (around u g) x f ≡ none
   unfolding Shows act LastPart
   around-refused u g x (build b (frame p t h empty) fs) deep a = refl
   around-refused u g x (build b (frame p t h (ks ▸ k)) fs) deep a = rw (lt-leb (suc (length fs) + height k) 32 (omega (arith, a .depth, a .last .1)))
@@ -75,7 +76,7 @@ module _ (table : List (List ℕ)) (s : Building) (m out : List ℕ) where
           }
 
       pub around-made : (x : Lexeme) (f : Build) {s′ : Building} → 0 < s .tallest → s .depth + s .height < 32 → s′ ≡ openedAt s (s .last) (s .last + n) (s .fill + n) (s .height) (s .late) → Shows table s m out f
-          → Made table (s .fill) out s′ m′ out′ (act (around u g) x f)
+          → Made table (s .fill) out s′ m′ out′ (act types (around u g) x f)
       unfolding Shows act LastPart tallest openedAt
       around-made x (build b (frame p t h empty) fs) tall shallow e a = absurd (omega (arith, a .tall))
       around-made x (build b (frame p t h (ks ▸ k)) fs) tall shallow e a =
@@ -120,7 +121,7 @@ module _ (table : List (List ℕ)) (s : Building) (m out : List ℕ) where
             bytes = rw (ap low none ∙ low-append whole header ∙ ap (λ (l : List ℕ). low whole ++ l) lows) (holds-more (low whole) stored (s .last) held put (last ∙ sym (low-length whole)));
           }
 
-      pub instead-made : (x : Lexeme) (f : Build) {s′ : Building} → s .word ≡ true → s′ ≡ openedAt s (s .last) (s .last + 5) (s .last + 5) 0 (s .before) → Shows table s m out f → Made table (s .fill) out s′ m′ out′ (act (instead u) x f)
+      pub instead-made : (x : Lexeme) (f : Build) {s′ : Building} → s .word ≡ true → s′ ≡ openedAt s (s .last) (s .last + 5) (s .last + 5) 0 (s .before) → Shows table s m out f → Made table (s .fill) out s′ m′ out′ (act types (instead u) x f)
       unfolding Shows act tallest openedAt
       instead-made x (build b (frame p t h ks) fs) is e a =
           let w : LastWord table s ks fs = a .word is in
@@ -143,31 +144,31 @@ operator-low table u o small =
 
 -- ---- The ways of the functions, whatever the table and the tree
 
-module _ (s : Building) (m out : List ℕ) where
-  pub flat-refused : (u : ℕ) (g : List Piece) → s .tallest ≡ 0 → Does AnyToken (around u g) s m out No m out
-  unfolding Does Answers
-  flat-refused u g flat table f x p a = around-nothing table s m out u g x f flat a
+module _ (types : Types) (s : Building) (m out : List ℕ) where
+  pub flat-refused : (u : ℕ) (g : List Piece) → s .tallest ≡ 0 → DoesAt types AnyToken (around u g) s m out No m out
+  unfolding DoesAt Answers
+  flat-refused u g flat table f x p a = around-nothing types table s m out u g x f flat a
 
-  pub deep-refused : (u : ℕ) (g : List Piece) → 32 ≤ s .depth + s .height → Does AnyToken (around u g) s m out No m out
-  unfolding Does Answers
-  deep-refused u g deep table f x p a = around-refused table s m out u g x f deep a
+  pub deep-refused : (u : ℕ) (g : List Piece) → 32 ≤ s .depth + s .height → DoesAt types AnyToken (around u g) s m out No m out
+  unfolding DoesAt Answers
+  deep-refused u g deep table f x p a = around-refused types table s m out u g x f deep a
 
   module _ {m′ out′ : List ℕ} {s′ : Building} (room : 256 ≤ length m) (ready : Ready s) (save : m′ ≡ over m (8 * s .depth) (highBytes 8 (slotNumber (s .start) (s .body) (s .tallest)))) (u : ℕ) (small : u < 256) where
     pub plain-made : 0 < s .tallest → s .depth + s .height < 32 → out′ ≡ over (over out (s .last + 3) (bytesAt out (s .last) (s .fill - s .last))) (s .last) (u ∷ highBytes 2 0)
-        → s′ ≡ openedAt s (s .last) (s .last + 3) (s .fill + 3) (s .height) (s .late) → Does AnyToken (around u []) s m out (Did s′) m′ out′
-    unfolding Does Answers headBytes highBytes
+        → s′ ≡ openedAt s (s .last) (s .last + 3) (s .fill + 3) (s .height) (s .late) → DoesAt types AnyToken (around u []) s m out (Did s′) m′ out′
+    unfolding DoesAt Answers headBytes highBytes
     plain-made tall shallow put e table f x p a =
-        around-made table s m out room ready save u [] (u ∷ highBytes 2 0) 3 (low-header u small) refl (omega arith) (omega arith) refl put x f tall shallow e a
+        around-made types table s m out room ready save u [] (u ∷ highBytes 2 0) 3 (low-header u small) refl (omega arith) (omega arith) refl put x f tall shallow e a
 
     pub operator-made : (o : ℕ) {mid : List ℕ} → o < 256 → 0 < s .tallest → s .depth + s .height < 32 → mid ≡ over (over out (s .last + 4) (bytesAt out (s .last) (s .fill - s .last))) (s .last) (u ∷ highBytes 2 0)
-        → out′ ≡ over mid (s .last + 3) (highBytes 1 o) → s′ ≡ openedAt s (s .last) (s .last + 4) (s .fill + 4) (s .height) (s .late) → Does AnyToken (around u (byte o ∷ [])) s m out (Did s′) m′ out′
-    unfolding Does Answers highBytes
+        → out′ ≡ over mid (s .last + 3) (highBytes 1 o) → s′ ≡ openedAt s (s .last) (s .last + 4) (s .fill + 4) (s .height) (s .late) → DoesAt types AnyToken (around u (byte o ∷ [])) s m out (Did s′) m′ out′
+    unfolding DoesAt Answers highBytes
     operator-made o low tall shallow header put e table f x p a =
-        around-made table s m out room ready save u (byte o ∷ []) ((u ∷ highBytes 2 0) ++ highBytes 1 o) 4 (operator-low table u o small) refl (omega arith) (omega arith) refl
+        around-made types table s m out room ready save u (byte o ∷ []) ((u ∷ highBytes 2 0) ++ highBytes 1 o) 4 (operator-low table u o small) refl (omega arith) (omega arith) refl
         (then-store (over out (s .last + 4) (bytesAt out (s .last) (s .fill - s .last))) (s .last) (u ∷ highBytes 2 0) (s .last + 3) (highBytes 1 o) header put (omega arith)) x f tall shallow e a
 
     pub word-made : {mid : List ℕ} → s .word ≡ true → mid ≡ over out (s .last) (u ∷ highBytes 2 0) → out′ ≡ over mid (s .last + 3) (highBytes 2 (s .name)) → s′ ≡ openedAt s (s .last) (s .last + 5) (s .last + 5) 0 (s .before)
-        → Does AnyToken (instead u) s m out (Did s′) m′ out′
-    unfolding Does Answers
+        → DoesAt types AnyToken (instead u) s m out (Did s′) m′ out′
+    unfolding DoesAt Answers
     word-made is header put e table f x p a =
-        instead-made table s m out room ready save u small (then-store out (s .last) (u ∷ highBytes 2 0) (s .last + 3) (highBytes 2 (s .name)) header put (omega (arith, high-length 2 0))) x f is e a
+        instead-made types table s m out room ready save u small (then-store out (s .last) (u ∷ highBytes 2 0) (s .last + 3) (highBytes 2 (s .name)) header put (omega (arith, high-length 2 0))) x f is e a

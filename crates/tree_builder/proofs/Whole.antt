@@ -9,13 +9,14 @@ use Rattle.wire.specs.Runs.{over}
 use Rattle.wire.proofs.Laws.{over-front, over-length}
 use Rattle.rules.specs.EditRule.{IsBytes}
 use Rattle.rules.specs.Fields.{none as noFields, write, writeAll}
+use Rattle.rules.specs.Types.{Types}
 use Rattle.notation.specs.Tokens.{tokenOf}
 use Rattle.notation.specs.Building.{Nodes, tallest, frame, build, start, begin, beginResource, resourceTag, spelled, act}
 use Rattle.notation.specs.Convert.{lateAmong, headBytes, numbered, numberedOnto}
 use Rattle.tree_builder.specs.declared.Building.{Building}
 use Rattle.tree_builder.specs.declared.Step.{Step}
 use Rattle.tree_builder.specs.Open.{low, opening, partsBytes, aroundBytes, headEnd, openBytes, lateAround, lateOpen, lateNumber}
-use Rattle.tree_builder.specs.Shows.{LastPart, Around, Shows, Does, AnyToken}
+use Rattle.tree_builder.specs.Shows.{LastPart, Around, Shows, DoesAt, AnyToken}
 use Rattle.tree_builder.proofs.Adding.{false-not-true}
 
 -- nothing is read yet
@@ -76,6 +77,6 @@ module _ (table : List (List ℕ)) (s : Building) (m out : List ℕ) (b p t : �
       ap (λ (n : ℕ). take n out) size ∙ ap (take (0 + length bs)) is ∙ over-front base 0 bs (omega (arith, ap length is, over-length base 0 bs))
 
 -- a resource, of the tag that its type has
-pub resource-begins : (s : Building) (m out : List ℕ) (r : Step) (m′ out′ : List ℕ) (tag : ℕ) → Does AnyToken (begin tag) s m out r m′ out′ → Does (λ table x. tag ≡ resourceTag (spelled (tokenOf x))) beginResource s m out r m′ out′
-unfolding Does act
-resource-begins s m out r m′ out′ tag does table f x e a = rw (sym e) (does table f x tt a)
+pub resource-begins : (types : Types) (s : Building) (m out : List ℕ) (r : Step) (m′ out′ : List ℕ) (tag : ℕ) → DoesAt types AnyToken (begin tag) s m out r m′ out′ → DoesAt types (λ table x. tag ≡ resourceTag types (spelled (tokenOf x))) beginResource s m out r m′ out′
+unfolding DoesAt act
+resource-begins types s m out r m′ out′ tag does table f x e a = rw (sym e) (does table f x tt a)

@@ -8,6 +8,7 @@ use lib.IntN.{ℤ}
 use lib.ListN.{length}
 use Rattle.wire.specs.Bytes.{byte as at}
 use Rattle.rules.specs.Compile.{stringNumber}
+use Rattle.rules.specs.Types.{Types}
 use Rattle.notation.specs.Building.{Piece, byte, name, Nodes, empty, _▸_, leaf, height, tallest, Frame, frame, Build, build, Action, act, constantNode, variableNode, spelled}
 use Rattle.notation.specs.Tokens.{Lexeme, lexeme, number, tokenOf}
 use Rattle.notation.specs.Grammar.{orZero}
@@ -84,8 +85,12 @@ module _ (table : List (List ℕ)) where
   Answers n given (Did s) m out o = Made n given s m out o
 
 -- an action at any token of which P holds: from whatever tree the state, the slots and the output stand for, to what the answer says
-unfoldable pub Does : (P : (table : List (List ℕ)) → Lexeme → Type 0) → Action → Building → (frames out : List ℕ) → Step → (frames′ out′ : List ℕ) → Type 0
-Does P a s m out r m′ out′ = (table : List (List ℕ)) (f : Build) (x : Lexeme) → P table x → Shows table s m out f → Answers table (s .fill) out r m′ out′ (act a x f)
+unfoldable pub DoesAt : Types → (P : (table : List (List ℕ)) → Lexeme → Type 0) → Action → Building → (frames out : List ℕ) → Step → (frames′ out′ : List ℕ) → Type 0
+DoesAt types P a s m out r m′ out′ = (table : List (List ℕ)) (f : Build) (x : Lexeme) → P table x → Shows table s m out f → Answers table (s .fill) out r m′ out′ (act types a x f)
+
+-- whatever types are built in: a field's tag is handed in
+abbrev pub Does : (P : (table : List (List ℕ)) → Lexeme → Type 0) → Action → Building → (frames out : List ℕ) → Step → (frames′ out′ : List ℕ) → Type 0
+Does P a s m out r m′ out′ = (types : Types) → DoesAt types P a s m out r m′ out′
 
 abbrev pub AnyToken : List (List ℕ) → Lexeme → Type 0
 AnyToken table x = Unit {0}

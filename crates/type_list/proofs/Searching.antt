@@ -334,3 +334,14 @@ lent-chosen (b ∷ bs) e = refl
 pub chosen-sound : (list : List ℕ) → checkList list ≡ Sound → checkTypes (chosen list) ≡ Sound
 unfolding checkTypes
 chosen-sound list e = rw (lent-chosen list e) e
+
+-- where none is lent there is no fault, and where one is lent its check decides
+pub none-sound : (list : List ℕ) → length list ≡ 0 → checkTypes (chosen list) ≡ Sound
+unfolding chosen checkTypes
+none-sound [] h = refl
+none-sound (b ∷ bs) h = absurd (omega arith)
+
+pub fault-not-sound : {A : Type 0} (list : List ℕ) {r : Reason} {p : ℕ} → (length list ≡ 0 → ⊥) → checkList list ≡ Fault r p → checkTypes (chosen list) ≡ Sound → A
+unfolding chosen checkTypes
+fault-not-sound [] some f e = absurd (some refl)
+fault-not-sound (b ∷ bs) some f e = not-fault (sym f ∙ e)

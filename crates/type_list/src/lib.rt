@@ -153,5 +153,6 @@ pub fn is_type(list: &[u8], index: &[u8], count: u16, text: &[u8]) -> bool
         return false;
     }
     let place = two_at(index, 2 * before as usize) as usize;
-    same_bytes(text, text_of(list, place))
+    let name = text_of(list, place);
+    same_bytes(text, name)
 }

@@ -529,7 +529,7 @@ fn random_cases_use_definitions_early() {
 /// What an 8 is: which sort is defined again by which, or a built-in type's
 /// name; and what stands around it.
 fn kinds_of_8(case: &Case, place: u16) -> Vec<&'static str> {
-    let tree = compile::read(&case.manifest, case.memory).expect("it is read");
+    let tree = compile::read(&case.manifest).expect("it is read");
     let definitions = tree.items.iter().filter_map(|item| match item {
         Item::Definition(definition) => Some(definition),
         _ => None,

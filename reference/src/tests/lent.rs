@@ -317,6 +317,7 @@ fn r26_limits() {
 #[test]
 fn batch_lines() {
     let case = Case {
+        types: None,
         device: Vec::new(),
         limit: 3,
         output: 4,

@@ -12,6 +12,7 @@ mod lent;
 mod order;
 mod papers_cases;
 mod text;
+mod types;
 mod why;
 
 use crate::answer::Answer;

@@ -1,43 +1,25 @@
--- `convert`: the tests before the first pass, what that pass finds, and the rest.
+-- `convert`: 1, then all else, with the eight.
 use mathlib.Core.Path.{refl}
-use native.Mathlib.Omega.{arith}
+use Rattle.rules.specs.Types.{checkTypes}
+use Rattle.type_list.specs.Listed.{chosen}
+use Rattle.converter.proofs.Converting.{short-memory, converts}
 use borrow.Author.Needs.{needs}
-use Rattle.converter.proofs.Converting.{short-memory, long-text, not-read, late-constant, converts, converts-from}
-use Rattle.converter.proofs.TwoPasses.{first-passable, fault-low, fault-first, whole-found, items-read, late-found, late-low, measured-so}
 use Rattle.converter.proofs.convert.Statement.{statement}
 use Rattle.converter.proofs.convert.Tie as tie
 
 returns : tie.Need-returns
-returns c = converts _ (short-memory _ _ _ (c .before .before .before .before .before .before .before .if1 .taken)) refl refl (c .before .before .before .before .refuse .ensures)
+returns c = converts _ _ (short-memory _ _ _ _ (c .before .before .before .before .before .before .before .if1 .taken)) refl refl (c .before .before .before .before .refuse .ensures)
+
+slice-aggregate-convert-chosen : tie.Need-slice-aggregate-convert-chosen
+slice-aggregate-convert-chosen c = refl
+
+convert-chosen-requires : tie.Need-convert-chosen-requires
+unfolding chosen checkTypes
+convert-chosen-requires c κs = (c .before .before .before .if1 .left, refl)
 
 returns-2 : tie.Need-returns-2
-returns-2 c = converts _ (long-text _ _ _ (c .before .before .before .before .before .before .before .before .if1 .left) (c .before .before .before .before .before .before .before .if2 .taken)) refl refl (c .before .before .before .before .refuse2 .ensures)
-
-read-pass-requires : tie.Need-read-pass-requires
-read-pass-requires c κs = first-passable _ _ (c .before .before .if2 .left) (omega arith)
-
-cast-refuse : tie.Need-cast-refuse
-cast-refuse c = omega (arith, fault-low _ _ _ _ _ (c .before .before .before .before .before .before .read-pass .ensures) _ (c .before .first .given .1))
-
-cast-refuse-2 : tie.Need-cast-refuse-2
-cast-refuse-2 c =
-    let bytes = c .before .before .before .before .before .before .before .before .before .before .before .before .before .before .shared-slice-known .given in
-    omega (arith, late-low _ _ _ _ _ (c .before .before .before .before .before .before .before .read-pass .ensures) _ _ _ (c .before .before .first2 .given .1) (record { below = λ i. omega (arith, bytes i) }) (c .before .before .before .before .before .before .before .before .before .before .if2 .left) (c .if3 .taken))
-
-returns-3 : tie.Need-returns-3
-returns-3 c =
-    let x = c .before .before .before .before .before .before .before .before .before .before .before .before .before .before .read-pass .ensures in
-    let is = c .before .before .before .before .before .before .before .before .before .first2 .given .1 in
-    converts _ (late-constant _ _ _ (c .before .before .before .before .before .before .before .before .before .before .before .before .before .before .before .before .before .before .if1 .left) (c .before .before .before .before .before .before .before .before .before .before .before .before .before .before .before .before .before .if2 .left) (whole-found _ _ _ _ _ x _ _ _ is .items) (items-read _ _ _ _ _ x _ _ _ is) (late-found _ _ _ _ _ x _ _ _ is (c .before .before .before .before .before .before .before .if3 .taken))) (search needs) refl (c .before .before .before .before .refuse4 .ensures)
-
-finish-requires : tie.Need-finish-requires
-finish-requires c κs = (c .before .before .before .before .before .before .before .before .before .before .before .before .before .before .if1 .left, measured-so _ _ _ _ _ (c .before .before .before .before .before .before .before .before .before .before .read-pass .ensures) _ _ _ (c .before .before .before .before .before .first2 .given .1) (c .before .before .before .before .before .before .before .before .before .before .before .before .before .if2 .left) (search needs) (c .before .before .before .if3 .left))
-
-returns-4 : tie.Need-returns-4
-returns-4 c = converts _ (not-read _ _ _ (c .before .before .before .before .before .before .before .before .before .before .before .before .before .before .before .before .before .if1 .left) (c .before .before .before .before .before .before .before .before .before .before .before .before .before .before .before .before .if2 .left) (fault-first _ _ _ _ _ (c .before .before .before .before .before .before .before .before .before .before .before .before .before .read-pass .ensures) _ (c .before .before .before .before .before .before .before .before .first .given .1))) (search needs) refl (c .before .before .before .before .refuse3 .ensures)
-
-returns-5 : tie.Need-returns-5
-returns-5 c = converts-from _ (search needs) refl (c .before .before .before .before .before .finish .ensures)
+unfolding chosen
+returns-2 c = c .before .before .before .before .convert-chosen .ensures
 
 pub convert-spec : {M : Type 1} → statement M
 convert-spec =
@@ -47,30 +29,8 @@ convert-spec =
     (λ c. search needs)
     (λ c. search needs)
     returns
-    (λ c κs. search needs)
+    slice-aggregate-convert-chosen
+    convert-chosen-requires
     (λ c. search needs)
     (λ c. search needs)
-    returns-2
-    (λ c. search needs)
-    (λ c. search needs)
-    (λ c. search needs)
-    (λ c. search needs)
-    read-pass-requires
-    (λ c. search needs)
-    cast-refuse
-    (λ c κs. search needs)
-    (λ c. search needs)
-    (λ c. search needs)
-    cast-refuse-2
-    (λ c κs. search needs)
-    (λ c. search needs)
-    (λ c. search needs)
-    returns-3
-    (λ c. search needs)
-    finish-requires
-    (λ c. search needs)
-    (λ c. search needs)
-    returns-4
-    (λ c. search needs)
-    (λ c. search needs)
-    returns-5)
+    returns-2)

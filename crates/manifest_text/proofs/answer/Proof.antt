@@ -3,6 +3,7 @@ use mathlib.Core.Path.{refl, sym}
 use mathlib.Core.List.{[]}
 use native.Mathlib.Omega.{arith}
 use borrow.Author.Needs.{needs}
+use Rattle.rules.specs.Types.{theEight}
 use Rattle.notation.specs.Convert.{convert}
 use Rattle.notation.specs.Printer.{print}
 use Rattle.manifest_text.specs.Answers.{effectText, placeLine, Answers}
@@ -15,14 +16,14 @@ unfolding Answers effectText
 write-answer-requires c κs =
     let s = c .before .before .before .before .before .before .before in
     let called = c .before .before .convert-given .ensures in
-    record { answer = effectText (convert (s .args .given .now) 65535 65536); right = rw (c .before .before .before .before .enum-told .given .1) refl; so = all-left (rw (called .0, called .1) refl) (s .pre) }
+    record { answer = effectText (convert theEight (s .args .given .now) 65535 65536); right = rw (c .before .before .before .before .enum-told .given .1) refl; so = all-left (rw (called .0, called .1) refl) (s .pre) }
 
 write-answer-requires-2 : tie.Need-write-answer-requires-2
 unfolding Answers effectText
 write-answer-requires-2 c κs =
     let s = c .before .before .before .before .before .before .before in
     let called = c .before .before .print-given .ensures in
-    record { answer = effectText (print (s .args .given .now) 65535 65536); right = rw (c .before .before .before .before .enum-told2 .given .1) refl; so = all-left (rw (called .0, called .1) refl) (s .pre) }
+    record { answer = effectText (print theEight (s .args .given .now) 65535 65536); right = rw (c .before .before .before .before .enum-told2 .given .1) refl; so = all-left (rw (called .0, called .1) refl) (s .pre) }
 
 write-numbered-requires : tie.Need-write-numbered-requires
 unfolding Answers placeLine

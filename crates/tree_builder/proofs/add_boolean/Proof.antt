@@ -14,7 +14,7 @@ use Rattle.tree_builder.proofs.add_boolean.Tie as tie
 returns : tie.Need-returns
 returns c =
     let a = c .before .before .before .args in
-    λ m. constant-refused (a .s) m (a .out .now) (ABoolean (a .line) (a .place) (a .value)) (omega (arith, c .if1 .taken))
+    λ m types. constant-refused types (a .s) m (a .out .now) (ABoolean (a .line) (a .place) (a .value)) (omega (arith, c .if1 .taken))
 
 put-label-requires : tie.Need-put-label-requires
 put-label-requires c κs = search needs
@@ -37,7 +37,7 @@ same-length c = search needs
 returns-2 : tie.Need-returns-2
 returns-2 c =
     let a = c .before .before .before .before .before .before .before .before .before .before .before .before .before .before .args in
-    λ m. boolean-made (a .s) m (a .out .now) (omega arith) (a .line) (a .place) (c .before .late-with .ensures) (a .value)
+    λ m types. boolean-made types (a .s) m (a .out .now) (omega arith) (a .line) (a .place) (c .before .late-with .ensures) (a .value)
     (then-store (a .out .now) (a .s .fill) (0x12 ∷ highBytes 2 2 ++ (a .line % 256 ∷ [])) (a .s .fill + 4) (highBytes 1 (a .value)) (c .before .before .before .before .before .before .before .before .before .put-label .ensures) (c .before .before .before .before .put-byte .ensures)
     (omega (arith, length-append (0x12 ∷ highBytes 2 2) (a .line % 256 ∷ []), high-length 2 2))) (c .with-part .ensures)
 

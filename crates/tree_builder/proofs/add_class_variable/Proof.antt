@@ -14,7 +14,7 @@ use Rattle.tree_builder.proofs.add_class_variable.Tie as tie
 returns : tie.Need-returns
 returns c =
     let a = c .before .before .before .args in
-    λ m. read-refused (a .s) m (a .out .now) (AClassVariable (a .class) (a .name)) (omega (arith, c .if1 .taken))
+    λ m types. read-refused types (a .s) m (a .out .now) (AClassVariable (a .class) (a .name)) (omega (arith, c .if1 .taken))
 
 put-header-requires : tie.Need-put-header-requires
 put-header-requires c κs = search needs
@@ -40,7 +40,7 @@ same-length c = search needs
 returns-2 : tie.Need-returns-2
 returns-2 c =
     let a = c .before .before .before .before .before .before .before .before .before .before .before .before .before .before .before .before .before .before .args in
-    λ m. class-made (a .s) m (a .out .now) (omega arith) (a .class) (a .name)
+    λ m types. class-made types (a .s) m (a .out .now) (omega arith) (a .class) (a .name)
     (then-store (a .out .now) (a .s .fill) ((0x15 ∷ highBytes 2 4) ++ highBytes 2 (a .class)) (a .s .fill + 5) (highBytes 2 (a .name))
     (then-store (a .out .now) (a .s .fill) (0x15 ∷ highBytes 2 4) (a .s .fill + 3) (highBytes 2 (a .class)) (c .before .before .before .before .before .before .before .before .before .before .before .before .before .put-header .ensures) (c .before .before .before .before .before .before .before .before .put-two .ensures) (omega (arith, high-length 2 4)))
     (c .before .before .before .put-two2 .ensures) (omega (arith, length-append (0x15 ∷ highBytes 2 4) (highBytes 2 (a .class)), high-length 2 4, high-length 2 (a .class)))) (c .with-part .ensures)

@@ -16,7 +16,7 @@ use Rattle.tree_builder.proofs.add_integer.Tie as tie
 returns : tie.Need-returns
 returns c =
     let a = c .before .before .before .args in
-    λ m. constant-refused (a .s) m (a .out .now) (AnInteger (a .line) (a .place) (a .value)) (omega (arith, c .if1 .taken))
+    λ m types. constant-refused types (a .s) m (a .out .now) (AnInteger (a .line) (a .place) (a .value)) (omega (arith, c .if1 .taken))
 
 put-label-requires : tie.Need-put-label-requires
 put-label-requires c κs = search needs
@@ -39,7 +39,7 @@ same-length c = search needs
 returns-2 : tie.Need-returns-2
 returns-2 c =
     let a = c .before .before .before .before .before .before .before .before .before .before .before .before .before .before .args in
-    λ m. integer-made (a .s) m (a .out .now) (omega arith) (a .line) (a .place) (c .before .late-with .ensures) (a .value)
+    λ m types. integer-made types (a .s) m (a .out .now) (omega arith) (a .line) (a .place) (c .before .late-with .ensures) (a .value)
     (signed-stored (a .out .now) (a .s .fill) (0x10 ∷ highBytes 2 9 ++ (a .line % 256 ∷ [])) (a .s .fill + 4) (a .value) (c .before .before .before .before .before .before .before .before .before .put-label .ensures) (c .before .before .before .before .put-signed .ensures) (toZ-ofZ w64 (a .value) (c .before .before .before .before .before .before .before .before .before .before .before .before .before .before .fits .value))
     (omega (arith, length-append (0x10 ∷ highBytes 2 9) (a .line % 256 ∷ []), high-length 2 9))) (c .with-part .ensures)
 

@@ -19,7 +19,7 @@ same-length c = search needs
 returns : tie.Need-returns
 returns c =
     let a = c .before .before .before .before .before .before .before .before .before .before .args in
-    λ m. name-made (a .s) m (a .out .now) (a .name) (c .before .before .before .before .before .before .before .move-up .ensures) (c .before .before .before .put-two .ensures) (c .raised-by .ensures)
+    λ m types. name-made types (a .s) m (a .out .now) (a .name) (c .before .before .before .before .before .before .before .move-up .ensures) (c .before .before .before .put-two .ensures) (c .raised-by .ensures)
 
 pub add-name-spec : {M : Type 1} → statement M
 add-name-spec =

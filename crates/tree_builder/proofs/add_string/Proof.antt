@@ -16,7 +16,7 @@ returns : tie.Need-returns
 unfolding IsWord
 returns c =
     let a = c .before .before .before .args in
-    (λ m. constant-refused (a .s) m (a .out .now) (AString (a .line) (a .place) (a .name)) (omega (arith, c .if1 .taken)), tt)
+    (λ m types. constant-refused types (a .s) m (a .out .now) (AString (a .line) (a .place) (a .name)) (omega (arith, c .if1 .taken)), tt)
 
 put-label-requires : tie.Need-put-label-requires
 put-label-requires c κs = search needs
@@ -40,7 +40,7 @@ returns-2 : tie.Need-returns-2
 unfolding IsWord
 returns-2 c =
     let a = c .before .before .before .before .before .before .before .before .before .before .before .before .before .before .args in (
-      λ m. string-made (a .s) m (a .out .now) (omega arith) (a .line) (a .place) (c .before .late-with .ensures) (a .name)
+      λ m types. string-made types (a .s) m (a .out .now) (omega arith) (a .line) (a .place) (c .before .late-with .ensures) (a .name)
           (then-store (a .out .now) (a .s .fill) (0x11 ∷ highBytes 2 3 ++ (a .line % 256 ∷ [])) (a .s .fill + 4) (highBytes 2 (a .name)) (c .before .before .before .before .before .before .before .before .before .put-label .ensures) (c .before .before .before .before .put-two .ensures)
           (omega (arith, length-append (0x11 ∷ highBytes 2 3) (a .line % 256 ∷ []), high-length 2 3))) (c .with-part .ensures),
       refl,

@@ -13,7 +13,7 @@ use Rattle.tree_builder.proofs.add_variable.Tie as tie
 returns : tie.Need-returns
 returns c =
     let a = c .before .before .before .args in
-    λ m. read-refused (a .s) m (a .out .now) (AVariable (a .tag) (a .name)) (omega (arith, c .if1 .taken))
+    λ m types. read-refused types (a .s) m (a .out .now) (AVariable (a .tag) (a .name)) (omega (arith, c .if1 .taken))
 
 put-header-requires : tie.Need-put-header-requires
 put-header-requires c κs = search needs
@@ -33,7 +33,7 @@ same-length c = search needs
 returns-2 : tie.Need-returns-2
 returns-2 c =
     let a = c .before .before .before .before .before .before .before .before .before .before .before .before .before .args in
-    λ m. variable-made (a .s) m (a .out .now) (omega arith) (a .tag) (a .name) (omega arith)
+    λ m types. variable-made types (a .s) m (a .out .now) (omega arith) (a .tag) (a .name) (omega arith)
     (then-store (a .out .now) (a .s .fill) (a .tag ∷ highBytes 2 2) (a .s .fill + 3) (highBytes 2 (a .name)) (c .before .before .before .before .before .before .before .before .put-header .ensures) (c .before .before .before .put-two .ensures) (omega (arith, high-length 2 2))) (c .with-part .ensures)
 
 pub add-variable-spec : {M : Type 1} → statement M

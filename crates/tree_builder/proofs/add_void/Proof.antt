@@ -9,7 +9,7 @@ use Rattle.tree_builder.proofs.add_void.Tie as tie
 returns : tie.Need-returns
 returns c =
     let a = c .before .before .before .args in
-    λ m. void-refused (a .s) m (a .out .now) AnyToken (omega (arith, c .if1 .taken)) (a .tag)
+    λ m types. void-refused types (a .s) m (a .out .now) AnyToken (omega (arith, c .if1 .taken)) (a .tag)
 
 put-header-requires : tie.Need-put-header-requires
 put-header-requires c κs = search needs
@@ -23,7 +23,7 @@ same-length c = search needs
 returns-2 : tie.Need-returns-2
 returns-2 c =
     let a = c .before .before .before .before .before .before .before .before .args in
-    λ m. void-made (a .s) m (a .out .now) (omega arith) (a .tag) (omega arith) (c .before .before .before .put-header .ensures) (c .with-part .ensures)
+    λ m types. void-made types (a .s) m (a .out .now) (omega arith) (a .tag) (omega arith) (c .before .before .before .put-header .ensures) (c .with-part .ensures)
 
 pub add-void-spec : {M : Type 1} → statement M
 add-void-spec =

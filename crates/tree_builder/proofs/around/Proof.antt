@@ -9,7 +9,7 @@ use Rattle.tree_builder.proofs.around.Tie as tie
 returns : tie.Need-returns
 returns c =
     let a = c .before .before .before .before .args in
-    flat-refused (a .s) (a .frames .now) (a .out .now) (a .tag) [] (omega (arith, c .if1 .taken))
+    λ types. flat-refused types (a .s) (a .frames .now) (a .out .now) (a .tag) [] (omega (arith, c .if1 .taken))
 
 add-if2 : tie.Need-add-if2
 add-if2 c = search needs
@@ -17,7 +17,7 @@ add-if2 c = search needs
 returns-2 : tie.Need-returns-2
 returns-2 c =
     let a = c .before .before .before .before .before .before .args in
-    deep-refused (a .s) (a .frames .now) (a .out .now) (a .tag) [] (omega (arith, c .if2 .taken))
+    λ types. deep-refused types (a .s) (a .frames .now) (a .out .now) (a .tag) [] (omega (arith, c .if2 .taken))
 
 lift-requires : tie.Need-lift-requires
 lift-requires c κs = search needs
@@ -34,7 +34,7 @@ same-length-2 c = search needs
 returns-3 : tie.Need-returns-3
 returns-3 c =
     let a = c .before .before .before .before .before .before .before .before .before .before .before .before .before .before .args in
-    plain-made (a .s) (a .frames .now) (a .out .now) (c .before .before .before .before .before .before .before .before .before .before .before .before .before .before .pre .0) (c .before .before .before .before .before .before .before .before .before .before .before .before .before .before .pre .1) (c .before .before .before .before .before .lift .ensures .0) (a .tag) (omega arith) (omega arith) (omega arith) (c .before .before .before .before .before .lift .ensures .1) (c .lifted .ensures)
+    λ types. plain-made types (a .s) (a .frames .now) (a .out .now) (c .before .before .before .before .before .before .before .before .before .before .before .before .before .before .pre .0) (c .before .before .before .before .before .before .before .before .before .before .before .before .before .before .pre .1) (c .before .before .before .before .before .lift .ensures .0) (a .tag) (omega arith) (omega arith) (omega arith) (c .before .before .before .before .before .lift .ensures .1) (c .lifted .ensures)
 
 pub around-spec : {M : Type 1} → statement M
 around-spec =

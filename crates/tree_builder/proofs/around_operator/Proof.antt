@@ -10,7 +10,7 @@ use Rattle.tree_builder.proofs.around_operator.Tie as tie
 returns : tie.Need-returns
 returns c =
     let a = c .before .before .before .before .args in
-    flat-refused (a .s) (a .frames .now) (a .out .now) (a .tag) (byte (a .operator) ∷ []) (omega (arith, c .if1 .taken))
+    λ types. flat-refused types (a .s) (a .frames .now) (a .out .now) (a .tag) (byte (a .operator) ∷ []) (omega (arith, c .if1 .taken))
 
 add-if2 : tie.Need-add-if2
 add-if2 c = search needs
@@ -18,7 +18,7 @@ add-if2 c = search needs
 returns-2 : tie.Need-returns-2
 returns-2 c =
     let a = c .before .before .before .before .before .before .args in
-    deep-refused (a .s) (a .frames .now) (a .out .now) (a .tag) (byte (a .operator) ∷ []) (omega (arith, c .if2 .taken))
+    λ types. deep-refused types (a .s) (a .frames .now) (a .out .now) (a .tag) (byte (a .operator) ∷ []) (omega (arith, c .if2 .taken))
 
 lift-requires : tie.Need-lift-requires
 lift-requires c κs = search needs
@@ -41,7 +41,7 @@ same-length-2 c = search needs
 returns-3 : tie.Need-returns-3
 returns-3 c =
     let a = c .before .before .before .before .before .before .before .before .before .before .before .before .before .before .before .before .before .before .before .args in
-    operator-made (a .s) (a .frames .now) (a .out .now) (c .before .before .before .before .before .before .before .before .before .before .before .before .before .before .before .before .before .before .before .pre .0) (c .before .before .before .before .before .before .before .before .before .before .before .before .before .before .before .before .before .before .before .pre .1) (c .before .before .before .before .before .before .before .before .before .before .lift .ensures .0) (a .tag) (omega (arith, c .before .before .before .before .before .before .before .before .before .before .before .before .before .before .before .before .before .before .before .fits .tag)) (a .operator) (omega (arith, c .before .before .before .before .before .before .before .before .before .before .before .before .before .before .before .before .before .before .before .fits .operator)) (omega (arith, c .before .before .before .before .before .before .before .before .before .before .before .before .before .before .before .if1 .left)) (omega (arith, c .before .before .before .before .before .before .before .before .before .before .before .before .before .if2 .left)) (c .before .before .before .before .before .before .before .before .before .before .lift .ensures .1) (c .before .before .before .put-byte .ensures) (c .lifted .ensures)
+    λ types. operator-made types (a .s) (a .frames .now) (a .out .now) (c .before .before .before .before .before .before .before .before .before .before .before .before .before .before .before .before .before .before .before .pre .0) (c .before .before .before .before .before .before .before .before .before .before .before .before .before .before .before .before .before .before .before .pre .1) (c .before .before .before .before .before .before .before .before .before .before .lift .ensures .0) (a .tag) (omega (arith, c .before .before .before .before .before .before .before .before .before .before .before .before .before .before .before .before .before .before .before .fits .tag)) (a .operator) (omega (arith, c .before .before .before .before .before .before .before .before .before .before .before .before .before .before .before .before .before .before .before .fits .operator)) (omega (arith, c .before .before .before .before .before .before .before .before .before .before .before .before .before .before .before .if1 .left)) (omega (arith, c .before .before .before .before .before .before .before .before .before .before .before .before .before .if2 .left)) (c .before .before .before .before .before .before .before .before .before .before .lift .ensures .1) (c .before .before .before .put-byte .ensures) (c .lifted .ensures)
 
 pub around-operator-spec : {M : Type 1} → statement M
 around-operator-spec =

@@ -2,17 +2,17 @@
 use Rattle.tree_builder.proofs.Opening.{begin-refused, begin-made}
 use Rattle.notation.specs.Building.{act}
 use Rattle.notation.specs.Tokens.{placeOf}
-use Rattle.tree_builder.specs.Shows.{Does, Answers}
+use Rattle.tree_builder.specs.Shows.{DoesAt, Answers}
 use native.Mathlib.Omega.{arith}
 use borrow.Author.Needs.{needs}
 use Rattle.tree_builder.proofs.begin.Statement.{statement}
 use Rattle.tree_builder.proofs.begin.Tie as tie
 
 returns : tie.Need-returns
-unfolding Does Answers act
+unfolding DoesAt Answers act
 returns c =
     let a = c .before .before .before .before .args in
-    λ table f x p shows. begin-refused table (a .s) (a .frames .now) (a .out .now) (placeOf x) (a .tag) f (omega (arith, c .if1 .taken)) shows
+    λ types table f x p shows. begin-refused table (a .s) (a .frames .now) (a .out .now) (placeOf x) (a .tag) f (omega (arith, c .if1 .taken)) shows
 
 save-requires : tie.Need-save-requires
 save-requires c κs = search needs
@@ -36,10 +36,10 @@ same-length-2 : tie.Need-same-length-2
 same-length-2 c = search needs
 
 returns-2 : tie.Need-returns-2
-unfolding Does Answers act
+unfolding DoesAt Answers act
 returns-2 c =
     let a = c .before .before .before .before .before .before .before .before .before .before .before .before .before .args in
-    λ table f x p shows. begin-made table (a .s) (a .frames .now) (a .out .now) (placeOf x) (a .tag) f (omega arith) (omega arith) (c .before .before .before .before .before .before .before .before .before .before .before .before .before .pre .0) (c .before .before .before .before .before .before .before .before .before .before .before .before .before .pre .1) (c .before .before .before .before .before .before .before .save .ensures) (c .before .before .before .put-header .ensures) (c .opened .ensures) shows
+    λ types table f x p shows. begin-made table (a .s) (a .frames .now) (a .out .now) (placeOf x) (a .tag) f (omega arith) (omega arith) (c .before .before .before .before .before .before .before .before .before .before .before .before .before .pre .0) (c .before .before .before .before .before .before .before .before .before .before .before .before .before .pre .1) (c .before .before .before .before .before .before .before .save .ensures) (c .before .before .before .put-header .ensures) (c .opened .ensures) shows
 
 pub begin-spec : {M : Type 1} → statement M
 begin-spec =

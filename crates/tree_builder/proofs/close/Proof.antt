@@ -2,17 +2,17 @@
 use Rattle.tree_builder.proofs.Closing.{close-refused, close-made}
 use Rattle.notation.specs.Building.{act}
 use Rattle.tree_builder.specs.State.{slotIn}
-use Rattle.tree_builder.specs.Shows.{Does, Answers}
+use Rattle.tree_builder.specs.Shows.{DoesAt, Answers}
 use native.Mathlib.Omega.{arith}
 use borrow.Author.Needs.{needs}
 use Rattle.tree_builder.proofs.close.Statement.{statement}
 use Rattle.tree_builder.proofs.close.Tie as tie
 
 returns : tie.Need-returns
-unfolding Does Answers act slotIn
+unfolding DoesAt Answers act slotIn
 returns c =
     let a = c .before .before .before .before .args in
-    λ table f x p shows. close-refused table (a .s) (a .frames .now) (a .out .now) x f (omega (arith, c .if1 .taken)) shows
+    λ types table f x p shows. close-refused types table (a .s) (a .frames .now) (a .out .now) x f (omega (arith, c .if1 .taken)) shows
 
 sub-size : tie.Need-sub-size
 sub-size c = search needs
@@ -45,10 +45,10 @@ same-length : tie.Need-same-length
 same-length c = search needs
 
 returns-2 : tie.Need-returns-2
-unfolding Does Answers act slotIn
+unfolding DoesAt Answers act slotIn
 returns-2 c =
     let a = c .before .before .before .before .before .before .before .before .before .before .before .before .before .args in
-    λ table f x p shows. close-made table (a .s) (a .frames .now) (a .out .now) x f (omega arith) (c .before .before .before .before .before .before .before .before .before .before .before .before .before .pre .1) (c .before .before .before .before .before .put-two .ensures) (c .before .number-in .ensures) (c .closed .ensures) shows
+    λ types table f x p shows. close-made types table (a .s) (a .frames .now) (a .out .now) x f (omega arith) (c .before .before .before .before .before .before .before .before .before .before .before .before .before .pre .1) (c .before .before .before .before .before .put-two .ensures) (c .before .number-in .ensures) (c .closed .ensures) shows
 
 pub close-spec : {M : Type 1} → statement M
 close-spec =

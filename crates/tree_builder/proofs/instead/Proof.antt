@@ -35,7 +35,7 @@ same-length-2 c = search needs
 returns : tie.Need-returns
 returns c =
     let a = c .before .before .before .before .before .before .before .before .before .before .before .before .before .before .before .args in
-    word-made (a .s) (a .frames .now) (a .out .now) (c .before .before .before .before .before .before .before .before .before .before .before .before .before .before .before .pre .1) (c .before .before .before .before .before .before .before .before .before .before .before .before .before .before .before .pre .2) (c .before .before .before .before .before .before .before .before .before .before .before .save .ensures) (a .tag) (omega arith) (c .before .before .before .before .before .before .before .before .before .before .before .before .before .before .before .pre .0) (c .before .before .before .before .before .before .before .put-header .ensures) (c .before .before .before .put-two .ensures) (c .opened .ensures)
+    λ types. word-made types (a .s) (a .frames .now) (a .out .now) (c .before .before .before .before .before .before .before .before .before .before .before .before .before .before .before .pre .1) (c .before .before .before .before .before .before .before .before .before .before .before .before .before .before .before .pre .2) (c .before .before .before .before .before .before .before .before .before .before .before .save .ensures) (a .tag) (omega arith) (c .before .before .before .before .before .before .before .before .before .before .before .before .before .before .before .pre .0) (c .before .before .before .before .before .before .before .put-header .ensures) (c .before .before .before .put-two .ensures) (c .opened .ensures)
 
 pub instead-spec : {M : Type 1} → statement M
 instead-spec =

@@ -12,7 +12,7 @@ use Rattle.tree_builder.proofs.parent_first.Tie as tie
 returns : tie.Need-returns
 returns c =
     let a = c .before .before .before .args in
-    λ m. parent-refused (a .s) m (a .out .now) (a .name) (omega (arith, c .if1 .taken))
+    λ m types. parent-refused types (a .s) m (a .out .now) (a .name) (omega (arith, c .if1 .taken))
 
 move-up-requires : tie.Need-move-up-requires
 move-up-requires c κs = search needs
@@ -35,7 +35,7 @@ same-length c = search needs
 returns-2 : tie.Need-returns-2
 returns-2 c =
     let a = c .before .before .before .before .before .before .before .before .before .before .before .before .before .before .before .before .before .before .before .args in
-    λ m. parent-only (a .s) m (a .out .now) (a .name) (omega (arith, c .before .before .before .before .before .before .before .before .before .before .before .before .before .before .before .before .if1 .left)) (c .before .before .before .before .before .before .before .before .before .before .before .before .before .before .move-up .ensures) (then-store _ (a .s .body) (0x35 ∷ highBytes 2 2) (a .s .body + 3) (highBytes 2 (a .name)) (c .before .before .before .before .before .before .before .before .before .before .put-header .ensures) (c .before .before .before .before .before .put-two .ensures) (omega (arith, high-length 2 2))) (omega arith) (c .with-part .ensures)
+    λ m types. parent-only types (a .s) m (a .out .now) (a .name) (omega (arith, c .before .before .before .before .before .before .before .before .before .before .before .before .before .before .before .before .if1 .left)) (c .before .before .before .before .before .before .before .before .before .before .before .before .before .before .move-up .ensures) (then-store _ (a .s .body) (0x35 ∷ highBytes 2 2) (a .s .body + 3) (highBytes 2 (a .name)) (c .before .before .before .before .before .before .before .before .before .before .put-header .ensures) (c .before .before .before .before .before .put-two .ensures) (omega (arith, high-length 2 2))) (omega arith) (c .with-part .ensures)
 
 raised-by-requires : tie.Need-raised-by-requires
 raised-by-requires c κs = search needs
@@ -46,7 +46,7 @@ same-length-2 c = search needs
 returns-3 : tie.Need-returns-3
 returns-3 c =
     let a = c .before .before .before .before .before .before .before .before .before .before .before .before .before .before .before .before .before .before .before .args in
-    λ m. parent-before (a .s) m (a .out .now) (a .name) (omega (arith, c .before .before .before .before .before .before .before .before .before .before .before .before .before .before .before .before .if1 .left)) (c .before .before .before .before .before .before .before .before .before .before .before .before .before .before .move-up .ensures) (then-store _ (a .s .body) (0x35 ∷ highBytes 2 2) (a .s .body + 3) (highBytes 2 (a .name)) (c .before .before .before .before .before .before .before .before .before .before .put-header .ensures) (c .before .before .before .before .before .put-two .ensures) (omega (arith, high-length 2 2))) (omega arith) (c .raised-by .ensures)
+    λ m types. parent-before types (a .s) m (a .out .now) (a .name) (omega (arith, c .before .before .before .before .before .before .before .before .before .before .before .before .before .before .before .before .if1 .left)) (c .before .before .before .before .before .before .before .before .before .before .before .before .before .before .move-up .ensures) (then-store _ (a .s .body) (0x35 ∷ highBytes 2 2) (a .s .body + 3) (highBytes 2 (a .name)) (c .before .before .before .before .before .before .before .before .before .before .put-header .ensures) (c .before .before .before .before .before .put-two .ensures) (omega (arith, high-length 2 2))) (omega arith) (c .raised-by .ensures)
 
 pub parent-first-spec : {M : Type 1} → statement M
 parent-first-spec =

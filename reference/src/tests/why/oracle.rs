@@ -9,6 +9,7 @@ use crate::labels::Labels;
 use crate::program::program;
 use crate::random::Random;
 use crate::tree::{Constant, Name};
+use crate::types::Types;
 use crate::watch::{Origin, Watch};
 use crate::why_shapes::counted;
 use crate::{compile, machine};
@@ -33,9 +34,9 @@ impl Watch for Notes {
 /// The constants met; nothing if the manifest is refused.
 fn met(manifest: &[u8]) -> Option<BTreeSet<Place>> {
     let notes = Notes::default();
-    let tree = compile::read(manifest, compile::LEAST_MEMORY).ok()?;
+    let tree = compile::read(manifest).ok()?;
     let mut out = vec![0; 65_535];
-    machine::run(&tree, b"desk", u16::MAX, &mut out, &notes).ok()?;
+    machine::run(&tree, &Types::eight(), b"desk", u16::MAX, &mut out, &notes).ok()?;
     Some(notes.met.take())
 }
 

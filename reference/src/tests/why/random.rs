@@ -22,7 +22,7 @@ fn compiled(case: &WhyCase) -> (Answer, Vec<u8>) {
 
 /// The sets of the 40 and the 41 asked about.
 fn sets(case: &WhyCase, catalog: &[u8]) -> Option<(Labels, Labels)> {
-    let tree = compile::read(&case.manifest, case.memory).ok()?;
+    let tree = compile::read(&case.manifest).ok()?;
     let kind = tree.number_of(&case.kind)?;
     let title = tree.number_of(&case.title)?;
     let attribute = tree.number_of(&case.attribute)?;

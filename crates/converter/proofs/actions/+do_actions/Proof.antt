@@ -29,7 +29,7 @@ do-actions-returns : (t : ℕ) → do-actions-lts.Need-returns (
   do-actions-below t,
   do-actions.Post,
 ) (do-actions-at t) do-actions.Post
-do-actions-returns t c = (none-done _ _ _ _ _ _ (c .if1 .taken), none-read _ _ _ (c .if1 .taken))
+do-actions-returns t c = (λ types. none-done types _ _ _ _ _ _ (c .if1 .taken), none-read _ _ _ (c .if1 .taken))
 
 do-actions-do-action-requires : (t : ℕ) → do-actions-lts.Need-do-action-requires (
   do-action-reads.Asked,
@@ -37,7 +37,7 @@ do-actions-do-action-requires : (t : ℕ) → do-actions-lts.Need-do-action-requ
   do-actions-below t,
   do-actions.Post,
 ) (do-actions-at t) do-actions.Post
-do-actions-do-action-requires t c κs = (able-first _ _ _ _ _ _ (c .before .before .if1 .left) (omega arith) (c .before .before .before .before .before .pre .1), omega arith)
+do-actions-do-action-requires t c κs = (able-first (c .before .before .before .before .before .pre .1 .types) _ _ _ _ _ _ (c .before .before .if1 .left) (omega arith) (c .before .before .before .before .before .pre .1 .stands), omega arith)
 
 do-actions-same-length : (t : ℕ) → do-actions-lts.Need-same-length (
   do-action-reads.Asked,
@@ -61,7 +61,7 @@ do-actions-returns-2 : (t : ℕ) → do-actions-lts.Need-returns-2 (
   do-actions-below t,
   do-actions.Post,
 ) (do-actions-at t) do-actions.Post
-do-actions-returns-2 t c = (only-done _ _ _ (c .before .before .before .before .before .before .before .before .if1 .left) (omega arith) (omega arith) _ _ _ _ _ _ (c .before .before .before .before .before .do-action .ensures .0), only-reads _ _ _ (c .before .before .before .before .before .before .before .before .if1 .left) (omega arith) (omega arith) _ (c .before .before .before .before .before .do-action .ensures .1))
+do-actions-returns-2 t c = (λ types. only-done _ _ _ (c .before .before .before .before .before .before .before .before .if1 .left) (omega arith) (omega arith) types _ _ _ _ _ _ (c .before .before .before .before .before .do-action .ensures .0 types), only-reads _ _ _ (c .before .before .before .before .before .before .before .before .if1 .left) (omega arith) (omega arith) _ (c .before .before .before .before .before .do-action .ensures .1))
 
 do-actions-enum-known-first : (t : ℕ) → do-actions-lts.Need-enum-known-first (
   do-action-reads.Asked,
@@ -80,7 +80,7 @@ do-actions-do-actions-requires : (t : ℕ) → do-actions-lts.Need-do-actions-re
 do-actions-do-actions-requires t c κs =
     let p = c .before .before .before .before .before .before .before .before .before .before .before .before .before .before .before .before .pre in
     let n = c .before .before .before .before .before .before .before .before .before .before .before .before .before .if1 .left in
-    (omega (arith, p .0, n), stands-next _ _ _ _ _ _ n (omega arith) (p .1) _ _ _ _ (c .before .before .before .first .given .1) (c .before .before .before .before .before .before .before .before .before .before .do-action .ensures .0) (search needs))
+    (omega (arith, p .0, n), record { types = p .1 .types; stands = stands-next (p .1 .types) _ _ _ _ _ _ n (omega arith) (p .1 .stands) _ _ _ _ (c .before .before .before .first .given .1) (c .before .before .before .before .before .before .before .before .before .before .do-action .ensures .0 (p .1 .types)) (search needs) })
 
 do-actions-enum-told : (t : ℕ) → do-actions-lts.Need-enum-told (
   do-action-reads.Asked,
@@ -116,7 +116,7 @@ do-actions-returns-3 t c =
     let n = c .before .before .before .before .before .before .before .before .before .before .before .before .before .before .before .before .before .before .if1 .left in
     let small = c .before .before .before .before .before .before .before .before .before .before .before .before .before .before .before .before .before .before .before .before .before .fits .actions in
     let first = c .before .before .before .before .before .before .before .before .first .given .1 in
-    (then-others _ _ _ _ _ _ n (omega (arith, small)) _ _ _ _ _ _ _ first (c .before .before .before .before .before .before .before .before .before .before .before .before .before .before .before .do-action .ensures .0) (c .before .before .before .before .do-actions .ensures .0), then-reads _ _ _ n (omega (arith, small)) _ _ _ first (c .before .before .before .before .before .before .before .before .before .before .before .before .before .before .before .do-action .ensures .1) (c .before .before .before .before .do-actions .ensures .1))
+    (λ types. then-others types _ _ _ _ _ _ n (omega (arith, small)) _ _ _ _ _ _ _ first (c .before .before .before .before .before .before .before .before .before .before .before .before .before .before .before .do-action .ensures .0 types) (c .before .before .before .before .do-actions .ensures .0 types), then-reads _ _ _ n (omega (arith, small)) _ _ _ first (c .before .before .before .before .before .before .before .before .before .before .before .before .before .before .before .do-action .ensures .1) (c .before .before .before .before .do-actions .ensures .1))
 
 do-actions-same-length-5 : (t : ℕ) → do-actions-lts.Need-same-length-5 (
   do-action-reads.Asked,
@@ -140,7 +140,7 @@ do-actions-returns-4 : (t : ℕ) → do-actions-lts.Need-returns-4 (
   do-actions-below t,
   do-actions.Post,
 ) (do-actions-at t) do-actions.Post
-do-actions-returns-4 t c = (first-stopped _ _ _ _ _ _ (c .before .before .before .before .before .before .before .before .before .before .if1 .left) (omega arith) _ _ _ (c .enum-told .given .1) (c .before .before .before .before .before .before .before .do-action .ensures .0), stopped-reads _ _ _ (c .before .before .before .before .before .before .before .before .before .before .if1 .left) (omega arith))
+do-actions-returns-4 t c = (λ types. first-stopped types _ _ _ _ _ _ (c .before .before .before .before .before .before .before .before .before .before .if1 .left) (omega arith) _ _ _ (c .enum-told .given .1) (c .before .before .before .before .before .before .before .do-action .ensures .0 types), stopped-reads _ _ _ (c .before .before .before .before .before .before .before .before .before .before .if1 .left) (omega arith))
 
 pub +do-actions-spec : {M : Type 1} → statement M
 +do-actions-spec = close μ-do-actions λ t. do-actions-lts.spec (

@@ -4,7 +4,7 @@ use mir.Syntax.{w64}
 use mir.Val.{toZ, ofZ}
 use mir.ValLaws.{toZ-ofZ}
 use native.Mathlib.Omega.{arith}
-use Rattle.tree_builder.specs.Shows.{Does}
+use Rattle.tree_builder.specs.Shows.{DoesAt}
 use borrow.Author.Needs.{needs}
 use Rattle.converter.proofs.actions.add_constant.Statement.{statement}
 use Rattle.converter.proofs.actions.add_constant.Tie as tie
@@ -25,32 +25,32 @@ same-length : tie.Need-same-length
 same-length c = search needs
 
 returns : tie.Need-returns
-unfolding Does
+unfolding DoesAt
 returns c =
     let value = c .before .before .before .before .before .before .before .args .token .value in
     let same : toZ w64 (ofZ w64 value) ≡ value = toZ-ofZ w64 value (record { sfits = c .before .before .before .struct-told .given .1 .1 .1 .1 .1 .1 .0 .1 }) in
-    (λ m table f x k shows. c .before .before .add-integer .ensures m table f x (rw same (k .integer (c .before .before .before .before .before .match .keys1))) shows, λ e. absurd (omega (arith, c .before .before .before .before .before .match .keys1, e)))
+    (λ m types table f x k shows. c .before .before .add-integer .ensures m types table f x (rw same (k .integer (c .before .before .before .before .before .match .keys1))) shows, λ e. absurd (omega (arith, c .before .before .before .before .before .match .keys1, e)))
 
 same-length-2 : tie.Need-same-length-2
 same-length-2 c = search needs
 
 returns-2 : tie.Need-returns-2
-unfolding Does
-returns-2 c = (λ m table f x k shows. c .before .before .add-boolean .ensures m table f x (k .true-word (c .before .before .before .before .match .keys2)) shows, λ e. absurd (omega (arith, c .before .before .before .before .match .keys2, e)))
+unfolding DoesAt
+returns-2 c = (λ m types table f x k shows. c .before .before .add-boolean .ensures m types table f x (k .true-word (c .before .before .before .before .match .keys2)) shows, λ e. absurd (omega (arith, c .before .before .before .before .match .keys2, e)))
 
 same-length-3 : tie.Need-same-length-3
 same-length-3 c = search needs
 
 returns-3 : tie.Need-returns-3
-unfolding Does
-returns-3 c = (λ m table f x k shows. c .before .before .add-boolean2 .ensures m table f x (k .false-word (c .before .before .before .before .match .keys3)) shows, λ e. absurd (omega (arith, c .before .before .before .before .match .keys3, e)))
+unfolding DoesAt
+returns-3 c = (λ m types table f x k shows. c .before .before .add-boolean2 .ensures m types table f x (k .false-word (c .before .before .before .before .match .keys3)) shows, λ e. absurd (omega (arith, c .before .before .before .before .match .keys3, e)))
 
 same-length-4 : tie.Need-same-length-4
 same-length-4 c = search needs
 
 returns-4 : tie.Need-returns-4
-unfolding Does
-returns-4 c = (λ m table f x k shows. c .before .before .add-string .ensures .0 m table f x (k .string (c .before .before .before .before .match .rest .0 .0 .1) (c .before .before .before .before .match .rest .0 .1) (c .before .before .before .before .match .rest .1)) shows, λ e. c .before .before .add-string .ensures .1)
+unfolding DoesAt
+returns-4 c = (λ m types table f x k shows. c .before .before .add-string .ensures .0 m types table f x (k .string (c .before .before .before .before .match .rest .0 .0 .1) (c .before .before .before .before .match .rest .0 .1) (c .before .before .before .before .match .rest .1)) shows, λ e. c .before .before .add-string .ensures .1)
 
 pub add-constant-spec : {M : Type 1} → statement M
 add-constant-spec =

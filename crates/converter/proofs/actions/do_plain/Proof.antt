@@ -83,7 +83,7 @@ same-length-6 c = search needs
 
 returns-7 : tie.Need-returns-7
 unfolding Suits
-returns-7 c = by-known _ _ _ _ _ _ _ _ _ 8 beginResource (c .before .before .before .before .before .before .before .match .keys7) (unfold actionOf in refl) refl (resource-begins _ _ _ _ _ _ _ (c .before .before .before .before .begin .ensures))
+returns-7 c = by-known _ _ _ _ _ _ _ _ _ 8 beginResource (c .before .before .before .before .before .before .before .match .keys7) (unfold actionOf in refl) refl (λ types. resource-begins types _ _ _ _ _ _ _ (c .before .before .before .before .begin .ensures types))
 
 same-length-7 : tie.Need-same-length-7
 same-length-7 c = search needs

@@ -57,16 +57,16 @@ same-length-6 : tie.Need-same-length-6 Inv-loop μ-loop
 same-length-6 c = search needs
 
 returns-2 : tie.Need-returns-2 Inv-loop μ-loop
-returns-2 c = c .before .before .before .before .before .before .before .loop .inv .goes-on _ _ _ _ (out-stuck _ _ _ _ _ _ _ (omega arith) (c .before .before .before .before .row .result) (c .before .before .before .before .row .ensures) (c .before .before .before .if1 .left) _ _ _ refl (leaves-needed _ (c .before .before .left-out .result) (c .before .before .left-out .ensures) _ _ _ (not-true _ (c .if2 .taken))))
+returns-2 c = c .before .before .before .before .before .before .before .loop .inv .goes-on _ _ _ _ (λ types. out-stuck types _ _ _ _ _ _ _ (omega arith) (c .before .before .before .before .row .result) (c .before .before .before .before .row .ensures) (c .before .before .before .if1 .left) _ _ _ refl (leaves-needed types _ (c .before .before .left-out .result) (c .before .before .left-out .ensures) _ _ _ (not-true _ (c .if2 .taken))))
 
 loop-less : tie.Need-loop-less Inv-loop μ-loop
 loop-less c = search needs
 
 loop-again : tie.Need-loop-again Inv-loop μ-loop
-loop-again c = going-next _ _ _ _ _ _ _ _ _ _ _ _ (c .before .before .before .before .before .before .before .before .before .loop .inv) (omega arith) (c .before .before .before .before .before .before .row .result) (c .before .before .before .before .before .before .row .ensures) (c .before .before .before .before .before .if1 .left) _ _ _ _ refl (leaves-none _ (c .before .before .before .before .left-out .result) (c .before .before .before .before .left-out .ensures) _ _ _ (not-false _ (c .before .before .if2 .left)) (c .if3 .taken)) refl refl
+loop-again c = going-next _ _ _ _ _ _ _ _ _ _ _ _ (c .before .before .before .before .before .before .before .before .before .loop .inv) (omega arith) (c .before .before .before .before .before .before .row .result) (c .before .before .before .before .before .before .row .ensures) (c .before .before .before .before .before .if1 .left) _ _ _ _ refl (λ types. leaves-none types _ (c .before .before .before .before .left-out .result) (c .before .before .before .before .left-out .ensures) _ _ _ (not-false _ (c .before .before .if2 .left)) (c .if3 .taken)) refl refl
 
 do-actions-requires : tie.Need-do-actions-requires Inv-loop μ-loop
-do-actions-requires c κs = stands-left _ (c .before .before .before .before .before .before .left-out .result) (c .before .before .before .before .before .before .left-out .ensures) _ _ _ (not-false _ (c .before .before .before .before .if2 .left)) _ _ _ _ (omega arith) (c .before .before .before .before .before .before .before .before .before .before .before .loop .inv .ready)
+do-actions-requires c κs = let r = c .before .before .before .before .before .before .before .before .before .before .before .loop .inv .ready in record { types = r .types; stands = stands-left (r .types) _ (c .before .before .before .before .before .before .left-out .result) (c .before .before .before .before .before .before .left-out .ensures) _ _ _ (not-false _ (c .before .before .before .before .if2 .left)) _ _ _ _ (omega arith) (r .steppable) }
 
 enum-known-next : tie.Need-enum-known-next Inv-loop μ-loop
 enum-known-next c = search needs
@@ -75,7 +75,7 @@ loop-less-2 : tie.Need-loop-less-2 Inv-loop μ-loop
 loop-less-2 c = search needs
 
 loop-again-2 : tie.Need-loop-again-2 Inv-loop μ-loop
-loop-again-2 c = going-next _ _ _ _ _ _ _ _ _ _ _ _ (c .before .before .before .before .before .before .before .before .before .before .before .before .before .before .before .before .before .before .before .loop .inv) (omega arith) (c .before .before .before .before .before .before .before .before .before .before .before .before .before .before .before .before .row .result) (c .before .before .before .before .before .before .before .before .before .before .before .before .before .before .before .before .row .ensures) (c .before .before .before .before .before .before .before .before .before .before .before .before .before .before .before .if1 .left) _ _ _ _ (c .before .next .given .1) (leaves-done _ (c .before .before .before .before .before .before .before .before .before .before .before .before .before .before .left-out .result) (c .before .before .before .before .before .before .before .before .before .before .before .before .before .before .left-out .ensures) _ _ _ (not-false _ (c .before .before .before .before .before .before .before .before .before .before .before .before .if2 .left)) _ _ _ _ _ (c .before .before .before .before .before .before .before .do-actions .ensures .0)) (search needs) (search needs)
+loop-again-2 c = going-next _ _ _ _ _ _ _ _ _ _ _ _ (c .before .before .before .before .before .before .before .before .before .before .before .before .before .before .before .before .before .before .before .loop .inv) (omega arith) (c .before .before .before .before .before .before .before .before .before .before .before .before .before .before .before .before .row .result) (c .before .before .before .before .before .before .before .before .before .before .before .before .before .before .before .before .row .ensures) (c .before .before .before .before .before .before .before .before .before .before .before .before .before .before .before .if1 .left) _ _ _ _ (c .before .next .given .1) (λ types. leaves-done types _ (c .before .before .before .before .before .before .before .before .before .before .before .before .before .before .left-out .result) (c .before .before .before .before .before .before .before .before .before .before .before .before .before .before .left-out .ensures) _ _ _ (not-false _ (c .before .before .before .before .before .before .before .before .before .before .before .before .if2 .left)) _ _ _ _ _ (c .before .before .before .before .before .before .before .do-actions .ensures .0 types)) (search needs) (search needs)
 
 enum-told : tie.Need-enum-told Inv-loop μ-loop
 enum-told c = search needs
@@ -90,7 +90,7 @@ same-length-9 : tie.Need-same-length-9 Inv-loop μ-loop
 same-length-9 c = search needs
 
 returns-3 : tie.Need-returns-3 Inv-loop μ-loop
-returns-3 c = c .before .before .before .before .before .before .before .before .before .before .before .before .before .before .before .before .before .before .loop .inv .goes-on _ _ _ _ (out-stuck _ _ _ _ _ _ _ (omega arith) (c .before .before .before .before .before .before .before .before .before .before .before .before .before .before .before .row .result) (c .before .before .before .before .before .before .before .before .before .before .before .before .before .before .before .row .ensures) (c .before .before .before .before .before .before .before .before .before .before .before .before .before .before .if1 .left) _ _ _ (c .enum-told .given .1) (leaves-done _ (c .before .before .before .before .before .before .before .before .before .before .before .before .before .left-out .result) (c .before .before .before .before .before .before .before .before .before .before .before .before .before .left-out .ensures) _ _ _ (not-false _ (c .before .before .before .before .before .before .before .before .before .before .before .if2 .left)) _ _ _ _ _ (c .before .before .before .before .before .before .do-actions .ensures .0)))
+returns-3 c = c .before .before .before .before .before .before .before .before .before .before .before .before .before .before .before .before .before .before .loop .inv .goes-on _ _ _ _ (λ types. out-stuck types _ _ _ _ _ _ _ (omega arith) (c .before .before .before .before .before .before .before .before .before .before .before .before .before .before .before .row .result) (c .before .before .before .before .before .before .before .before .before .before .before .before .before .before .before .row .ensures) (c .before .before .before .before .before .before .before .before .before .before .before .before .before .before .if1 .left) _ _ _ (c .enum-told .given .1) (leaves-done types _ (c .before .before .before .before .before .before .before .before .before .before .before .before .before .left-out .result) (c .before .before .before .before .before .before .before .before .before .before .before .before .before .left-out .ensures) _ _ _ (not-false _ (c .before .before .before .before .before .before .before .before .before .before .before .if2 .left)) _ _ _ _ _ (c .before .before .before .before .before .before .do-actions .ensures .0 types)))
 
 same-length-10 : tie.Need-same-length-10 Inv-loop μ-loop
 same-length-10 c = search needs
@@ -102,7 +102,7 @@ same-length-12 : tie.Need-same-length-12 Inv-loop μ-loop
 same-length-12 c = search needs
 
 returns-4 : tie.Need-returns-4 Inv-loop μ-loop
-returns-4 c = c .before .loop .inv .goes-on _ _ _ _ (none-left _ _ _ _ _ _ _ (omega arith))
+returns-4 c = c .before .loop .inv .goes-on _ _ _ _ (λ types. none-left types _ _ _ _ _ _ _ (omega arith))
 
 pub take-spec : {M : Type 1} → statement M
 take-spec =

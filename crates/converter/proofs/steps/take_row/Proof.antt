@@ -6,13 +6,13 @@ use Rattle.converter.proofs.steps.take_row.Statement.{statement}
 use Rattle.converter.proofs.steps.take_row.Tie as tie
 
 do-actions-requires : tie.Need-do-actions-requires
-do-actions-requires c κs = let p = c .before .before .before .before .before .pre in stands-row _ _ _ _ _ _ _ _ (p .1) (omega arith) (p .0)
+do-actions-requires c κs = let p = c .before .before .before .before .before .pre in record { types = p .0 .types; stands = stands-row (p .0 .types) _ _ _ _ _ _ _ _ (p .1) (omega arith) (p .0 .steppable) }
 
 enum-known-next : tie.Need-enum-known-next
 enum-known-next c = search needs
 
 push-requires : tie.Need-push-requires
-push-requires c κs = let p = c .before .before .before .before .before .before .before .before .before .before .before .before .before .before .pre in row-room _ _ _ _ _ _ _ _ (p .1) (p .0)
+push-requires c κs = let p = c .before .before .before .before .before .before .before .before .before .before .before .before .before .before .pre in row-room (p .0 .types) _ _ _ _ _ _ _ _ (p .1) (p .0 .steppable)
 
 enum-told : tie.Need-enum-told
 enum-told c = search needs
@@ -27,7 +27,7 @@ same-length-3 : tie.Need-same-length-3
 same-length-3 c = search needs
 
 returns : tie.Need-returns
-returns c = let d = c .before .before .before .before .before .before .before .before .before .before .before .do-actions .ensures in row-onward _ _ _ _ _ _ _ _ (c .before .before .before .before .before .before .before .before .before .before .before .before .before .before .before .before .before .pre .1) _ _ _ _ _ _ (c .before .before .before .before .before .next .given .1) (d .0) (d .1) (c .before .before .push .ensures)
+returns c = let d = c .before .before .before .before .before .before .before .before .before .before .before .do-actions .ensures in λ types. row-onward types _ _ _ _ _ _ _ _ (c .before .before .before .before .before .before .before .before .before .before .before .before .before .before .before .before .before .pre .1) _ _ _ _ _ _ (c .before .before .before .before .before .next .given .1) (d .0 types) (d .1) (c .before .before .push .ensures)
 
 same-length-4 : tie.Need-same-length-4
 same-length-4 c = search needs
@@ -36,7 +36,7 @@ same-length-5 : tie.Need-same-length-5
 same-length-5 c = search needs
 
 returns-2 : tie.Need-returns-2
-returns-2 c = row-stuck _ _ _ _ _ _ _ _ (c .before .before .before .before .before .before .before .before .before .before .before .before .pre .1) _ _ _ _ (c .enum-told .given .1) (c .before .before .before .before .before .before .do-actions .ensures .0)
+returns-2 c = λ types. row-stuck types _ _ _ _ _ _ _ _ (c .before .before .before .before .before .before .before .before .before .before .before .before .pre .1) _ _ _ _ (c .enum-told .given .1) (c .before .before .before .before .before .before .do-actions .ensures .0 types)
 
 pub take-row-spec : {M : Type 1} → statement M
 take-row-spec =

@@ -11,7 +11,7 @@ next-token-requires c κs = search needs
 
 returns : tie.Need-returns
 unfolding ReadSo
-returns c = λ f g. malformed-refused _ _ _ _ _ _ (c .before .before .before .before .before .before .before .before .pre) _ (c .before .before .next-token .ensures) (c .if1 .taken) f
+returns c = λ f g. malformed-refused _ _ _ _ _ _ _ (c .before .before .before .before .before .before .before .before .before .before .pre .1) _ (c .before .before .next-token .ensures) (c .if1 .taken) f
 
 enter-strings-requires : tie.Need-enter-strings-requires
 enter-strings-requires c κs = search needs
@@ -21,7 +21,7 @@ same-length c = search needs
 
 returns-2 : tie.Need-returns-2
 unfolding ReadSo
-returns-2 c = λ f g. crowded-refused _ _ _ _ _ _ (c .before .before .before .before .before .before .before .before .before .before .before .before .before .before .pre) _ (c .before .before .before .before .before .before .before .before .next-token .ensures) (c .before .before .before .before .before .before .if1 .left) _ _ (c .before .before .before .before .enter-strings .ensures) (c .if2 .taken) f
+returns-2 c = λ f g. crowded-refused _ _ _ _ _ _ _ (c .before .before .before .before .before .before .before .before .before .before .before .before .before .before .before .before .pre .1) _ (c .before .before .before .before .before .before .before .before .next-token .ensures) (c .before .before .before .before .before .before .if1 .left) _ _ (c .before .before .before .before .enter-strings .ensures) (c .if2 .taken) f
 
 resource-tag-requires : tie.Need-resource-tag-requires
 resource-tag-requires c κs = search needs
@@ -30,7 +30,7 @@ word-for-requires : tie.Need-word-for-requires
 word-for-requires c κs = search needs
 
 take-requires : tie.Need-take-requires
-take-requires c κs = steppable _ _ _ _ _ _ (c .before .before .before .before .before .before .before .before .before .before .before .before .before .before .before .before .before .before .before .before .pre) _ (c .before .before .before .before .before .before .before .before .before .before .before .before .before .before .next-token .ensures) (c .before .before .before .before .before .before .before .before .before .before .before .before .if1 .left) _ _ (c .before .before .before .before .before .before .before .before .before .before .enter-strings .ensures) (omega (arith, c .before .before .before .before .before .before .if2 .left)) _ (c .before .before .before .before .before .resource-tag .ensures) _ (c .before .before .before .word-for .ensures)
+take-requires c κs = record { types = _; steppable = steppable _ _ _ _ _ _ _ (c .before .before .before .before .before .before .before .before .before .before .before .before .before .before .before .before .before .before .before .before .before .before .pre .1) _ (c .before .before .before .before .before .before .before .before .before .before .before .before .before .before .next-token .ensures) (c .before .before .before .before .before .before .before .before .before .before .before .before .if1 .left) _ _ (c .before .before .before .before .before .before .before .before .before .before .enter-strings .ensures) (omega (arith, c .before .before .before .before .before .before .if2 .left)) _ (c .before .before .before .before .before .resource-tag .ensures) _ (c .before .before .before .word-for .ensures) }
 
 enum-told : tie.Need-enum-told
 enum-told c = search needs
@@ -55,7 +55,7 @@ same-length-5 c = c .before .before .before .before .before .before .before .bef
 
 returns-3 : tie.Need-returns-3
 unfolding ReadSo
-returns-3 c = λ f g. taken-last _ _ _ _ _ _ (c .before .before .before .before .before .before .before .before .before .before .before .before .before .before .before .before .before .before .before .before .before .before .before .before .before .before .before .before .before .before .before .before .before .pre) _ (c .before .before .before .before .before .before .before .before .before .before .before .before .before .before .before .before .before .before .before .before .before .before .before .before .before .before .before .next-token .ensures) (c .before .before .before .before .before .before .before .before .before .before .before .before .before .before .before .before .before .before .before .before .before .before .before .before .before .if1 .left) _ _ (c .before .before .before .before .before .before .before .before .before .before .before .before .before .before .before .before .before .before .before .before .before .before .before .enter-strings .ensures) (omega (arith, c .before .before .before .before .before .before .before .before .before .before .before .before .before .before .before .before .before .before .before .if2 .left)) _ (c .before .before .before .before .before .before .before .before .before .before .before .before .before .before .before .before .before .before .resource-tag .ensures) _ (c .before .before .before .before .before .before .before .before .before .before .before .before .before .before .before .before .word-for .ensures) _ _ _ _ (c .before .before .before .before .before .before .before .before .before .before .before .before .take .ensures) _ (c .before .before .before .before .behind .given .1) _ f g (c .if3 .taken)
+returns-3 c = λ f g. taken-last _ _ _ _ _ _ _ (c .before .before .before .before .before .before .before .before .before .before .before .before .before .before .before .before .before .before .before .before .before .before .before .before .before .before .before .before .before .before .before .before .before .before .before .pre .1) _ (c .before .before .before .before .before .before .before .before .before .before .before .before .before .before .before .before .before .before .before .before .before .before .before .before .before .before .before .next-token .ensures) (c .before .before .before .before .before .before .before .before .before .before .before .before .before .before .before .before .before .before .before .before .before .before .before .before .before .if1 .left) _ _ (c .before .before .before .before .before .before .before .before .before .before .before .before .before .before .before .before .before .before .before .before .before .before .before .enter-strings .ensures) (omega (arith, c .before .before .before .before .before .before .before .before .before .before .before .before .before .before .before .before .before .before .before .if2 .left)) _ (c .before .before .before .before .before .before .before .before .before .before .before .before .before .before .before .before .before .before .resource-tag .ensures) _ (c .before .before .before .before .before .before .before .before .before .before .before .before .before .before .before .before .word-for .ensures) _ _ _ _ (c .before .before .before .before .before .before .before .before .before .before .before .before .take .ensures _) _ (c .before .before .before .before .behind .given .1) _ f g (c .if3 .taken)
 
 same-length-6 : tie.Need-same-length-6
 same-length-6 c = search needs
@@ -71,7 +71,7 @@ same-length-9 c = search needs
 
 returns-4 : tie.Need-returns-4
 unfolding ReadSo
-returns-4 c = λ f g. stuck-refused _ _ _ _ _ _ (c .before .before .before .before .before .before .before .before .before .before .before .before .before .before .before .before .before .before .before .before .before .before .before .before .before .before .before .before .before .pre) _ (c .before .before .before .before .before .before .before .before .before .before .before .before .before .before .before .before .before .before .before .before .before .before .before .next-token .ensures) (c .before .before .before .before .before .before .before .before .before .before .before .before .before .before .before .before .before .before .before .before .before .if1 .left) _ _ (c .before .before .before .before .before .before .before .before .before .before .before .before .before .before .before .before .before .before .before .enter-strings .ensures) (omega (arith, c .before .before .before .before .before .before .before .before .before .before .before .before .before .before .before .if2 .left)) _ (c .before .before .before .before .before .before .before .before .before .before .before .before .before .before .resource-tag .ensures) _ (c .before .before .before .before .before .before .before .before .before .before .before .before .word-for .ensures) _ _ _ _ (c .before .before .before .before .before .before .before .before .take .ensures) (c .enum-told .given .1) f g
+returns-4 c = λ f g. stuck-refused _ _ _ _ _ _ _ (c .before .before .before .before .before .before .before .before .before .before .before .before .before .before .before .before .before .before .before .before .before .before .before .before .before .before .before .before .before .before .before .pre .1) _ (c .before .before .before .before .before .before .before .before .before .before .before .before .before .before .before .before .before .before .before .before .before .before .before .next-token .ensures) (c .before .before .before .before .before .before .before .before .before .before .before .before .before .before .before .before .before .before .before .before .before .if1 .left) _ _ (c .before .before .before .before .before .before .before .before .before .before .before .before .before .before .before .before .before .before .before .enter-strings .ensures) (omega (arith, c .before .before .before .before .before .before .before .before .before .before .before .before .before .before .before .if2 .left)) _ (c .before .before .before .before .before .before .before .before .before .before .before .before .before .before .resource-tag .ensures) _ (c .before .before .before .before .before .before .before .before .before .before .before .before .word-for .ensures) _ _ _ _ (c .before .before .before .before .before .before .before .before .take .ensures _) (c .enum-told .given .1) f g
 
 same-length-10 : tie.Need-same-length-10
 same-length-10 c = search needs
@@ -87,7 +87,7 @@ same-length-13 c = c .before .before .before .before .before .before .before .be
 
 returns-5 : tie.Need-returns-5
 unfolding ReadSo
-returns-5 c = λ f g. taken-on _ _ _ _ _ _ (c .before .before .before .before .before .before .before .before .before .before .before .before .before .before .before .before .before .before .before .before .before .before .before .before .before .before .before .before .before .before .before .before .before .pre) _ (c .before .before .before .before .before .before .before .before .before .before .before .before .before .before .before .before .before .before .before .before .before .before .before .before .before .before .before .next-token .ensures) (c .before .before .before .before .before .before .before .before .before .before .before .before .before .before .before .before .before .before .before .before .before .before .before .before .before .if1 .left) _ _ (c .before .before .before .before .before .before .before .before .before .before .before .before .before .before .before .before .before .before .before .before .before .before .before .enter-strings .ensures) (omega (arith, c .before .before .before .before .before .before .before .before .before .before .before .before .before .before .before .before .before .before .before .if2 .left)) _ (c .before .before .before .before .before .before .before .before .before .before .before .before .before .before .before .before .before .before .resource-tag .ensures) _ (c .before .before .before .before .before .before .before .before .before .before .before .before .before .before .before .before .word-for .ensures) _ _ _ _ (c .before .before .before .before .before .before .before .before .before .before .before .before .take .ensures) _ (c .before .before .before .before .behind .given .1) _ f g (c .before .before .operand-behind .ensures) (c .if3 .left)
+returns-5 c = λ f g. taken-on _ _ _ _ _ _ _ (c .before .before .before .before .before .before .before .before .before .before .before .before .before .before .before .before .before .before .before .before .before .before .before .before .before .before .before .before .before .before .before .before .before .before .before .pre .1) _ (c .before .before .before .before .before .before .before .before .before .before .before .before .before .before .before .before .before .before .before .before .before .before .before .before .before .before .before .next-token .ensures) (c .before .before .before .before .before .before .before .before .before .before .before .before .before .before .before .before .before .before .before .before .before .before .before .before .before .if1 .left) _ _ (c .before .before .before .before .before .before .before .before .before .before .before .before .before .before .before .before .before .before .before .before .before .before .before .enter-strings .ensures) (omega (arith, c .before .before .before .before .before .before .before .before .before .before .before .before .before .before .before .before .before .before .before .if2 .left)) _ (c .before .before .before .before .before .before .before .before .before .before .before .before .before .before .before .before .before .before .resource-tag .ensures) _ (c .before .before .before .before .before .before .before .before .before .before .before .before .before .before .before .before .word-for .ensures) _ _ _ _ (c .before .before .before .before .before .before .before .before .before .before .before .before .take .ensures _) _ (c .before .before .before .before .behind .given .1) _ f g (c .before .before .operand-behind .ensures) (c .if3 .left)
 
 pub read-token-spec : {M : Type 1} → statement M
 read-token-spec =

@@ -12,19 +12,19 @@ label-right-requires : tie.Need-label-right-requires
 label-right-requires c κs = search needs
 
 returns : tie.Need-returns
-returns c = label-wrong _ _ _ _ (c .before .before .byte-in .ensures) (c .before .label-right .ensures) (not-true _ (c .if1 .taken))
+returns c = label-wrong _ _ _ _ _ (c .before .before .byte-in .ensures) (c .before .label-right .ensures) (not-true _ (c .if1 .taken))
 
 names-spellable-requires : tie.Need-names-spellable-requires
 names-spellable-requires c κs = search needs
 
 returns-2 : tie.Need-returns-2
-returns-2 c = names-wrong _ _ _ _ (c .before .before .before .before .byte-in .ensures) (c .before .before .before .label-right .ensures) (not-false _ (c .before .before .if1 .left)) (c .before .names-spellable .ensures) (not-true _ (c .if2 .taken))
+returns-2 c = names-wrong _ _ _ _ _ (c .before .before .before .before .byte-in .ensures) (c .before .before .before .label-right .ensures) (not-false _ (c .before .before .if1 .left)) (c .before .names-spellable .ensures) (not-true _ (c .if2 .taken))
 
 type-right-requires : tie.Need-type-right-requires
 type-right-requires c κs = search needs
 
 returns-3 : tie.Need-returns-3
-returns-3 c = type-decides _ _ _ _ (c .before .before .before .before .before .byte-in .ensures) (c .before .before .before .before .label-right .ensures) (not-false _ (c .before .before .before .if1 .left)) (c .before .before .names-spellable .ensures) (not-false _ (c .before .if2 .left)) (c .type-right .ensures)
+returns-3 c = type-decides _ _ _ _ _ (c .before .before .before .before .before .byte-in .ensures) (c .before .before .before .before .label-right .ensures) (not-false _ (c .before .before .before .if1 .left)) (c .before .before .names-spellable .ensures) (not-false _ (c .before .if2 .left)) (c .type-right .ensures)
 
 pub prints-at-spec : {M : Type 1} → statement M
 prints-at-spec =

@@ -23,13 +23,13 @@ is-built-in-type-requires-2 : tie.Need-is-built-in-type-requires-2
 is-built-in-type-requires-2 c κs = search needs
 
 returns : tie.Need-returns
-returns c = type-built-in _ _ _ _ (c .before .before .match .keys1) (c .before .two-at .ensures) (c .is-built-in-type .ensures)
+returns c = type-built-in _ _ _ _ _ (c .before .before .match .keys1) (c .before .two-at .ensures) (c .is-built-in-type .ensures)
 
 returns-2 : tie.Need-returns-2
-returns-2 c = type-defined _ _ _ _ (c .before .before .match .keys2) (c .before .two-at2 .ensures) (c .is-built-in-type2 .ensures)
+returns-2 c = type-defined _ _ _ _ _ (c .before .before .match .keys2) (c .before .two-at2 .ensures) (c .is-built-in-type2 .ensures)
 
 returns-3 : tie.Need-returns-3
-returns-3 c = let a = c .before .before .before .args in no-type _ (a .m .now) (a .p) _ (c .match .rest .0 .1) (c .match .rest .1)
+returns-3 c = let a = c .before .before .before .before .before .args in no-type _ _ (a .m .now) (a .p) _ (c .match .rest .0 .1) (c .match .rest .1)
 
 pub type-right-spec : {M : Type 1} → statement M
 type-right-spec =

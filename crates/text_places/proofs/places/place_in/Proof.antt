@@ -10,7 +10,7 @@ table-size-requires : tie.Need-table-size-requires
 table-size-requires c κs = search needs
 
 returns : tie.Need-returns
-returns c = told-string _ _ _ _ _ _ _ (c .before .before .before .before .before .pre .2) (c .before .table-size .ensures .0) _ (c .if1 .taken)
+returns c = λ types noted. told-string types _ _ _ _ _ _ _ noted (c .before .table-size .ensures .0) _ (c .if1 .taken)
 
 mul-if2 : tie.Need-mul-if2
 mul-if2 c = search needs
@@ -18,7 +18,7 @@ mul-if2 c = search needs
 returns-2 : tie.Need-returns-2
 returns-2 c =
     let bytes : IsBytes (c .before .before .before .before .before .before .args .text .now) = record { below = λ i. omega (arith, c .before .before .before .before .before .shared-slice-known .given i) } in
-    told-crowded _ _ _ _ _ _ _ (c .before .before .before .before .before .before .pre .2) (c .before .before .table-size .ensures .0) bytes (c .if2 .taken)
+    λ types noted. told-crowded types _ _ _ _ _ _ _ noted (c .before .before .table-size .ensures .0) bytes (c .if2 .taken)
 
 follow-requires : tie.Need-follow-requires
 follow-requires c κs = search needs
@@ -27,7 +27,7 @@ returns-3 : tie.Need-returns-3
 returns-3 c =
     let f = c .follow .ensures in
     let bytes : IsBytes (c .before .before .before .before .before .before .before .args .text .now) = record { below = λ i. omega (arith, c .before .before .before .before .before .before .shared-slice-known .given i) } in
-    told-item _ _ _ _ _ _ _ (c .before .before .before .before .before .before .before .pre .2) (c .before .before .before .table-size .ensures .0) _ bytes (omega arith) (omega arith) (f .0) (f .1)
+    λ types noted. told-item types _ _ _ _ _ _ _ noted (c .before .before .before .table-size .ensures .0) _ bytes (omega arith) (omega arith) (f .0) (f .1)
 
 pub place-in-spec : {M : Type 1} → statement M
 place-in-spec =
