@@ -1,16 +1,18 @@
 // Why does this line count? Reads a question from standard input, five lines (device, type, title, attribute, label) and a manifest, and writes the line that
-// answers it.
+// answers it. Behind the label may stand a space and a number: so many bytes between the lines and the manifest are a list of types, which replaces the eight.
 ghost use mathlib.Core.Path.{_≡_};
 ghost use mathlib.Core.Bool.{true};
 ghost use Prim.Native.Nat.{_≤_};
-ghost use lib.ListN.{length};
+ghost use lib.ListN.{length, take, drop};
+ghost use Rattle.rules.specs.Types.{theEight, lent};
 ghost use Rattle.question.specs.Answers.{answerLine, wrongLine};
-ghost use Rattle.question.specs.Lines.{linesOf};
+ghost use Rattle.question.specs.Lines.{linesOf, behindFeeds};
 ghost use Rattle.explain_label.specs.Answering.{explanationOf, answerText};
 use input::after;
 use question::Asked;
 use question::Lines;
 use question::line_between;
+use question::past;
 use standard_streams::Whole;
 use standard_streams::first;
 use standard_streams::read_whole;
@@ -20,7 +22,7 @@ use values::Explanation;
 // The question in `given`, whose lines end at these places, with 65,536 bytes of memory.
 fn explain_given(given: &[u8], lines: Lines, label: u8) -> Explanation
     requires { ⌜ lines ≡ linesOf (now given) ⌝ }
-    ensures { λ r. ⌜ r ≡ explanationOf (now (given .entry)) label ⌝ }
+    ensures { λ r. ⌜ r ≡ explanationOf theEight (behindFeeds 5 (now (given .entry))) (now (given .entry)) label ⌝ }
 {
     let mut work = [0u8; 65536];
     explanation::explain(
@@ -29,6 +31,31 @@ fn explain_given(given: &[u8], lines: Lines, label: u8) -> Explanation
         line_between(given, lines.device, lines.kind),
         line_between(given, lines.kind, lines.title),
         line_between(given, lines.title, lines.attribute),
+        label,
+        &mut work,
+    )
+}
+
+// The same with the list of types that is the first `size` bytes behind the lines.
+fn explain_with_types(given: &[u8], lines: Lines, label: u8, size: u16) -> Explanation
+    requires { ⌜ lines ≡ linesOf (now given) ⌝ }
+    ensures { λ r. ⌜ r ≡ explanationOf (lent (take size (behindFeeds 5 (now (given .entry))))) (drop size (behindFeeds 5 (now (given .entry)))) (now (given .entry)) label ⌝ }
+{
+    let mut work = [0u8; 65536];
+    let device = first(given, lines.device);
+    let kind = line_between(given, lines.device, lines.kind);
+    let title = line_between(given, lines.kind, lines.title);
+    let attribute = line_between(given, lines.title, lines.attribute);
+    let rest = after(given, lines.label);
+    let types = first(rest, size as usize);
+    let manifest = past(rest, size as usize);
+    explanation::explain_with_types(
+        types,
+        manifest,
+        device,
+        kind,
+        title,
+        attribute,
         label,
         &mut work,
     )
@@ -72,12 +99,16 @@ fn answer(given: &[u8], sent: &mut u64) -> bool
             let explanation = explain_given(given, lines, label);
             write_explanation(explanation, given, sent)
         }
+        Asked::WithTypes { lines, label, size } => {
+            let explanation = explain_with_types(given, lines, label, size);
+            write_explanation(explanation, given, sent)
+        }
     }
 }
 
-// An input of 131,072 bytes or more is no question: its manifest or one of its lines is too long. An empty input is none either.
+// An input of 196,608 bytes or more is no question: its list of types, its manifest or one of its lines is too long. An empty input is none either.
 fn main() {
-    let mut given = [0u8; 131072];
+    let mut given = [0u8; 196608];
     let whole = read_whole(&mut given);
     let mut sent: u64 = 0;
     match whole {

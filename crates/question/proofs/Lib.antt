@@ -1,7 +1,7 @@
 mod Reading
 mod Putting
+pub mod NumberText
 pub mod Laws
-pub mod LabelText
 pub mod Lengths
 pub mod Longer
 mod Cases

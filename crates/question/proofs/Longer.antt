@@ -1,10 +1,10 @@
 -- A question stays the same question when bytes are added behind it: they belong to its manifest. Assumes nothing.
-use Prim.Native.Nat.{ℕ, _+_, _-_, _<_}
+use Prim.Native.Nat.{ℕ, _+_, _-_, _≤_, _<_}
 use mathlib.Core.Path.{_≡_, refl, sym, ap, _∙_}
 use mathlib.Core.Bool.{Bool, true, false}
 use mathlib.Core.List.{List, _++_}
 use native.Mathlib.Omega.{arith}
-use borrow.Author.Tests.{ltb-true, ltb-false, lt-ltb}
+use borrow.Author.Tests.{ltb-true, ltb-false, lt-ltb, le-ltb}
 use lib.Dec.{ltb}
 use lib.ListN.{length, take, drop, length-append, length-drop}
 use lib.Seq.{take-append-le, drop-append-le}
@@ -13,10 +13,10 @@ use Rattle.rules.specs.Schedule.{beforeFeed}
 use Rattle.input.specs.Reading.{hasFeed}
 use Rattle.input.proofs.Feeding as feeding
 use Rattle.question.specs.declared.Lines.{Lines}
-use Rattle.question.specs.declared.Asked.the-variants.{Question, NotAQuestion}
+use Rattle.question.specs.declared.Asked.{Asked}
+use Rattle.question.specs.declared.Asked.the-variants.{Question, WithTypes, NotAQuestion}
 use Rattle.question.specs.Lines.{lineAfter, linesOf, lineBetween}
-use Rattle.question.specs.Labels.{labelOf}
-use Rattle.question.specs.Asking.{withLabel, askedBy, asked}
+use Rattle.question.specs.Asking.{labelOf, lendsTypes, sizeOf, withSize, withLine, askedBy, asked}
 use Rattle.question.proofs.Reading.{a-line, no-line, lines-are}
 
 -- a line that ends before the end has its line feed
@@ -69,19 +69,46 @@ module _ (given more : List ℕ) where
           let none : end - (feed + 1) ≡ 0 = omega (arith, ltb-false feed end e) in
           ap (λ (k : ℕ). take k (drop (feed + 1) given)) none ∙ sym (ap (λ (k : ℕ). take k (drop (feed + 1) (given ++ more))) none)
 
-  pub asked-longer : {lines : Lines} {label : ℕ} → asked given ≡ Question lines label → asked (given ++ more) ≡ Question lines label
+  -- where more bytes follow the fifth line
+  line-longer : (lines : Lines) (line : List ℕ) (there further : ℕ) → there ≤ further → (withLine lines line there ≡ NotAQuestion → ⊥) → withLine lines line further ≡ withLine lines line there
+  unfolding withLine withSize
+  line-longer lines line there further less = go (ltb 255 (labelOf line)) (lendsTypes line) (ltb 65535 (sizeOf line)) (ltb there (sizeOf line)) refl
+    where
+      question : Asked
+      question = Question lines (labelOf line)
+
+      list : Asked
+      list = WithTypes lines (labelOf line) (sizeOf line)
+
+      go : (a b c d : Bool) → ltb there (sizeOf line) ≡ d → (pick a NotAQuestion (pick b (pick c NotAQuestion (pick d NotAQuestion list)) question) ≡ NotAQuestion → ⊥)
+          → pick a NotAQuestion (pick b (pick c NotAQuestion (pick (ltb further (sizeOf line)) NotAQuestion list)) question) ≡ pick a NotAQuestion (pick b (pick c NotAQuestion (pick d NotAQuestion list)) question)
+      go true b c d e some = refl
+      go false false c d e some = refl
+      go false true true d e some = refl
+      go false true false true e some = absurd (some refl)
+      go false true false false e some = rw (le-ltb further (sizeOf line) (omega (arith, ltb-false there (sizeOf line) e))) refl
+
+  -- a question stays what it is
+  pub asked-longer : (asked given ≡ NotAQuestion → ⊥) → asked (given ++ more) ≡ asked given
   unfolding asked askedBy
-  asked-longer {lines} {label} is = go (ltb (ends .label) (length given)) refl is
+  asked-longer some = go (ltb (ends .label) (length given)) refl some
     where
       ends : Lines
       ends = linesOf given
 
-      go : (b : Bool) → ltb (ends .label) (length given) ≡ b → pick b (withLabel ends (labelOf (lineBetween given (ends .attribute) (ends .label)))) NotAQuestion ≡ Question lines label → askedBy (given ++ more) (linesOf (given ++ more)) ≡ Question lines label
-      go true e is =
-          let inside : ends .label < length given = ltb-true (ends .label) (length given) e in
-          rw (← same-lines inside, lt-ltb (ends .label) (length (given ++ more)) (omega (arith, longer)), ← same-between (ends .attribute) (ends .label) inside) is
-      go false e is = let z : _≡_ {A = ℕ} 0 1 = cc in absurd (omega arith)
+      line : List ℕ
+      line = lineBetween given (ends .attribute) (ends .label)
 
-  -- what is added is the manifest's
+      there : ℕ
+      there = length given - (ends .label + 1)
+
+      go : (b : Bool) → ltb (ends .label) (length given) ≡ b → (pick b (withLine ends line there) NotAQuestion ≡ NotAQuestion → ⊥) → askedBy (given ++ more) (linesOf (given ++ more)) ≡ pick b (withLine ends line there) NotAQuestion
+      go true e some =
+          let inside : ends .label < length given = ltb-true (ends .label) (length given) e in
+          rw (← same-lines inside, lt-ltb (ends .label) (length (given ++ more)) (omega (arith, longer)), ← same-between (ends .attribute) (ends .label) inside)
+          (line-longer ends line there (length (given ++ more) - (ends .label + 1)) (omega (arith, longer)) some)
+      go false e some = absurd (some refl)
+
+  -- what is added is the last of the manifest
   pub manifest-longer : (feed : ℕ) → feed < length given → drop (feed + 1) (given ++ more) ≡ drop (feed + 1) given ++ more
   manifest-longer feed inside = drop-append-le (feed + 1) given more (omega arith)

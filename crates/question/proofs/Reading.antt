@@ -1,20 +1,23 @@
--- The lines of a question and the digits of its label, in the words of the code. Assumes nothing.
-use Prim.Native.Nat.{ℕ, _+_, _-_, _≤_, _<_}
+-- The lines of a question and the numbers in its fifth line, in the words of the code. Assumes nothing.
+use Prim.Native.Nat.{ℕ, suc, _+_, _-_, _≤_, _<_}
 use mathlib.Core.Path.{_≡_, refl, sym, ap, _∙_}
+use mathlib.Core.Bool.{Bool, true, false}
 use mathlib.Core.List.{List, [], _∷_}
 use native.Mathlib.Numerals.{add-one}
 use native.Mathlib.Omega.{arith}
 use borrow.Author.Tests.{lt-ltb, le-ltb, eq-eqb, ne-eqb}
+use lib.Dec.{eqb}
 use lib.ListN.{length, getD, take, drop, length-drop, drop-of-length-le}
 use lib.Seq.{take-all, drop-cons}
-use Rattle.wire.specs.Bytes.{byte}
+use Rattle.wire.specs.Bytes.{byte, pick}
 use Rattle.rules.specs.Schedule.{beforeFeed}
 use Rattle.input.proofs.Feeding as feeding
 use Rattle.question.specs.declared.Lines.{Lines}
-use Rattle.question.specs.declared.Asked.the-variants.{Question, NotAQuestion}
+use Rattle.question.specs.declared.Asked.{Asked}
+use Rattle.question.specs.declared.Asked.the-variants.{Question, WithTypes, NotAQuestion}
 use Rattle.question.specs.Lines.{lineAfter, linesOf, lineBetween}
-use Rattle.question.specs.Labels.{withDigit, spelled, labelOf}
-use Rattle.question.specs.Asking.{withLabel, askedBy, asked}
+use Rattle.question.specs.Numbers.{withDigit, spelled, numberIn}
+use Rattle.question.specs.Asking.{spacePlace, labelOf, lendsTypes, sizeOf, withSize, withLine, askedBy, asked}
 
 -- ---- Lines
 
@@ -51,40 +54,108 @@ pub lines-are : (given : List ℕ) {device kind title attribute label : ℕ} →
 unfolding linesOf
 lines-are given d k t a l = cc
 
--- ---- The label
+-- what follows so many bytes
+module _ (bytes : List ℕ) (count : ℕ) where
+  pub none-past : length bytes ≤ count → [] ≡ drop count bytes
+  none-past short = sym (drop-of-length-le bytes {i = count} short)
 
--- one digit after the other
-pub digit-more : (line : List ℕ) (i n : ℕ) → i < length line → spelled (drop (i + 1) line) (withDigit n (byte line i)) ≡ spelled (drop i line) n
-unfolding spelled
-digit-more line i n h = rw (add-one, drop-cons line i 0 h) refl
+  pub all-past : take (length bytes - count) (drop count bytes) ≡ drop count bytes
+  all-past = take-all (length bytes - count) (drop count bytes) (omega (arith, length-drop count bytes))
 
-pub digits-end : (line : List ℕ) (i n : ℕ) → length line ≤ i → n ≡ spelled (drop i line) n
-unfolding spelled
-digits-end line i n h = rw drop-of-length-le refl
+-- ---- Numbers
 
-pub label-none : (line : List ℕ) → length line ≡ 0 → 256 ≡ labelOf line
-unfolding labelOf
-label-none [] none = refl
-label-none (c ∷ cs) none = absurd (omega arith)
+module _ (most : ℕ) where
+  -- one digit after the other
+  pub digit-more : (text : List ℕ) (i n : ℕ) → i < length text → spelled most (drop (i + 1) text) (withDigit most n (byte text i)) ≡ spelled most (drop i text) n
+  unfolding spelled
+  digit-more text i n h = rw (add-one, drop-cons text i 0 h) refl
 
-pub label-one : (line : List ℕ) → length line ≡ 1 → spelled line 0 ≡ labelOf line
-unfolding labelOf
-label-one [] one = absurd (omega arith)
-label-one (c ∷ []) one = refl
-label-one (c ∷ d ∷ cs) one = absurd (omega arith)
+  pub digits-end : (text : List ℕ) (i n : ℕ) → length text ≤ i → n ≡ spelled most (drop i text) n
+  unfolding spelled
+  digits-end text i n h = rw drop-of-length-le refl
 
-module _ where
-  pub label-zero : (line : List ℕ) → (length line ≡ 0 → ⊥) → (length line ≡ 1 → ⊥) → getD line 0 0 ≡ 48 → 256 ≡ labelOf line
+  pub number-none : (text : List ℕ) → length text ≡ 0 → most + 1 ≡ numberIn most text
+  unfolding numberIn
+  number-none [] none = refl
+  number-none (c ∷ cs) none = absurd (omega arith)
+
+  pub number-one : (text : List ℕ) → length text ≡ 1 → spelled most text 0 ≡ numberIn most text
+  unfolding numberIn
+  number-one [] one = absurd (omega arith)
+  number-one (c ∷ []) one = refl
+  number-one (c ∷ d ∷ cs) one = absurd (omega arith)
+
+  pub number-zero : (text : List ℕ) → (length text ≡ 0 → ⊥) → (length text ≡ 1 → ⊥) → getD text 0 0 ≡ 48 → most + 1 ≡ numberIn most text
+  unfolding numberIn
+  number-zero [] some more zero = absurd (some refl)
+  number-zero (c ∷ []) some more zero = absurd (more refl)
+  number-zero (c ∷ d ∷ cs) some more zero = rw (eq-eqb c 48 zero) refl
+
+  pub number-more : (text : List ℕ) → (length text ≡ 0 → ⊥) → (length text ≡ 1 → ⊥) → (getD text 0 0 ≡ 48 → ⊥) → spelled most text 0 ≡ numberIn most text
+  unfolding numberIn
+  number-more [] some more other = absurd (some refl)
+  number-more (c ∷ []) some more other = absurd (more refl)
+  number-more (c ∷ d ∷ cs) some more other = rw (ne-eqb c 48 other) refl
+
+-- ---- The space
+
+pub space-within : (line : List ℕ) → spacePlace line ≤ length line
+unfolding spacePlace
+space-within [] = omega arith
+space-within (c ∷ cs) = go (eqb c 32) (space-within cs)
+  where
+    go : (b : Bool) → spacePlace cs ≤ length cs → pick b 0 (suc (spacePlace cs)) ≤ length (c ∷ cs)
+    go true w = omega arith
+    go false w = omega arith
+
+-- the search for it, in the words of the loop
+module _ (line : List ℕ) (i : ℕ) {whole : ℕ} where
+  pub space-here : i < length line → getD line i 0 ≡ 32 → i + spacePlace (drop i line) ≡ whole → i ≡ whole
+  unfolding spacePlace
+  space-here l e inv = let none-before : spacePlace (drop i line) ≡ 0 = rw (drop-cons line i 0 l, eq-eqb (getD line i 0) 32 e) refl in omega (arith, none-before)
+
+  pub space-later : i < length line → (getD line i 0 ≡ 32 → ⊥) → i + spacePlace (drop i line) ≡ whole → i + 1 + spacePlace (drop (i + 1) line) ≡ whole
+  unfolding spacePlace
+  space-later l other inv =
+      let one-more : spacePlace (drop i line) ≡ suc (spacePlace (drop (i + 1) line)) = rw (add-one, drop-cons line i 0 l, ne-eqb (getD line i 0) 32 other) refl in
+      omega (arith, one-more)
+
+  pub space-nowhere : length line ≤ i → i + spacePlace (drop i line) ≡ whole → i ≡ whole
+  unfolding spacePlace
+  space-nowhere past inv = let none : spacePlace (drop i line) ≡ 0 = rw (drop-of-length-le line past) refl in omega (arith, none)
+
+-- ---- The fifth line
+
+module _ (lines : Lines) (label size there : ℕ) where
+  pub size-wrong : 65535 < size → NotAQuestion ≡ withSize lines label size there
+  unfolding withSize
+  size-wrong large = rw (lt-ltb 65535 size large) refl
+
+  module _ (small : size ≤ 65535) where
+    pub list-cut : there < size → NotAQuestion ≡ withSize lines label size there
+    unfolding withSize
+    list-cut short = rw (le-ltb 65535 size small, lt-ltb there size short) refl
+
+    pub list-there : size ≤ there → WithTypes lines label size ≡ withSize lines label size there
+    unfolding withSize
+    list-there whole = rw (le-ltb 65535 size small, le-ltb there size whole) refl
+
+module _ (lines : Lines) (line : List ℕ) (there : ℕ) {space label : ℕ} {front : List ℕ} (at : space ≡ spacePlace line) (before : front ≡ take space line) (spells : label ≡ numberIn 255 front) where
+  label-is : label ≡ labelOf line
   unfolding labelOf
-  label-zero [] some more zero = absurd (some refl)
-  label-zero (c ∷ []) some more zero = absurd (more refl)
-  label-zero (c ∷ d ∷ cs) some more zero = rw (eq-eqb c 48 zero) refl
+  label-is = rw (spells, before, at) refl
 
-  pub label-more : (line : List ℕ) → (length line ≡ 0 → ⊥) → (length line ≡ 1 → ⊥) → (getD line 0 0 ≡ 48 → ⊥) → spelled line 0 ≡ labelOf line
-  unfolding labelOf
-  label-more [] some more other = absurd (some refl)
-  label-more (c ∷ []) some more other = absurd (more refl)
-  label-more (c ∷ d ∷ cs) some more other = rw (ne-eqb c 48 other) refl
+  pub no-label : 255 < label → NotAQuestion ≡ withLine lines line there
+  unfolding withLine
+  no-label large = rw (← label-is, lt-ltb 255 label large) refl
+
+  pub label-alone : label ≤ 255 → length line ≤ space → Question lines label ≡ withLine lines line there
+  unfolding withLine lendsTypes
+  label-alone small none = rw (← label-is, le-ltb 255 label small, ← at, le-ltb space (length line) none) refl
+
+  pub with-types : {behind : List ℕ} {size : ℕ} {r : Asked} → label ≤ 255 → space < length line → behind ≡ drop (space + 1) line → size ≡ numberIn 65535 behind → r ≡ withSize lines label size there → r ≡ withLine lines line there
+  unfolding withLine lendsTypes sizeOf
+  with-types small some past number is = rw (← label-is, le-ltb 255 label small, ← at, lt-ltb space (length line) some, ← past, ← number) is
 
 -- ---- The question
 
@@ -93,11 +164,6 @@ module _ (given : List ℕ) {lines : Lines} (are : lines ≡ linesOf given) wher
   unfolding asked askedBy
   feed-missing past = rw (← are, le-ltb (lines .label) (length given) past) refl
 
-  module _ {line : List ℕ} {label : ℕ} (there : lines .label < length given) (last : line ≡ lineBetween given (lines .attribute) (lines .label)) (spells : label ≡ labelOf line) where
-    pub no-label : 255 < label → NotAQuestion ≡ asked given
-    unfolding asked askedBy withLabel
-    no-label large = rw (← are, lt-ltb (lines .label) (length given) there, ← last, ← spells, lt-ltb 255 label large) refl
-
-    pub a-question : label ≤ 255 → Question lines label ≡ asked given
-    unfolding asked askedBy withLabel
-    a-question small = rw (← are, lt-ltb (lines .label) (length given) there, ← last, ← spells, le-ltb 255 label small) refl
+  pub by-line : {line : List ℕ} {there : ℕ} {r : Asked} → lines .label < length given → line ≡ lineBetween given (lines .attribute) (lines .label) → there ≡ length given - (lines .label + 1) → r ≡ withLine lines line there → r ≡ asked given
+  unfolding asked askedBy
+  by-line inside last rest is = rw (← are, lt-ltb (lines .label) (length given) inside, ← last, ← rest) is

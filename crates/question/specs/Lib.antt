@@ -1,4 +1,4 @@
 pub mod Lines
-pub mod Labels
+pub mod Numbers
 pub mod Asking
 pub mod Answers

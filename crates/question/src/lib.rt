@@ -1,19 +1,16 @@
-// What the why program reads and writes: a question of five lines, with the manifest behind it, and a line that answers it.
+// What the why program reads and writes: a question of five lines, with the manifest behind it or a list of types and the manifest, and a line that answers it.
 ghost use mathlib.Core.Path.{_≡_};
 ghost use Prim.Native.Nat.{_≤_};
-ghost use lib.ListN.{length};
+ghost use lib.ListN.{length, drop};
 ghost use Rattle.values.specs.Decimal.{decimal};
 ghost use Rattle.question.specs.Lines.{lineAfter, linesOf, lineBetween};
-ghost use Rattle.question.specs.Labels.{withDigit, spelled, labelOf};
-ghost use Rattle.question.specs.Asking.{asked};
+ghost use Rattle.question.specs.Numbers.{withDigit, spelled, numberIn};
+ghost use Rattle.question.specs.Asking.{spacePlace, withSize, withLine, asked};
 ghost use Rattle.question.specs.Answers.{numbersLine, answerLine, wrongLine, Put};
 use input::after;
 use input::feed_place;
 use values::Explanation;
 use values::decimal::put_unsigned;
-
-// More than any label.
-const NO_LABEL: u16 = 256;
 
 // Where the lines of a question end: at their line feeds. The first begins at 0, each other one behind the line feed before it, and the manifest behind the last.
 pub struct Lines {
@@ -24,9 +21,10 @@ pub struct Lines {
     pub label: usize,
 }
 
-// What an input asks: its lines, and the label that the last one spells; or that it is no question.
+// What an input asks: its lines, and the label that the last one spells; with types, how many bytes their list has, which follows that line; or that it is no question.
 pub enum Asked {
     Question { lines: Lines, label: u8 },
+    WithTypes { lines: Lines, label: u8, size: u16 },
     NotAQuestion,
 }
 
@@ -76,54 +74,117 @@ pub fn line_between(given: &[u8], feed: usize, end: usize) -> &[u8]
     &given[from..end]
 }
 
-// ---- The label
-
-// The number n with one digit more.
-fn with_digit(n: u16, byte: u8) -> u16
-    ensures { λ r. ⌜ r ≡ withDigit n byte ⌝ }
+// What follows the first `count` bytes.
+pub fn past(bytes: &[u8], count: usize) -> &[u8]
+    ensures { λ r. ⌜ now r ≡ drop count (now (bytes .entry)) ⌝ }
 {
+    if bytes.len() <= count {
+        return &bytes[0..0];
+    }
+    &bytes[count..]
+}
+
+// ---- Numbers
+
+// The number n with one digit more, or one above the limit.
+fn with_digit(most: u16, n: u32, byte: u8) -> u32
+    ensures { λ r. ⌜ r ≡ withDigit most n byte ⌝ }
+{
+    let limit = most as u32;
+    let none = limit + 1;
     if byte < 48 {
-        return NO_LABEL;
+        return none;
     }
     if 57 < byte {
-        return NO_LABEL;
+        return none;
     }
-    if 255 < n {
-        return NO_LABEL;
+    if limit < n {
+        return none;
     }
-    let more = n * 10 + (byte - 48) as u16;
-    if 255 < more {
-        return NO_LABEL;
+    let more = n * 10 + (byte - 48) as u32;
+    if limit < more {
+        return none;
     }
     more
 }
 
-fn number_spelled(digits: &[u8]) -> u16
-    ensures { λ r. ⌜ r ≡ spelled (now (digits .entry)) 0 ⌝ }
+fn number_spelled(most: u16, digits: &[u8]) -> u32
+    ensures { λ r. ⌜ r ≡ spelled most (now (digits .entry)) 0 ⌝ }
 {
-    let mut n: u16 = 0;
+    let mut n: u32 = 0;
     let mut i: usize = 0;
     while i < digits.len() {
-        n = with_digit(n, digits[i]);
+        n = with_digit(most, n, digits[i]);
         i += 1;
     }
     n
 }
 
-// The label that a line spells, or 256.
-fn label_of(line: &[u8]) -> u16
-    ensures { λ r. ⌜ r ≡ labelOf (now (line .entry)) ⌝ }
+// The number that a text spells, or one above the limit.
+fn number_in(most: u16, text: &[u8]) -> u32
+    ensures { λ r. ⌜ r ≡ numberIn most (now (text .entry)) ⌝ }
 {
-    if line.len() == 0 {
-        return NO_LABEL;
+    if text.len() == 0 {
+        return most as u32 + 1;
     }
-    if line.len() == 1 {
-        return number_spelled(line);
+    if text.len() == 1 {
+        return number_spelled(most, text);
     }
-    if line[0] == 48 {
-        return NO_LABEL;
+    if text[0] == 48 {
+        return most as u32 + 1;
     }
-    number_spelled(line)
+    number_spelled(most, text)
+}
+
+// ---- The fifth line
+
+// Where its first space stands; its length if there is none.
+fn space_place(line: &[u8]) -> usize
+    ensures { λ r. ⌜ r ≡ spacePlace (now (line .entry)) ⌝ }
+{
+    let mut i: usize = 0;
+    while i < line.len() {
+        if line[i] == 32 {
+            return i;
+        }
+        i += 1;
+    }
+    i
+}
+
+// A list of so many bytes, where so many are there behind the line.
+fn ask_with_types(lines: Lines, label: u8, size: u32, there: usize) -> Asked
+    ensures { λ r. ⌜ r ≡ withSize lines label size there ⌝ }
+{
+    if 65535 < size {
+        return Asked::NotAQuestion;
+    }
+    if there < size as usize {
+        return Asked::NotAQuestion;
+    }
+    Asked::WithTypes {
+        lines,
+        label,
+        size: size as u16,
+    }
+}
+
+fn ask(lines: Lines, line: &[u8], there: usize) -> Asked
+    ensures { λ r. ⌜ r ≡ withLine lines (now (line .entry)) there ⌝ }
+{
+    let space = space_place(line);
+    let label = number_in(255, &line[..space]);
+    if 255 < label {
+        return Asked::NotAQuestion;
+    }
+    if line.len() <= space {
+        return Asked::Question {
+            lines,
+            label: label as u8,
+        };
+    }
+    let size = number_in(65535, after(line, space));
+    ask_with_types(lines, label as u8, size, there)
 }
 
 // ---- The question
@@ -135,14 +196,12 @@ pub fn split(given: &[u8]) -> Asked
     if given.len() <= lines.label {
         return Asked::NotAQuestion;
     }
-    let label = label_of(line_between(given, lines.attribute, lines.label));
-    if 255 < label {
-        return Asked::NotAQuestion;
-    }
-    Asked::Question {
+    let there = given.len() - lines.label - 1;
+    ask(
         lines,
-        label: label as u8,
-    }
+        line_between(given, lines.attribute, lines.label),
+        there,
+    )
 }
 
 // ---- The answer: each line at the start of `out`, as much of it as there is room for. The result is its length, and 64 bytes are enough for any.

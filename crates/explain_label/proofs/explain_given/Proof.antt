@@ -27,7 +27,7 @@ explain-requires : tie.Need-explain-requires
 explain-requires c κs = search needs
 
 returns : tie.Need-returns
-returns c = explained-given _ (c .before .before .before .before .before .before .before .before .before .pre) (c .before .before .before .before .before .before .before .after .ensures) (c .before .before .before .before .before .before .first .ensures) (c .before .before .before .before .before .line-between .ensures) (c .before .before .before .before .line-between2 .ensures) (c .before .before .before .line-between3 .ensures) refl (c .before .explain .ensures)
+returns c = explained-given _ (c .before .before .before .before .before .before .before .before .before .pre) (c .before .before .before .before .before .before .first .ensures) (c .before .before .before .before .before .line-between .ensures) (c .before .before .before .before .line-between2 .ensures) (c .before .before .before .line-between3 .ensures) (c .before .before .before .before .before .before .before .after .ensures) refl (c .before .explain .ensures)
 
 pub explain-given-spec : {M : Type 1} → statement M
 explain-given-spec =

@@ -3,7 +3,7 @@ use mathlib.Core.Path.{refl}
 use borrow.Author.Needs.{needs}
 use borrow.Author.Tests.{lt-ltb, le-ltb}
 use native.Mathlib.Omega.{arith}
-use Rattle.question.specs.Labels.{withDigit}
+use Rattle.question.specs.Numbers.{withDigit}
 use Rattle.question.proofs.with_digit.Statement.{statement}
 use Rattle.question.proofs.with_digit.Tie as tie
 
@@ -39,6 +39,7 @@ pub with-digit-spec : {M : Type 1} → statement M
 with-digit-spec =
     tie.close
     (tie.spec
+    (λ c. search needs)
     returns
     returns-2
     returns-3
