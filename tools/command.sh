@@ -45,6 +45,7 @@ reason() {
     25) echo "a constant stands past line 255, where the first line is line 0" ;;
     26) echo "a label is below an earlier constant's, the notation cannot spell a name, a 25 names no built-in type, or a 27 names one" ;;
     27) echo "the catalog has no such attribute" ;;
+    28) echo "the list of types is not 1 to 64 names, each 1 to 32 letters a to z, that rise" ;;
     *) echo "a number that the papers do not have" ;;
     esac
 }
@@ -262,6 +263,84 @@ explain_manifest() {
     '3 0') if is_text "$2"; then tell "$1" "$(reason 3): it does not begin with byte 01, as a tagged manifest does"; else tell "$1" "$(reason 3); it concerns the field at byte 0"; fi ;;
     *) tell "$1" "$(reason "$3"); it concerns the field at byte $4" ;;
     esac
+}
+
+# ---- Lists of types: a file has their names, one to a line, and a program takes fields, one after the other: byte 02, the length in two bytes, the letters.
+
+# FILE LIST: makes the list of the lines of the file, in their order, and keeps what was read of it in LIST.names. A line of more than 32 bytes is at fault whatever
+# follows them, and so is the 65th: 33 bytes of a line, and 65 lines, say as much as all. An awk may fail where standard error is closed, so it is given one.
+make_types() {
+    copy_start "$1" "$2.names"
+    fields=$(od -An -v -tu1 "$2.names" | awk '
+        function finish(    k) {
+            if (many++ < 65) {
+                printf "\\002\\000\\%03o", count
+                for (k = 1; k <= count; k++) printf "\\%03o", name[k]
+            }
+            count = 0
+        }
+        { for (i = 1; i <= NF; i++) if ($i == 10) finish(); else if (count < 33) name[++count] = $i }
+        END { if (count) finish() }' 2>/dev/null) || fail "awk cannot make a list of the types in the file $1"
+    # shellcheck disable=SC2059
+    printf "$fields" >"$2" || fail "there is no room for temporary files; TMPDIR names the folder to use"
+}
+
+# LIST PLACE: which line became the field at this place of a list that was made so, and what is wrong with it: the offset of a byte of the file, and a word. Nothing
+# where no field begins there.
+fault_of_types() {
+    od -An -v -tu1 "$1.names" | awk -v place="$2" '
+        # whether the line comes after the one before it
+        function rises(    k) {
+            for (k = 1; k <= count && k <= before; k++) if (name[k] != last[k]) return last[k] < name[k]
+            return before < count
+        }
+        function fault(    k) {
+            if (many == 65) return start " many"
+            if (count == 0) return start " empty"
+            if (count == 33) return (start + 32) " long"
+            for (k = 1; k <= count; k++) if (name[k] < 97 || 122 < name[k]) return (start + k - 1) " byte"
+            if (many > 1 && !rises()) return start " order"
+            return start " none"
+        }
+        BEGIN { at = start = passed = 0 }
+        function finish(    k) {
+            if (many++ < 65 && at == place) print fault()
+            at += 3 + count
+            for (k = 1; k <= count; k++) last[k] = name[k]
+            before = count
+            count = 0
+            start = passed
+        }
+        { for (i = 1; i <= NF; i++) { passed++; if ($i == 10) finish(); else if (count < 33) name[++count] = $i + 0 } }
+        END { if (count) finish() }'
+}
+
+# FILE LIST PLACE: tells why the list that was made of the file was refused 28.
+explain_types() {
+    if [ ! -s "$2" ]; then
+        tell "$1" "the list of types is empty: the file has no line"
+        return
+    fi
+    fault=$(fault_of_types "$2" "$3" 2>/dev/null) || fault=
+    case ${fault#* } in
+    many) words="a list has at most 64 types, and this is the 65th" ;;
+    empty) words="a type has 1 to 32 letters, and this line is empty" ;;
+    long) words="a type has at most 32 letters, and this line has more" ;;
+    byte) words="a type has no other bytes than the letters a to z" ;;
+    order) words="types rise, byte by byte, and this one is not above the line before it" ;;
+    *)
+        tell "$1" "$(reason 28); it concerns the field at byte $3 of the list"
+        return
+        ;;
+    esac
+    tell_at "$1" "$2.names" "${fault% *}" "$words"
+}
+
+# FILE LIST PLACE: ends with the refusal 28 of the list.
+refuse_types() {
+    print_refusal 28 "$3"
+    explain_types "$1" "$2" "$3"
+    exit 1
 }
 
 # ---- Manifests that are compiled. What the file holds is in "$room/given", and "$manifest" is its tagged form: the same file, or for a text another.

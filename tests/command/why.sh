@@ -308,6 +308,148 @@ refuses nothing_after_compile 'refused 13 at 24
     kiosk { front: price => \$nix }
                             ^"
 
+# ---- Lists of types
+
+names=$room/names
+# FORMAT WORD..: the question about a file, with the types that the format has, one to a line
+typed() {
+    # shellcheck disable=SC2059
+    printf "$1" >"$names"
+    shift
+    call "$why" --types "$names" "$@"
+}
+# COUNT: so many types, one to a line: aa, ab, .., all below kiosk if there are no more than 260
+some_types() { awk -v count="$1" 'BEGIN { letters = "abcdefghijklmnopqrstuvwxyz"; for (k = 0; k < count; k++) print substr(letters, int(k / 26) + 1, 1) substr(letters, k % 26 + 1, 1) }'; }
+eight='gate\nkiosk\nplan\nprinter\nscanner\nscreen\ntablet\nwall\n'
+
+# the eight answer as no list does, on each question: also where the value lacks the label, or there is no such attribute
+for words in 'kiosk front price 24' 'kiosk front price 64' 'wall overhang resets 27' 'kiosk front price 2' 'kiosk front until 1' 'robot rear speed 1'; do
+    # shellcheck disable=SC2086
+    call "$why" hill-desk "$gyms" $words
+    cp "$out" "$room/out.plain" && cp "$err" "$room/err.plain" && plain=$status
+    # shellcheck disable=SC2086
+    typed "$eight" hill-desk "$gyms" $words
+    [ "$status" -eq "$plain" ] && [ -s "$out" ] && cmp -s "$out" "$room/out.plain" && cmp -s "$err" "$room/err.plain"
+    count "types_eight_$words" $?
+done
+# a list that holds the types of this device, with and without the last line feed, and between options
+typed 'kiosk\nplan\nwall\n' hill-desk "$gyms" kiosk front price 24
+among_labels types_held "$gyms" 4 24 479
+typed 'kiosk\nplan\nwall' hill-desk "$gyms" kiosk front price 24
+among_labels types_no_line_feed "$gyms" 4 24 479
+call "$why" --types "$names" -- hill-desk "$gyms" kiosk front price 24
+among_labels types_options_end "$gyms" 4 24 479
+call sh -c '"$0" --types /dev/stdin hill-desk "$1" kiosk front price 24 <"$2"' "$why" "$gyms" "$names"
+among_labels types_from_input "$gyms" 4 24 479
+call sh -c '"$0" --types "$2" hill-desk /dev/stdin kiosk front price 24 <"$1"' "$why" "$gyms" "$names"
+among_labels types_manifest_from_input /dev/stdin 4 24 479
+# the plan comes before the kiosk, which is five bytes before its title
+typed 'kiosk\nwall\n' hill-desk "$gyms" kiosk front price 24
+refuses types_lack_plan 'refused 9 at 435
+' "$gyms: $(words 9); it concerns the field at byte 435"
+typed 'plan\nwall\n' hill-desk "$gyms" kiosk front price 24
+refuses types_lack_kiosk 'refused 9 at 778
+' "$gyms: $(words 9); it concerns the field at byte 778"
+# a type of the list that no resource has
+typed 'kiosk\nplan\nrobot\nwall\n' hill-desk "$gyms" robot front price 24
+refuses types_lack_resource 'refused 27 at 0
+' "$gyms: the catalog of hill-desk has no attribute price of robot front"
+# 64 types, of which the last three are those of the device
+typed "$(some_types 61)\nkiosk\nplan\nwall\n" hill-desk "$gyms" kiosk front price 24
+among_labels types_64 "$gyms" 4 24 479
+letters_32=$(repeat 32 k)
+typed "kiosk\n$letters_32\nplan\nwall\n" hill-desk "$gyms" kiosk front price 24
+among_labels types_letters_32 "$gyms" 4 24 479
+
+# NAME FORMAT PLACE LINE:COLUMN SHOWN MARGIN WORDS: a list that is refused 28 at the place; that line of the file is shown, with a caret behind the margin. It is refused
+# before a manifest and before a text, whatever is wrong there.
+types_fault() {
+    for file in "$gyms" "$room/refused" "$gyms_text" "$room/texts/sign.pp"; do
+        typed "$2" desk "$file" kiosk front price 24
+        refuses "types_$1_${file##*/}" "refused 28 at $3
+" "$names:$4: $7
+    $5
+    $6^"
+    done
+}
+none='a type has 1 to 32 letters, and this line is empty'
+large='a type has at most 32 letters, and this line has more'
+other_byte='a type has no other bytes than the letters a to z'
+falling='types rise, byte by byte, and this one is not above the line before it'
+types_fault line_empty 'gate\n\nkiosk\n' 7 2:1 '' '' "$none"
+types_fault line_empty_alone '\n' 0 1:1 '' '' "$none"
+types_fault line_empty_first '\ngate\n' 0 1:1 '' '' "$none"
+types_fault line_empty_last 'gate\n\n' 7 2:1 '' '' "$none"
+types_fault line_long "gate\n${letters_32}k\nkiosk\n" 7 2:33 "${letters_32}k" "$(repeat 32 ' ')" "$large"
+types_fault line_long_alone "${letters_32}k" 0 1:33 "${letters_32}k" "$(repeat 32 ' ')" "$large"
+types_fault line_longer "gate\n$(repeat 100 k)" 7 2:33 "$(repeat 100 k)" "$(repeat 32 ' ')" "$large"
+types_fault line_longest "gate\n$(repeat 70000 k)" 7 2:33 "$(repeat 120 k)..." "$(repeat 32 ' ')" "$large"
+types_fault capital 'gate\nKiosk\nwall\n' 7 2:1 Kiosk '' "$other_byte"
+types_fault digit 'gate\nkiosk2\n' 7 2:6 kiosk2 '     ' "$other_byte"
+types_fault below_a 'kio`sk\n' 0 1:4 'kio`sk' '   ' "$other_byte"
+types_fault above_z 'kio{sk\n' 0 1:4 'kio{sk' '   ' "$other_byte"
+types_fault space 'gate \nkiosk\n' 0 1:5 'gate ' '    ' "$other_byte"
+types_fault line_ends 'gate\r\nkiosk\r\n' 0 1:5 'gate ' '    ' "$other_byte"
+types_fault zero_byte 'gate\nki\000sk\n' 7 2:3 'ki?sk' '  ' "$other_byte"
+types_fault percent 'gate\nki%%sk\\n\n' 7 2:3 'ki%sk\n' '  ' "$other_byte"
+types_fault falling 'gate\nwall\nkiosk\n' 14 3:1 kiosk '' "$falling"
+types_fault twice 'gate\nkiosk\nkiosk' 15 3:1 kiosk '' "$falling"
+types_fault prefix_behind 'gate\nkiosks\nkiosk\n' 16 3:1 kiosk '' "$falling"
+types_fault first_fault 'gate\nwall\nkiosk\nKiosk\n\n' 14 3:1 kiosk '' "$falling"
+# the 65th is at fault as such, also where it would be for another reason
+types_fault line_65 "$(some_types 64)\nkiosk\nplan\n" 320 65:1 kiosk '' 'a list has at most 64 types, and this is the 65th'
+types_fault line_65_capital "$(some_types 64)\nKiosk" 320 65:1 Kiosk '' 'a list has at most 64 types, and this is the 65th'
+types_fault line_65_and_more "$(some_types 300)" 320 65:1 cm '' 'a list has at most 64 types, and this is the 65th'
+for file in "$gyms" "$room/texts/sign.pp"; do
+    typed '' desk "$file" kiosk front price 24
+    refuses "types_empty_${file##*/}" 'refused 28 at 0
+' "$names: the list of types is empty: the file has no line"
+done
+typed 'gate\nKiosk\n' desk "$room/long" kiosk front price 24
+[ "$status" -eq 1 ] && [ "$(cat "$out")" = 'refused 28 at 7' ]
+count types_before_length $?
+
+# wrong use, and files that cannot be read
+for words in '--types' "--types $names" "--types $names hill-desk $gyms kiosk front price" "--types $names --types $names hill-desk $gyms kiosk front price 24" "--types=$names hill-desk $gyms kiosk front price 24"; do
+    # shellcheck disable=SC2086
+    call "$why" $words
+    [ "$status" -eq 2 ] && [ ! -s "$out" ] && grep -q '^use: ./why' "$err"
+    count "types_words_$words" $?
+done
+call "$why" --types
+fails types_no_argument '--types is followed by a file'
+call "$why" --types '' hill-desk "$gyms" kiosk front price 24
+fails types_empty_argument '--types is followed by a file'
+call "$why" --types "$names" --types "$names" hill-desk "$gyms" kiosk front price 24
+fails types_given_twice '--types is given twice'
+call "$why" --types "$room/none" hill-desk "$gyms" kiosk front price 24
+fails types_no_file "there is no file $room/none"
+call "$why" --types "$room" hill-desk "$gyms" kiosk front price 24
+fails types_folder "$room is a folder"
+: >"$room/closed" && chmod 000 "$room/closed"
+if [ ! -r "$room/closed" ]; then
+    call "$why" --types "$room/closed" hill-desk "$gyms" kiosk front price 24
+    fails types_unreadable "the file $room/closed cannot be read"
+fi
+if [ -r /proc/self/mem ]; then
+    call "$why" --types /proc/self/mem hill-desk "$gyms" kiosk front price 24
+    fails types_read_fails 'the file /proc/self/mem cannot be read'
+fi
+# a text is converted with the eight types
+for file in "$gyms_text" "$room/texts/sign.pp" "$room/texts/empty.pp"; do
+    typed "$eight" hill-desk "$file" kiosk front price 24
+    fails "types_text_${file##*/}" "the file $file is a text, and texts are converted with the eight types"
+done
+typed 'gate\nKiosk\n' hill-desk "$gyms" kiosk front price 24
+for closed in '>&-' '>/dev/full'; do
+    [ -c /dev/full ] || [ "$closed" = '>&-' ] || continue
+    call sh -c 'exec "$0" "$@" '"$closed" "$why" --types "$names" hill-desk "$gyms" kiosk front price 24
+    fails "types_refused_$closed" 'standard output'
+done
+call sh -c '"$0" "$@" 2>&-' "$why" --types "$names" hill-desk "$gyms" kiosk front price 24
+[ "$status" -eq 1 ] && [ "$(cat "$out")" = 'refused 28 at 7' ]
+count types_nowhere_to_say $?
+
 # ---- Wrong use
 
 for words in '' --unknown -x "desk $gyms" "hill-desk $gyms kiosk front price" "hill-desk $gyms kiosk front price 1 2" "-- hill-desk $gyms kiosk front price" "-- -- hill-desk $gyms kiosk front price 1"; do
@@ -386,6 +528,44 @@ count question_cut $?
 explainer 'among 3 66\n'
 other_price "$gyms"
 among_labels other_explainer "$gyms" 3 7 66
+
+# with types: the label's line has the length of the list, which comes before the manifest
+explainer 'not among\n'
+printf 'kiosk\nwall\n' >"$names"
+call "$other/why" --types "$names" desk "$gyms" kiosk front price 7
+[ "$status" -eq 0 ] && { printf 'desk\nkiosk\nfront\nprice\n7 15\n\002\000\005kiosk\002\000\004wall' && cat "$gyms"; } | cmp -s - "$other/target/bin/explain_label.in"
+count question_with_types $?
+: >"$names"
+call "$other/why" --types "$names" desk "$gyms" kiosk front price 7
+[ "$status" -eq 0 ] && { printf 'desk\nkiosk\nfront\nprice\n7 0\n' && cat "$gyms"; } | cmp -s - "$other/target/bin/explain_label.in"
+count question_no_types $?
+# lines, and bytes of a line, that are too many are handed on too many, and no more
+{ repeat 70 'kiosk\n' && repeat 70 k; } | sed 's/\\n/\
+/g' >"$names"
+call "$other/why" --types "$names" desk "$gyms" kiosk front price 7
+[ "$status" -eq 0 ] && { printf 'desk\nkiosk\nfront\nprice\n7 520\n' && for _ in $(some_types 65); do printf '\002\000\005kiosk'; done && cat "$gyms"; } | cmp -s - "$other/target/bin/explain_label.in"
+count question_many_types $?
+repeat 70 k >"$names"
+call "$other/why" --types "$names" desk "$gyms" kiosk front price 7
+[ "$status" -eq 0 ] && { printf 'desk\nkiosk\nfront\nprice\n7 36\n\002\000\041%s' "$(repeat 33 k)" && cat "$gyms"; } | cmp -s - "$other/target/bin/explain_label.in"
+count question_long_type $?
+# a 28 where no field begins, at a field without fault, and where no list is lent
+explainer 'refused 28 at 3\n'
+printf 'kiosk\nwall\n' >"$names"
+for place in 3 8 16; do
+    explainer "refused 28 at $place\\n"
+    call "$other/why" --types "$names" desk "$gyms" kiosk front price 7
+    refuses "types_place_$place" "refused 28 at $place
+" "$names: the list of types is not 1 to 64 names, each 1 to 32 letters a to z, that rise; it concerns the field at byte $place of the list"
+done
+explainer 'refused 28 at 0\n'
+other_price "$gyms"
+refuses types_not_lent 'refused 28 at 0
+' "$gyms: the list of types is not 1 to 64 names, each 1 to 32 letters a to z, that rise; it concerns the field at byte 0"
+# an empty manifest is refused, with any list
+explainer 'not among\n'
+call "$other/why" --types "$names" desk "$gyms_text" kiosk front price 7
+fails types_text_cut 'explain_label wrote was cut short'
 
 for answer in '' '\n' 'among' 'among \n' 'among 3\n' 'among 3 \n' 'among 3 6' 'among 3 66\0\n' 'among 3 66\nnot' 'among 3 66\nnot among\n' 'among 0 66\n' 'among 6 66\n' 'among 33 66\n' \
     'among 3 -6\n' 'among 3 x\n' 'among 3 100000\n' 'among 3 66 \n' ' among 3 66\n' 'part 3 at 66\n' 'not' 'not among' 'not among\0\n' 'not among\nnot among\n' 'not \n' 'not a question' \
