@@ -57,6 +57,16 @@ for words in '--unknown' '-x' 'desk' 'desk a b' ''; do
 done
 call "$schedule" -x "$gyms"
 fails option_for_device 'no option -x'
+printf 'kiosk\nplan\nwall\n' >"$room/names"
+for words in --types "--types $room/names hill-desk $gyms" "--types=$room/names hill-desk $gyms" "--types $room/none hill-desk $gyms"; do
+    # shellcheck disable=SC2086
+    call "$schedule" $words
+    fails "types_$words" 'the schedule printer keeps the eight built-in types'
+    grep -q '^use: ./schedule' "$err"
+    count "types_use_$words" $?
+done
+call "$schedule" -- --types "$gyms"
+prints device_types "$root/examples/schedules/lobby"
 call "$schedule" desk "$room/none"
 fails no_file 'there is no file'
 call "$schedule" desk "$room"
