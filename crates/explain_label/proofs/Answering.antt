@@ -16,7 +16,7 @@ use Rattle.question.specs.declared.Asked.the-variants.{Question, WithTypes, Not
 use Rattle.question.specs.Lines.{linesOf, lineBetween, behindFeeds, lineNumber}
 use Rattle.question.specs.Asking.{labelOf, lendsTypes, sizeOf, withSize, withLine, askedBy, asked}
 use Rattle.question.specs.Answers.{answerLine, wrongLine, Put}
-use Rattle.question.proofs.Laws.{parts}
+use Rattle.question.proofs.Laws.{parts, askedWithoutTypes, asked-as-before}
 use Rattle.question.proofs.Lengths.{whole-put}
 use Rattle.explanation.specs.Explained.{Explains}
 use Rattle.explain_label.specs.Answering.{explanationOf, answerTo, answerText}
@@ -84,6 +84,11 @@ pub typed-text : (given : List ℕ) {a : Asked} {lines : Lines} {label size : �
     → r ≡ explanationOf (lent (take size (behindFeeds 5 given))) (drop size (behindFeeds 5 given)) given label → answerLine r ≡ answerText given
 unfolding answerText answerTo
 typed-text given told is answer = ap answerLine answer ∙ ap (answerTo given) (sym is ∙ told)
+
+-- an input that was a question before lists could be lent is answered as it was then
+pub answered-as-before : (given : List ℕ) {lines : Lines} {label : ℕ} → askedWithoutTypes given ≡ Question lines label → answerText given ≡ answerLine (explanationOf theEight (behindFeeds 5 given) given label)
+unfolding answerText answerTo
+answered-as-before given was = ap (answerTo given) (asked-as-before given was)
 
 -- the lines of a question are those of its input
 linesIn : (otherwise : Lines) → Asked → Lines
