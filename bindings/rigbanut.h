@@ -1,5 +1,6 @@
-/* Rigbanut for C: the four functions of the proved static library. One compiles a manifest, two convert a text to a
- * manifest (docs/NOTATION.md) and print a manifest as text, and one tells why a label counts for a value.
+/* Rigbanut for C: the functions of the proved static library. One compiles a manifest, two convert a text to a
+ * manifest (docs/NOTATION.md) and print a manifest as text, and one tells why a label counts for a value. Each of the
+ * four is there a second time, with a list of types that replaces the eight built-in ones.
  *
  * bindings/run builds the library and shows how to link it (x86-64 Linux). */
 #ifndef RIGBANUT_H
@@ -19,6 +20,9 @@ extern "C" {
 /* The same for a manifest that is converted from a text, and for a text that is printed. */
 #define RIGBANUT_LONGEST_MANIFEST 65535
 #define RIGBANUT_LONGEST_TEXT 65535
+/* A right list of types has 64 at most, each a field of at most 35 bytes. */
+#define RIGBANUT_MOST_TYPES 64
+#define RIGBANUT_LONGEST_TYPE_LIST 2240
 
 /* Compiles a manifest for a device, in at most `limit` steps.
  *
@@ -73,8 +77,43 @@ uint64_t rigbanut_why(
     uint8_t label,
     uint8_t *work, size_t work_length);
 
+/* The same four with a list of types: a type is built in precisely if the list holds it, so the eight are not unless
+ * they stand in it. The list is 1 to 64 fields, one after the other: the byte 0x02, the length in two bytes, the higher
+ * first, and a name of 1 to 32 letters a to z; each name is above the one before it in the order of bytes. Another list
+ * is refused (28) next after a short memory, at the offset in the list of its first faulty field. The call writes nothing
+ * into the list, and `out` and `work` must not overlap it either. To compare two manifests, give both the same list. */
+uint64_t rigbanut_compile_with_types(
+    const uint8_t *types, size_t types_length,
+    const uint8_t *manifest, size_t manifest_length,
+    const uint8_t *device, size_t device_length,
+    uint16_t limit,
+    uint8_t *out, size_t out_length,
+    uint8_t *work, size_t work_length);
+
+uint64_t rigbanut_convert_with_types(
+    const uint8_t *types, size_t types_length,
+    const uint8_t *text, size_t text_length,
+    uint8_t *out, size_t out_length,
+    uint8_t *work, size_t work_length);
+
+uint64_t rigbanut_print_with_types(
+    const uint8_t *types, size_t types_length,
+    const uint8_t *manifest, size_t manifest_length,
+    uint8_t *out, size_t out_length,
+    uint8_t *work, size_t work_length);
+
+uint64_t rigbanut_why_with_types(
+    const uint8_t *types, size_t types_length,
+    const uint8_t *manifest, size_t manifest_length,
+    const uint8_t *device, size_t device_length,
+    const uint8_t *kind, size_t kind_length,
+    const uint8_t *title, size_t title_length,
+    const uint8_t *attribute, size_t attribute_length,
+    uint8_t label,
+    uint8_t *work, size_t work_length);
+
 /* Accepted: steps * 65536 + length by a compile; the length by the two for texts; part * 65536 + place by the why call,
- * or 0 where the label is not among them. Refused, by all four: number * 2^32 + place. */
+ * or 0 where the label is not among them. Refused, by all: number * 2^32 + place. */
 static inline int rigbanut_is_accepted(uint64_t answer) { return answer >> 32 == 0; }
 
 /* Of an accepted compile: the catalog's length in `out`, and the steps taken. */
@@ -113,17 +152,17 @@ static inline const char *rigbanut_part_words(unsigned part)
     return part < sizeof words / sizeof *words ? words[part] : "not a part's number";
 }
 
-/* Of a refused call: the reason's number, 1 to 27. */
+/* Of a refused call: the reason's number, 1 to 28. */
 static inline unsigned rigbanut_number(uint64_t answer) { return (unsigned)(answer >> 32); }
 
 /* Of a refused call: the offset of the field concerned in the manifest, or of the token concerned in the text that was
- * to be converted. Of a label that is among them: the offset in the manifest of the first constant with this label that
+ * to be converted, or after 28 of the field concerned in the list of types. Of a label that is among them: the offset in the manifest of the first constant with this label that
  * the compile evaluated, tried as a pattern or assigned to a parameter as its default. It need not be the one through
  * which the label came into this set. */
 static inline uint16_t rigbanut_place(uint64_t answer) { return (uint16_t)(answer & 0xFFFF); }
 
 /* The reason of that number in words. 24 to 26 are those of the text notation, which a compile never gives; 27 is given
- * by the why call alone. */
+ * by the why call alone, 28 by the calls with a list of types. */
 static inline const char *rigbanut_reason(unsigned number)
 {
     static const char *const reasons[] = {
@@ -155,6 +194,7 @@ static inline const char *rigbanut_reason(unsigned number)
         "a constant stands past line 255",
         "a label falls, a name or type cannot be spelled, or the text is over 65,535 bytes or the output",
         "the catalog has no such attribute",
+        "the list of types is empty, or this field is not 1 to 32 letters a to z, is not above the one before it, or is the 65th",
     };
     return number < sizeof reasons / sizeof *reasons ? reasons[number] : "not a refusal's number";
 }

@@ -7,7 +7,8 @@
 //! with `#[path = ".../bindings/rigbanut.rs"] mod rigbanut;` in `main.rs`. `bindings/run` builds the library and an
 //! example. A [`Compiler`] has its own memory and compiles, converts texts to manifests, prints manifests as text
 //! (docs/NOTATION.md) and tells why a label counts for a value; [`compile_into`], [`convert_into`], [`print_into`] and
-//! [`why_with`] are the plain calls, on memory of the caller's.
+//! [`why_with`] are the plain calls, on memory of the caller's. Each is there a second time, ending in `_with_types`, with a
+//! list of types that replaces the eight built-in ones; [`type_list`] makes one of names.
 
 #![allow(dead_code)] // A program that includes this file need not use all of it.
 
@@ -21,6 +22,22 @@ pub const LONGEST_CATALOG: usize = 65_535;
 pub const LONGEST_MANIFEST: usize = 65_535;
 /// No text that is printed is longer.
 pub const LONGEST_TEXT: usize = 65_535;
+/// A right list of types has no more.
+pub const MOST_TYPES: usize = 64;
+
+/// A list of types: a field for each name, in the order given. It is right if there are 1 to [`MOST_TYPES`] names, each
+/// of 1 to 32 letters a to z and above the one before it in the order of bytes; another is refused (28) by every call
+/// that takes one, at the offset in the list of its first faulty field. To compare two manifests, give both the same
+/// list.
+pub fn type_list(names: &[&str]) -> Vec<u8> {
+    let mut list = Vec::new();
+    for name in names {
+        list.push(0x02);
+        list.extend(u16::try_from(name.len()).unwrap_or(u16::MAX).to_be_bytes());
+        list.extend(name.bytes());
+    }
+    list
+}
 
 /// What a compile answers.
 #[derive(Clone, Copy, Debug, PartialEq, Eq)]
@@ -81,7 +98,7 @@ pub enum Part {
 }
 
 /// The first reason met, by its number, and the offset of the field concerned in the manifest, or of the token concerned
-/// in the text that was to be converted.
+/// in the text that was to be converted, or with 28 of the field concerned in the list of types.
 #[derive(Clone, Copy, Debug, PartialEq, Eq)]
 pub struct Refusal {
     pub number: u8,
@@ -111,18 +128,25 @@ impl Compiler {
 
     /// Compiles a manifest for a device, in at most `limit` steps. The catalog stays until the next call.
     pub fn compile(&mut self, manifest: &[u8], device: &[u8], limit: u16) -> Outcome<'_> {
-        match compile_into(manifest, device, limit, &mut self.out, &mut self.work) {
-            Answer::Refused(refusal) => Outcome::Refused(refusal),
-            Answer::Catalog { length, steps } => Outcome::Accepted {
-                catalog: &self.out[..usize::from(length)],
-                steps,
-            },
-        }
+        let answer = compile_into(manifest, device, limit, &mut self.out, &mut self.work);
+        self.outcome(answer)
+    }
+
+    /// The same with a list of types, which replaces the eight.
+    pub fn compile_with_types(&mut self, types: &[u8], manifest: &[u8], device: &[u8], limit: u16) -> Outcome<'_> {
+        let answer = compile_into_with_types(types, manifest, device, limit, &mut self.out, &mut self.work);
+        self.outcome(answer)
     }
 
     /// Converts a text to its manifest. It stays until the next call.
     pub fn convert(&mut self, text: &[u8]) -> Result<&[u8], Refusal> {
         let written = convert_into(text, &mut self.out, &mut self.work);
+        self.written(written)
+    }
+
+    /// The same with a list of types, which replaces the eight.
+    pub fn convert_with_types(&mut self, types: &[u8], text: &[u8]) -> Result<&[u8], Refusal> {
+        let written = convert_into_with_types(types, text, &mut self.out, &mut self.work);
         self.written(written)
     }
 
@@ -132,10 +156,37 @@ impl Compiler {
         self.written(written)
     }
 
+    /// The same with a list of types, which replaces the eight.
+    pub fn print_with_types(&mut self, types: &[u8], manifest: &[u8]) -> Result<&[u8], Refusal> {
+        let written = print_into_with_types(types, manifest, &mut self.out, &mut self.work);
+        self.written(written)
+    }
+
     /// Tells why a label counts for a value of the device's catalog. A refusal is that of a compile with 65,535 steps
     /// or, if there is none, 27 at 0, when the catalog has no such attribute.
     pub fn why(&mut self, manifest: &[u8], device: &[u8], question: Question<'_>) -> Result<Why, Refusal> {
         why_with(manifest, device, question, &mut self.work)
+    }
+
+    /// The same with a list of types, which replaces the eight.
+    pub fn why_with_types(
+        &mut self,
+        types: &[u8],
+        manifest: &[u8],
+        device: &[u8],
+        question: Question<'_>,
+    ) -> Result<Why, Refusal> {
+        why_with_types(types, manifest, device, question, &mut self.work)
+    }
+
+    fn outcome(&self, answer: Answer) -> Outcome<'_> {
+        match answer {
+            Answer::Refused(refusal) => Outcome::Refused(refusal),
+            Answer::Catalog { length, steps } => Outcome::Accepted {
+                catalog: &self.out[..usize::from(length)],
+                steps,
+            },
+        }
     }
 
     fn written(&self, written: Written) -> Result<&[u8], Refusal> {
@@ -174,12 +225,57 @@ pub fn compile_into(manifest: &[u8], device: &[u8], limit: u16, out: &mut [u8], 
     Answer::from_number(answer)
 }
 
+/// The same with a list of types, which replaces the eight.
+pub fn compile_into_with_types(
+    types: &[u8],
+    manifest: &[u8],
+    device: &[u8],
+    limit: u16,
+    out: &mut [u8],
+    work: &mut [u8],
+) -> Answer {
+    // SAFETY: as for a compile without a list; the list is one slice more that is read.
+    let answer = unsafe {
+        rigbanut_compile_with_types(
+            types.as_ptr(),
+            types.len(),
+            manifest.as_ptr(),
+            manifest.len(),
+            device.as_ptr(),
+            device.len(),
+            limit,
+            out.as_mut_ptr(),
+            out.len(),
+            work.as_mut_ptr(),
+            work.len(),
+        )
+    };
+    Answer::from_number(answer)
+}
+
 /// Converts a text to its manifest, into lent memory. Afterwards `out` holds the manifest and then zeros, or zeros alone
 /// after a refusal, and `work` is zero throughout.
 pub fn convert_into(text: &[u8], out: &mut [u8], work: &mut [u8]) -> Written {
     // SAFETY: as for a compile.
     Written::from_number(unsafe {
         rigbanut_convert(
+            text.as_ptr(),
+            text.len(),
+            out.as_mut_ptr(),
+            out.len(),
+            work.as_mut_ptr(),
+            work.len(),
+        )
+    })
+}
+
+/// The same with a list of types, which replaces the eight.
+pub fn convert_into_with_types(types: &[u8], text: &[u8], out: &mut [u8], work: &mut [u8]) -> Written {
+    // SAFETY: as for a compile.
+    Written::from_number(unsafe {
+        rigbanut_convert_with_types(
+            types.as_ptr(),
+            types.len(),
             text.as_ptr(),
             text.len(),
             out.as_mut_ptr(),
@@ -206,6 +302,23 @@ pub fn print_into(manifest: &[u8], out: &mut [u8], work: &mut [u8]) -> Written {
     })
 }
 
+/// The same with a list of types, which replaces the eight.
+pub fn print_into_with_types(types: &[u8], manifest: &[u8], out: &mut [u8], work: &mut [u8]) -> Written {
+    // SAFETY: as for a compile.
+    Written::from_number(unsafe {
+        rigbanut_print_with_types(
+            types.as_ptr(),
+            types.len(),
+            manifest.as_ptr(),
+            manifest.len(),
+            out.as_mut_ptr(),
+            out.len(),
+            work.as_mut_ptr(),
+            work.len(),
+        )
+    })
+}
+
 /// Tells why a label counts for a value, with lent memory. Afterwards `work` is zero throughout. A call takes the time
 /// of 17 compiles at most, and 64 KiB of stack besides a compile's, for the catalog.
 pub fn why_with(
@@ -217,6 +330,36 @@ pub fn why_with(
     // SAFETY: as for a compile; the one that is lent exclusively overlaps nothing.
     Why::from_number(unsafe {
         rigbanut_why(
+            manifest.as_ptr(),
+            manifest.len(),
+            device.as_ptr(),
+            device.len(),
+            question.kind.as_ptr(),
+            question.kind.len(),
+            question.title.as_ptr(),
+            question.title.len(),
+            question.attribute.as_ptr(),
+            question.attribute.len(),
+            question.label,
+            work.as_mut_ptr(),
+            work.len(),
+        )
+    })
+}
+
+/// The same with a list of types, which replaces the eight.
+pub fn why_with_types(
+    types: &[u8],
+    manifest: &[u8],
+    device: &[u8],
+    question: Question<'_>,
+    work: &mut [u8],
+) -> Result<Why, Refusal> {
+    // SAFETY: as for a question without a list; the list is one slice more that is read.
+    Why::from_number(unsafe {
+        rigbanut_why_with_types(
+            types.as_ptr(),
+            types.len(),
             manifest.as_ptr(),
             manifest.len(),
             device.as_ptr(),
@@ -263,6 +406,56 @@ extern "C" {
         work_length: usize,
     ) -> u64;
     fn rigbanut_why(
+        manifest: *const u8,
+        manifest_length: usize,
+        device: *const u8,
+        device_length: usize,
+        kind: *const u8,
+        kind_length: usize,
+        title: *const u8,
+        title_length: usize,
+        attribute: *const u8,
+        attribute_length: usize,
+        label: u8,
+        work: *mut u8,
+        work_length: usize,
+    ) -> u64;
+    fn rigbanut_compile_with_types(
+        types: *const u8,
+        types_length: usize,
+        manifest: *const u8,
+        manifest_length: usize,
+        device: *const u8,
+        device_length: usize,
+        limit: u16,
+        out: *mut u8,
+        out_length: usize,
+        work: *mut u8,
+        work_length: usize,
+    ) -> u64;
+    fn rigbanut_convert_with_types(
+        types: *const u8,
+        types_length: usize,
+        text: *const u8,
+        text_length: usize,
+        out: *mut u8,
+        out_length: usize,
+        work: *mut u8,
+        work_length: usize,
+    ) -> u64;
+    fn rigbanut_print_with_types(
+        types: *const u8,
+        types_length: usize,
+        manifest: *const u8,
+        manifest_length: usize,
+        out: *mut u8,
+        out_length: usize,
+        work: *mut u8,
+        work_length: usize,
+    ) -> u64;
+    fn rigbanut_why_with_types(
+        types: *const u8,
+        types_length: usize,
         manifest: *const u8,
         manifest_length: usize,
         device: *const u8,
@@ -363,7 +556,7 @@ impl Refusal {
     }
 
     /// The reason in words. 24 to 26 are those of the text notation, which a compile never gives; 27 is given by the
-    /// why call alone.
+    /// why call alone, 28 by the calls with a list of types.
     pub fn reason(&self) -> &'static str {
         match self.number {
             1 => "the working memory is shorter than 65,536 bytes",
@@ -393,6 +586,7 @@ impl Refusal {
             25 => "a constant stands past line 255",
             26 => "a label falls, a name or type cannot be spelled, or the text is over 65,535 bytes or the output",
             27 => "the catalog has no such attribute",
+            28 => "the list of types is empty, or this field is not 1 to 32 letters a to z, is not above the one before it, or is the 65th",
             _ => "not a refusal's number",
         }
     }

@@ -1,6 +1,6 @@
 /* Compiles the scope paper's schedule manifest for the device "desk", with steps enough and with one too few, and asks
  * why labels count for the kiosk's price. Then converts a text, compiles its manifest, prints that as text again, and
- * converts a text that is outside the notation. */
+ * converts a text that is outside the notation. Last come the four calls with lists of types, one of them wrong. */
 #include "../rigbanut.h"
 
 #include <stdio.h>
@@ -43,10 +43,8 @@ static void say_refusal(uint64_t answer)
     printf("refused %u at %u: %s\n", number, (unsigned)rigbanut_place(answer), rigbanut_reason(number));
 }
 
-static void compile(const uint8_t *bytes, size_t length, uint16_t limit)
+static void say_catalog(uint64_t answer)
 {
-    uint64_t answer =
-        rigbanut_compile(bytes, length, device, sizeof device, limit, out, sizeof out, work, sizeof work);
     if (!rigbanut_is_accepted(answer)) {
         say_refusal(answer);
         return;
@@ -57,14 +55,16 @@ static void compile(const uint8_t *bytes, size_t length, uint16_t limit)
     printf("\n");
 }
 
+static void compile(const uint8_t *bytes, size_t length, uint16_t limit)
+{
+    say_catalog(rigbanut_compile(bytes, length, device, sizeof device, limit, out, sizeof out, work, sizeof work));
+}
+
 static const uint8_t kind[] = {'k', 'i', 'o', 's', 'k'};
 static const uint8_t title[] = {'f', 'r', 'o', 'n', 't'};
 
-static void why(const char *attribute, uint8_t label)
+static void say_why(uint8_t label, uint64_t answer)
 {
-    uint64_t answer = rigbanut_why(
-        manifest, sizeof manifest, device, sizeof device, kind, sizeof kind, title, sizeof title,
-        (const uint8_t *)attribute, strlen(attribute), label, work, sizeof work);
     if (!rigbanut_is_accepted(answer)) {
         say_refusal(answer);
         return;
@@ -76,6 +76,13 @@ static void why(const char *attribute, uint8_t label)
     unsigned part = rigbanut_part(answer);
     printf("label %u: part %u at %u: %s\n", (unsigned)label, part, (unsigned)rigbanut_place(answer),
            rigbanut_part_words(part));
+}
+
+static void why(const char *attribute, uint8_t label)
+{
+    say_why(label, rigbanut_why(
+        manifest, sizeof manifest, device, sizeof device, kind, sizeof kind, title, sizeof title,
+        (const uint8_t *)attribute, strlen(attribute), label, work, sizeof work));
 }
 
 /* Labels 1, 2 and 4 decide the price. The places are the offsets of their constants in the manifest. */
@@ -101,11 +108,9 @@ static const char text[] =
     "  kiosk { \"front\":\n"
     "    price => $fee, screens => 2 } }\n";
 
-/* The manifest of a text; its length, or 0 after a refusal. */
-static size_t convert(const char *given, uint8_t *converted)
+/* The manifest that a call left in `out`, kept; its length, or 0 after a refusal. */
+static size_t keep(uint64_t answer, uint8_t *converted)
 {
-    uint64_t answer =
-        rigbanut_convert((const uint8_t *)given, strlen(given), out, sizeof out, work, sizeof work);
     if (!rigbanut_is_accepted(answer)) {
         say_refusal(answer);
         return 0;
@@ -116,14 +121,51 @@ static size_t convert(const char *given, uint8_t *converted)
     return length;
 }
 
-static void print(const uint8_t *bytes, size_t length)
+static size_t convert(const char *given, uint8_t *converted)
 {
-    uint64_t answer = rigbanut_print(bytes, length, out, sizeof out, work, sizeof work);
+    return keep(rigbanut_convert((const uint8_t *)given, strlen(given), out, sizeof out, work, sizeof work), converted);
+}
+
+static void say_text(uint64_t answer)
+{
     if (!rigbanut_is_accepted(answer)) {
         say_refusal(answer);
         return;
     }
     fwrite(out, 1, rigbanut_written(answer), stdout);
+}
+
+static void print(const uint8_t *bytes, size_t length)
+{
+    say_text(rigbanut_print(bytes, length, out, sizeof out, work, sizeof work));
+}
+
+/* Two types, in rising order; and two that fall, which is refused at the second. */
+static const uint8_t own_types[] = {0x02, 0, 5, 'b', 'e', 'n', 'c', 'h', 0x02, 0, 5, 'k', 'i', 'o', 's', 'k'};
+static const uint8_t falling[] = {0x02, 0, 5, 'k', 'i', 'o', 's', 'k', 0x02, 0, 5, 'b', 'e', 'n', 'c', 'h'};
+
+static const char bench_text[] = "node default { bench { 'hall': seats => 12 } }\n";
+
+static void with_types(uint8_t *converted)
+{
+    say_catalog(rigbanut_compile_with_types(
+        own_types, sizeof own_types, manifest, sizeof manifest, device, sizeof device, 4, out, sizeof out, work,
+        sizeof work));
+    say_why(4, rigbanut_why_with_types(
+        own_types, sizeof own_types, manifest, sizeof manifest, device, sizeof device, kind, sizeof kind, title,
+        sizeof title, (const uint8_t *)"price", 5, 4, work, sizeof work));
+    size_t length = keep(
+        rigbanut_convert_with_types(
+            own_types, sizeof own_types, (const uint8_t *)bench_text, strlen(bench_text), out, sizeof out, work,
+            sizeof work),
+        converted);
+    say_text(rigbanut_print_with_types(
+        own_types, sizeof own_types, converted, length, out, sizeof out, work, sizeof work));
+    /* No bench is among the eight. */
+    compile(converted, length, 4);
+    say_catalog(rigbanut_compile_with_types(
+        falling, sizeof falling, manifest, sizeof manifest, device, sizeof device, 4, out, sizeof out, work,
+        sizeof work));
 }
 
 int main(void)
@@ -136,5 +178,6 @@ int main(void)
     compile(converted, length, 4);
     print(converted, length);
     convert("$fee == 40\n", converted);
+    with_types(converted);
     return 0;
 }

@@ -1,11 +1,11 @@
 //! Compiles the scope paper's schedule manifest for the device "desk", with steps enough and with one too few, and asks
 //! why labels count for the kiosk's price. Then converts a text, compiles its manifest, prints that as text again, and
-//! converts a text that is outside the notation.
+//! converts a text that is outside the notation. Last come the four calls with lists of types, one of them wrong.
 
 #[path = "../rigbanut.rs"]
 mod rigbanut;
 
-use rigbanut::{Compiler, Outcome, Question, Refusal};
+use rigbanut::{type_list, Compiler, Outcome, Question, Refusal};
 
 /// A field: its tag, the length of its body, the body.
 fn field(tag: u8, parts: &[&[u8]]) -> Vec<u8> {
@@ -51,8 +51,8 @@ node desk { if $peak { $fee = 55 }
     price => $fee, screens => 2 } }
 "#;
 
-fn compile(compiler: &mut Compiler, manifest: &[u8], limit: u16) {
-    match compiler.compile(manifest, b"desk", limit) {
+fn say(outcome: Outcome<'_>) {
+    match outcome {
         Outcome::Refused(refusal) => println!("{refusal}"),
         Outcome::Accepted { catalog, steps } => {
             println!("accepted: {} bytes in {steps} steps", catalog.len());
@@ -62,14 +62,21 @@ fn compile(compiler: &mut Compiler, manifest: &[u8], limit: u16) {
     }
 }
 
-fn why(compiler: &mut Compiler, manifest: &[u8], attribute: &str, label: u8) {
-    let question = Question {
+fn compile(compiler: &mut Compiler, manifest: &[u8], limit: u16) {
+    say(compiler.compile(manifest, b"desk", limit));
+}
+
+fn of_kiosk(attribute: &str, label: u8) -> Question<'_> {
+    Question {
         kind: b"kiosk",
         title: b"front",
         attribute: attribute.as_bytes(),
         label,
-    };
-    match compiler.why(manifest, b"desk", question) {
+    }
+}
+
+fn why(compiler: &mut Compiler, manifest: &[u8], attribute: &str, label: u8) {
+    match compiler.why(manifest, b"desk", of_kiosk(attribute, label)) {
         Err(refusal) => println!("{refusal}"),
         Ok(why) => println!("label {label}: {why}"),
     }
@@ -99,6 +106,24 @@ fn texts(compiler: &mut Compiler) -> Result<(), Refusal> {
     Ok(())
 }
 
+const BENCH_TEXT: &str = "node default { bench { 'hall': seats => 12 } }\n";
+
+/// Two types, in rising order; and two that fall, which is refused at the second.
+fn with_types(compiler: &mut Compiler, manifest: &[u8]) -> Result<(), Refusal> {
+    let own_types = type_list(&["bench", "kiosk"]);
+    let falling = type_list(&["kiosk", "bench"]);
+    say(compiler.compile_with_types(&own_types, manifest, b"desk", 4));
+    let why = compiler.why_with_types(&own_types, manifest, b"desk", of_kiosk("price", 4))?;
+    println!("label 4: {why}");
+    let converted = compiler.convert_with_types(&own_types, BENCH_TEXT.as_bytes())?.to_vec();
+    println!("converted: {} bytes", converted.len());
+    print!("{}", String::from_utf8_lossy(compiler.print_with_types(&own_types, &converted)?));
+    // No bench is among the eight.
+    compile(compiler, &converted, 4);
+    say(compiler.compile_with_types(&falling, manifest, b"desk", 4));
+    Ok(())
+}
+
 fn main() {
     let manifest = manifest();
     let mut compiler = Compiler::new();
@@ -107,6 +132,9 @@ fn main() {
     }
     why_all(&mut compiler, &manifest);
     if let Err(refusal) = texts(&mut compiler) {
+        println!("{refusal}");
+    }
+    if let Err(refusal) = with_types(&mut compiler, &manifest) {
         println!("{refusal}");
     }
 }
