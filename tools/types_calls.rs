@@ -6,89 +6,10 @@ use crate::any_case::AnyCase;
 use crate::ask;
 use crate::case::Case;
 use crate::compare_texts::leave;
+use crate::rigbanut;
 use crate::text_answer::Written;
 use crate::text_case::{Call, TextCase};
 use crate::why_case::WhyCase;
-
-extern "C" {
-    fn rigbanut_compile(
-        manifest: *const u8,
-        manifest_length: usize,
-        device: *const u8,
-        device_length: usize,
-        limit: u16,
-        out: *mut u8,
-        out_length: usize,
-        work: *mut u8,
-        work_length: usize,
-    ) -> u64;
-    fn rigbanut_convert(
-        text: *const u8,
-        text_length: usize,
-        out: *mut u8,
-        out_length: usize,
-        work: *mut u8,
-        work_length: usize,
-    ) -> u64;
-    fn rigbanut_print(
-        manifest: *const u8,
-        manifest_length: usize,
-        out: *mut u8,
-        out_length: usize,
-        work: *mut u8,
-        work_length: usize,
-    ) -> u64;
-    fn rigbanut_compile_with_types(
-        types: *const u8,
-        types_length: usize,
-        manifest: *const u8,
-        manifest_length: usize,
-        device: *const u8,
-        device_length: usize,
-        limit: u16,
-        out: *mut u8,
-        out_length: usize,
-        work: *mut u8,
-        work_length: usize,
-    ) -> u64;
-    fn rigbanut_convert_with_types(
-        types: *const u8,
-        types_length: usize,
-        text: *const u8,
-        text_length: usize,
-        out: *mut u8,
-        out_length: usize,
-        work: *mut u8,
-        work_length: usize,
-    ) -> u64;
-    fn rigbanut_print_with_types(
-        types: *const u8,
-        types_length: usize,
-        manifest: *const u8,
-        manifest_length: usize,
-        out: *mut u8,
-        out_length: usize,
-        work: *mut u8,
-        work_length: usize,
-    ) -> u64;
-    fn rigbanut_why_with_types(
-        types: *const u8,
-        types_length: usize,
-        manifest: *const u8,
-        manifest_length: usize,
-        device: *const u8,
-        device_length: usize,
-        kind: *const u8,
-        kind_length: usize,
-        title: *const u8,
-        title_length: usize,
-        attribute: *const u8,
-        attribute_length: usize,
-        label: u8,
-        work: *mut u8,
-        work_length: usize,
-    ) -> u64;
-}
 
 /// The library's answer, in what is lent; the call with a list if the case has one.
 pub fn library(case: &AnyCase, out: &mut [u8], work: &mut [u8]) -> u64 {
@@ -100,68 +21,28 @@ pub fn library(case: &AnyCase, out: &mut [u8], work: &mut [u8]) -> u64 {
 }
 
 fn compile(case: &Case, out: &mut [u8], work: &mut [u8]) -> u64 {
-    let (manifest, manifest_length) = (case.manifest.as_ptr(), case.manifest.len());
-    let (device, device_length) = (case.device.as_ptr(), case.device.len());
-    let (out_length, work_length) = (out.len(), work.len());
-    let (out, work) = (out.as_mut_ptr(), work.as_mut_ptr());
-    // SAFETY: as in bindings/rigbanut.rs.
-    unsafe {
-        match &case.types {
-            None => rigbanut_compile(
-                manifest,
-                manifest_length,
-                device,
-                device_length,
-                case.limit,
-                out,
-                out_length,
-                work,
-                work_length,
-            ),
-            Some(types) => rigbanut_compile_with_types(
-                types.as_ptr(),
-                types.len(),
-                manifest,
-                manifest_length,
-                device,
-                device_length,
-                case.limit,
-                out,
-                out_length,
-                work,
-                work_length,
-            ),
+    let answer = match &case.types {
+        None => rigbanut::compile_into(&case.manifest, &case.device, case.limit, out, work),
+        Some(types) => {
+            rigbanut::compile_into_with_types(types, &case.manifest, &case.device, case.limit, out, work)
         }
+    };
+    match answer {
+        rigbanut::Answer::Catalog { length, steps } => catalog(length, steps),
+        rigbanut::Answer::Refused(refusal) => refused(refusal.number, refusal.place),
     }
 }
 
 fn text(case: &TextCase, out: &mut [u8], work: &mut [u8]) -> u64 {
-    let (bytes, length) = (case.bytes.as_ptr(), case.bytes.len());
-    let (out_length, work_length) = (out.len(), work.len());
-    let (out, work) = (out.as_mut_ptr(), work.as_mut_ptr());
-    // SAFETY: as in bindings/rigbanut.rs.
-    unsafe {
-        match (case.call, &case.types) {
-            (Call::Convert, None) => rigbanut_convert(bytes, length, out, out_length, work, work_length),
-            (Call::Print, None) => rigbanut_print(bytes, length, out, out_length, work, work_length),
-            (call, Some(types)) => {
-                let function = match call {
-                    Call::Convert => rigbanut_convert_with_types,
-                    Call::Print => rigbanut_print_with_types,
-                };
-                let (types, types_length) = (types.as_ptr(), types.len());
-                function(
-                    types,
-                    types_length,
-                    bytes,
-                    length,
-                    out,
-                    out_length,
-                    work,
-                    work_length,
-                )
-            }
-        }
+    let written = match (case.call, &case.types) {
+        (Call::Convert, None) => rigbanut::convert_into(&case.bytes, out, work),
+        (Call::Print, None) => rigbanut::print_into(&case.bytes, out, work),
+        (Call::Convert, Some(types)) => rigbanut::convert_into_with_types(types, &case.bytes, out, work),
+        (Call::Print, Some(types)) => rigbanut::print_into_with_types(types, &case.bytes, out, work),
+    };
+    match written {
+        rigbanut::Written::Bytes { length } => u64::from(length),
+        rigbanut::Written::Refused(refusal) => refused(refusal.number, refusal.place),
     }
 }
 
@@ -169,25 +50,16 @@ fn why(case: &WhyCase, work: &mut [u8]) -> u64 {
     let Some(types) = &case.types else {
         return ask::library(case, work);
     };
-    // SAFETY: as in bindings/rigbanut.rs.
-    unsafe {
-        rigbanut_why_with_types(
-            types.as_ptr(),
-            types.len(),
-            case.manifest.as_ptr(),
-            case.manifest.len(),
-            case.device.as_ptr(),
-            case.device.len(),
-            case.kind.as_ptr(),
-            case.kind.len(),
-            case.title.as_ptr(),
-            case.title.len(),
-            case.attribute.as_ptr(),
-            case.attribute.len(),
-            case.label,
-            work.as_mut_ptr(),
-            work.len(),
-        )
+    let question = rigbanut::Question {
+        kind: &case.kind,
+        title: &case.title,
+        attribute: &case.attribute,
+        label: case.label,
+    };
+    match rigbanut::why_with_types(types, &case.manifest, &case.device, question, work) {
+        Ok(rigbanut::Why::Among { part, place }) => u64::from(part.number()) << 16 | u64::from(place),
+        Ok(rigbanut::Why::NotAmong) => 0,
+        Err(refusal) => refused(refusal.number, refusal.place),
     }
 }
 
@@ -195,7 +67,7 @@ fn why(case: &WhyCase, work: &mut [u8]) -> u64 {
 pub fn reference(case: &AnyCase, out: &mut [u8], work: &mut [u8]) -> u64 {
     match case {
         AnyCase::Compile(case) => match case.compile_into(out, work) {
-            Answer::Catalog { length, steps } => u64::from(steps) << 16 | u64::from(length),
+            Answer::Catalog { length, steps } => catalog(length, steps),
             Answer::Refused { number, place } => refused(number, place),
         },
         AnyCase::Text(case) => {
@@ -216,6 +88,10 @@ fn word_of(written: &Written) -> u64 {
         Ok(bytes) => bytes.len() as u64,
         Err(told) => refused(told.number, told.place),
     }
+}
+
+fn catalog(length: u16, steps: u16) -> u64 {
+    u64::from(steps) << 16 | u64::from(length)
 }
 
 fn refused(number: u8, place: u16) -> u64 {
