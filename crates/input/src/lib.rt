@@ -39,6 +39,16 @@ pub fn feed_place(piece: &[u8]) -> usize
     i
 }
 
+// What follows the first `count` bytes.
+pub fn past(bytes: &[u8], count: usize) -> &[u8]
+    ensures { λ r. ⌜ now r ≡ drop count (now (bytes .entry)) ⌝ }
+{
+    if bytes.len() <= count {
+        return &bytes[0..0];
+    }
+    &bytes[count..]
+}
+
 // What follows the byte at `i`.
 pub fn after(piece: &[u8], i: usize) -> &[u8]
     ensures { λ r. ⌜ now r ≡ drop (i + 1) (now (piece .entry)) ⌝ }
@@ -46,8 +56,7 @@ pub fn after(piece: &[u8], i: usize) -> &[u8]
     if piece.len() <= i {
         return &piece[0..0];
     }
-    let from = i + 1;
-    &piece[from..]
+    past(piece, i + 1)
 }
 
 // Puts the bytes after the first `kept` of a buffer, as many as fit, and returns how many are kept then.

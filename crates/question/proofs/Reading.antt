@@ -54,14 +54,6 @@ pub lines-are : (given : List ℕ) {device kind title attribute label : ℕ} →
 unfolding linesOf
 lines-are given d k t a l = cc
 
--- what follows so many bytes
-module _ (bytes : List ℕ) (count : ℕ) where
-  pub none-past : length bytes ≤ count → [] ≡ drop count bytes
-  none-past short = sym (drop-of-length-le bytes {i = count} short)
-
-  pub all-past : take (length bytes - count) (drop count bytes) ≡ drop count bytes
-  all-past = take-all (length bytes - count) (drop count bytes) (omega (arith, length-drop count bytes))
-
 -- ---- Numbers
 
 module _ (most : ℕ) where

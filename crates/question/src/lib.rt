@@ -1,7 +1,7 @@
 // What the why program reads and writes: a question of five lines, with the manifest behind it or a list of types and the manifest, and a line that answers it.
 ghost use mathlib.Core.Path.{_≡_};
 ghost use Prim.Native.Nat.{_≤_};
-ghost use lib.ListN.{length, drop};
+ghost use lib.ListN.{length};
 ghost use Rattle.values.specs.Decimal.{decimal};
 ghost use Rattle.question.specs.Lines.{lineAfter, linesOf, lineBetween};
 ghost use Rattle.question.specs.Numbers.{withDigit, spelled, numberIn};
@@ -72,16 +72,6 @@ pub fn line_between(given: &[u8], feed: usize, end: usize) -> &[u8]
         return &given[from..];
     }
     &given[from..end]
-}
-
-// What follows the first `count` bytes.
-pub fn past(bytes: &[u8], count: usize) -> &[u8]
-    ensures { λ r. ⌜ now r ≡ drop count (now (bytes .entry)) ⌝ }
-{
-    if bytes.len() <= count {
-        return &bytes[0..0];
-    }
-    &bytes[count..]
 }
 
 // ---- Numbers
