@@ -5,15 +5,17 @@ use mathlib.Core.Bool.{Bool, true, false}
 use mathlib.Core.List.{List, [], _∷_}
 use native.Mathlib.Numerals.{add-one}
 use native.Mathlib.Omega.{arith}
-use borrow.Author.Tests.{leb-true, leb-false, lt-ltb, le-ltb}
-use lib.Dec.{leb}
-use lib.ListN.{length, take, drop, length-take, drop-of-length-le}
-use lib.Seq.{take-all, drop-cons}
+use borrow.Author.Tests.{leb-true, leb-false, ltb-false, lt-ltb, le-ltb}
+use lib.Dec.{leb, ltb, lit≤}
+use lib.ListN.{length, take, drop, length-take, length-drop, drop-of-length-le}
+use lib.Seq.{take-all, take-take, drop-cons}
 use Rattle.rules.specs.Bytes.{pick, byte}
 use Rattle.rules.specs.Compile.{sameBytes}
 use Rattle.syntax.proofs.Texts.{other-length}
+use Rattle.manifest_text.specs.declared.BuiltIn.{BuiltIn}
+use Rattle.manifest_text.specs.declared.BuiltIn.the-variants.{Eight, Listed}
 use Rattle.manifest_text.specs.declared.Command.the-variants.{Place, Unknown}
-use Rattle.manifest_text.specs.Commands.{withDigit, spelled, offsetOf, placeAsked, commandOf}
+use Rattle.manifest_text.specs.Commands.{withDigit, spelled, offsetOf, placeAsked, commandOf, namesTypes, commandBehind, commandIn, typesIn}
 
 -- ---- Digits
 
@@ -53,6 +55,25 @@ pub third-word : (line : List ℕ) {w : List ℕ} {b : Bool} → sameBytes (99 �
 unfolding commandOf
 third-word line first second six third = rw (first, second, ← six, third) refl
 
+-- ---- Behind a list of types
+
+module _ (line : List ℕ) where
+  pub nothing-behind : {n : ℕ} → n ≡ offsetOf (take 11 line) → 99999 < n → Unknown ≡ commandBehind line
+  unfolding commandBehind
+  nothing-behind {n} e h = rw (← e, lt-ltb 99999 n h) refl
+
+  pub then-behind : {n : ℕ} {space : Bool} → n ≡ offsetOf (take 11 line) → n ≤ 99999 → sameBytes (32 ∷ []) (take 1 (drop 11 line)) ≡ space → pick space (commandOf (drop 12 line)) Unknown ≡ commandBehind line
+  unfolding commandBehind
+  then-behind {n} e h is = rw (← e, le-ltb 99999 n h, is) refl
+
+  pub command-is : {types : Bool} → namesTypes line ≡ types → pick types (commandBehind line) (commandOf line) ≡ commandIn line
+  unfolding commandIn
+  command-is e = rw e refl
+
+  pub types-are : {types : Bool} → namesTypes line ≡ types → pick types (Listed (offsetOf (take 11 line))) Eight ≡ typesIn line
+  unfolding typesIn
+  types-are e = rw e refl
+
 -- ---- Lengths
 
 -- where all that is longer than n has one value, the first n + 1 have the value of the whole
@@ -69,10 +90,60 @@ either-way : (b : Bool) → pick b Unknown Unknown ≡ Unknown
 either-way true = refl
 either-way false = refl
 
-long-line : (line : List ℕ) → 255 < length line → commandOf line ≡ Unknown
+-- no command is longer than eleven bytes
+long-line : (line : List ℕ) → 11 < length line → commandOf line ≡ Unknown
 unfolding commandOf placeAsked
 long-line line long =
     rw (← other-length (99 ∷ 111 ∷ 110 ∷ 118 ∷ 101 ∷ 114 ∷ 116 ∷ []) line (λ q. omega arith), ← other-length (112 ∷ 114 ∷ 105 ∷ 110 ∷ 116 ∷ []) line (λ q. omega arith), ← long-offset line (omega arith) (omega arith)) (either-way (sameBytes (112 ∷ 108 ∷ 97 ∷ 99 ∷ 101 ∷ 32 ∷ []) (take 6 line)))
 
-pub same-command : (line : List ℕ) → commandOf (take 256 line) ≡ commandOf line
-same-command line = same-beyond 255 commandOf long-line line
+-- nor one with a list longer than twenty-three
+long-command : (line : List ℕ) → 255 < length line → commandIn line ≡ Unknown
+unfolding commandIn commandBehind
+long-command line long =
+    rw (long-line line (omega arith), long-line (drop 12 line) (omega (arith, length-drop 12 line)), either-way (sameBytes (32 ∷ []) (take 1 (drop 11 line))), either-way (ltb 99999 (offsetOf (take 11 line)))) (either-way (namesTypes line))
+
+pub same-command : (line : List ℕ) → commandIn (take 256 line) ≡ commandIn line
+same-command line = same-beyond 255 commandIn long-command line
+
+pub same-types-in : (line : List ℕ) → typesIn (take 256 line) ≡ typesIn line
+unfolding typesIn namesTypes
+same-types-in line = rw (take-take 6 256 line (lit≤ tt), take-take 11 256 line (lit≤ tt)) refl
+
+-- ---- The list's length
+
+unfoldable pub listSize : BuiltIn → ℕ
+listSize Eight = 0
+listSize (Listed size) = size
+
+digit-low : (n c : ℕ) → withDigit n c ≤ 100000
+unfolding withDigit
+digit-low n c = go (ltb c 48) (ltb 57 c) (leb n 9999) refl refl refl
+  where
+    go : (a b d : Bool) → ltb c 48 ≡ a → ltb 57 c ≡ b → leb n 9999 ≡ d → withDigit n c ≤ 100000
+    go true b d e f g = rw e (omega arith)
+    go false true d e f g = rw (e, f) (omega arith)
+    go false false false e f g = rw (e, f, lt-ltb 9999 n (leb-false n 9999 g)) (omega arith)
+    go false false true e f g =
+        let few : n ≤ 9999 = leb-true n 9999 g in
+        rw (e, f, le-ltb 9999 n few) (omega (arith, ltb-false 57 c f))
+
+spelled-low : (cs : List ℕ) (n : ℕ) → n ≤ 100000 → spelled cs n ≤ 100000
+unfolding spelled
+spelled-low [] n h = h
+spelled-low (c ∷ cs) n h = spelled-low cs (withDigit n c) (digit-low n c)
+
+pick-low : (b : Bool) {n : ℕ} → n ≤ 100000 → pick b 100000 n ≤ 100000
+pick-low true h = omega arith
+pick-low false h = h
+
+offset-low : (line : List ℕ) → offsetOf line ≤ 100000
+unfolding offsetOf
+offset-low line = pick-low (ltb (length line) 7) (pick-low (ltb 11 (length line)) (spelled-low (drop 6 line) 0 (omega arith)))
+
+pub list-low : (line : List ℕ) → listSize (typesIn line) ≤ 100000
+unfolding typesIn listSize
+list-low line = go (namesTypes line) refl
+  where
+    go : (b : Bool) → namesTypes line ≡ b → listSize (typesIn line) ≤ 100000
+    go true e = rw e (offset-low (take 11 line))
+    go false e = rw e (omega arith)

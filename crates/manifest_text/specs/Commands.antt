@@ -1,10 +1,13 @@
 -- The first line: what is asked for.
 use Prim.Native.Nat.{ℕ, _+_, _-_, _*_}
+use mathlib.Core.Bool.{Bool}
 use mathlib.Core.List.{List, [], _∷_}
 use lib.Dec.{ltb}
 use lib.ListN.{length, take, drop}
 use Rattle.rules.specs.Bytes.{pick}
 use Rattle.rules.specs.Compile.{sameBytes}
+use Rattle.manifest_text.specs.declared.BuiltIn.{BuiltIn}
+use Rattle.manifest_text.specs.declared.BuiltIn.the-variants.{Eight, Listed}
 use Rattle.manifest_text.specs.declared.Command.{Command}
 use Rattle.manifest_text.specs.declared.Command.the-variants.{Convert, Print, Place, Unknown}
 
@@ -28,3 +31,17 @@ commandOf line =
     pick (sameBytes (99 ∷ 111 ∷ 110 ∷ 118 ∷ 101 ∷ 114 ∷ 116 ∷ []) line) Convert  -- convert
     (pick (sameBytes (112 ∷ 114 ∷ 105 ∷ 110 ∷ 116 ∷ []) line) Print  -- print
     (pick (sameBytes (112 ∷ 108 ∷ 97 ∷ 99 ∷ 101 ∷ 32 ∷ []) (take 6 line)) (placeAsked line) Unknown))  -- place, a space, an offset
+
+-- ---- A list of types: "types", a space, how many bytes it has in five digits, a space, and then the command
+
+unfoldable pub namesTypes : (line : List ℕ) → Bool
+namesTypes line = sameBytes (116 ∷ 121 ∷ 112 ∷ 101 ∷ 115 ∷ 32 ∷ []) (take 6 line)
+
+unfoldable pub commandBehind : (line : List ℕ) → Command
+commandBehind line = pick (ltb 99999 (offsetOf (take 11 line))) Unknown (pick (sameBytes (32 ∷ []) (take 1 (drop 11 line))) (commandOf (drop 12 line)) Unknown)
+
+unfoldable pub commandIn : (line : List ℕ) → Command
+commandIn line = pick (namesTypes line) (commandBehind line) (commandOf line)
+
+unfoldable pub typesIn : (line : List ℕ) → BuiltIn
+typesIn line = pick (namesTypes line) (Listed (offsetOf (take 11 line))) Eight

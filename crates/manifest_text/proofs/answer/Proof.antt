@@ -3,10 +3,9 @@ use mathlib.Core.Path.{refl, sym}
 use mathlib.Core.List.{[]}
 use native.Mathlib.Omega.{arith}
 use borrow.Author.Needs.{needs}
-use Rattle.rules.specs.Types.{theEight}
 use Rattle.notation.specs.Convert.{convert}
 use Rattle.notation.specs.Printer.{print}
-use Rattle.manifest_text.specs.Answers.{effectText, placeLine, Answers}
+use Rattle.manifest_text.specs.Answers.{typesGiven, bytesGiven, effectText, placeLine, Answers}
 use Rattle.manifest_text.proofs.Answering.{all-left, same-so}
 use Rattle.manifest_text.proofs.answer.Statement.{statement}
 use Rattle.manifest_text.proofs.answer.Tie as tie
@@ -16,14 +15,14 @@ unfolding Answers effectText
 write-answer-requires c κs =
     let s = c .before .before .before .before .before .before .before in
     let called = c .before .before .convert-given .ensures in
-    record { answer = effectText (convert theEight (s .args .given .now) 65535 65536); right = rw (c .before .before .before .before .enum-told .given .1) refl; so = all-left (rw (called .0, called .1) refl) (s .pre) }
+    record { answer = effectText (convert (typesGiven (s .args .types) (s .args .given .now)) (bytesGiven (s .args .types) (s .args .given .now)) 65535 65536); right = rw (c .before .before .before .before .enum-told .given .1) refl; so = all-left (rw (called .0, called .1) refl) (s .pre) }
 
 write-answer-requires-2 : tie.Need-write-answer-requires-2
 unfolding Answers effectText
 write-answer-requires-2 c κs =
     let s = c .before .before .before .before .before .before .before in
     let called = c .before .before .print-given .ensures in
-    record { answer = effectText (print theEight (s .args .given .now) 65535 65536); right = rw (c .before .before .before .before .enum-told2 .given .1) refl; so = all-left (rw (called .0, called .1) refl) (s .pre) }
+    record { answer = effectText (print (typesGiven (s .args .types) (s .args .given .now)) (bytesGiven (s .args .types) (s .args .given .now)) 65535 65536); right = rw (c .before .before .before .before .enum-told2 .given .1) refl; so = all-left (rw (called .0, called .1) refl) (s .pre) }
 
 write-numbered-requires : tie.Need-write-numbered-requires
 unfolding Answers placeLine
@@ -33,7 +32,7 @@ write-numbered-requires c κs =
     (record { answer = placeLine (told .result); right = record { place = told .result; told = told .ensures; line = refl }; so = all-left refl (s .pre) }, omega arith, omega arith)
 
 returns-3 : tie.Need-returns-3
-returns-3 c = λ all. same-so (sym (c .before .before .before .before .before .before .command .given .1)) refl (c .write-numbered .ensures all)
+returns-3 c = λ all. same-so refl (sym (c .before .before .before .before .before .before .command .given .1)) refl (c .write-numbered .ensures all)
 
 returns-4 : tie.Need-returns-4
 unfolding Answers

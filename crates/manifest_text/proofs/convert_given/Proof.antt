@@ -3,17 +3,37 @@ use Prim.Native.Nat.{ℕ}
 use mathlib.Core.Path.{_≡_, ap, _∙_}
 use borrow.Author.Needs.{needs}
 use lib.ListN.{length}
-use Rattle.rules.specs.Types.{theEight}
 use Rattle.notation.specs.Convert.{Effect, convert}
+use Rattle.manifest_text.specs.Answers.{typesGiven, bytesGiven}
+use Rattle.manifest_text.proofs.Answering.{with-eight, with-list}
 use Rattle.manifest_text.proofs.convert_given.Statement.{statement}
 use Rattle.manifest_text.proofs.convert_given.Tie as tie
 
 returns : tie.Need-returns
 returns c =
-    let a = c .before .before .before .before .before .args in
+    let a = c .before .before .before .before .before .before .before .args in
     let room : length (a .out .now) ≡ 65535 = c .before .before .before .convert-arg .given .0 .1 in
-    let effect = c .before .convert .ensures .effect ∙ ap (λ (n : ℕ). convert theEight (a .given .now) n 65536) room in
+    let effect = c .before .convert .ensures .effect ∙ with-eight (λ t b. convert t b (length (a .out .now)) 65536) (a .given .now) (c .before .before .before .before .enum-told .given .1) ∙ ap (λ (l : ℕ). convert (typesGiven (a .types) (a .given .now)) (bytesGiven (a .types) (a .given .now)) l 65536) room in
+    (ap (λ (e : Effect). e .answer) effect, ap (λ (e : Effect). e .outputAfter) effect)
+
+returns-2 : tie.Need-returns-2
+returns-2 c =
+    let a = c .before .before .before .before .before .before .before .before .before .before .args in
+    let room : length (a .out .now) ≡ 65535 = c .before .before .before .convert-with-types-arg .given .0 .1 in
+    let effect = c .before .convert-with-types .ensures .effect ∙ with-list (λ t b. convert t b (length (a .out .now)) 65536) (a .given .now) (c .before .before .before .before .before .before .before .types .given .1) (c .before .before .before .before .before .first .ensures) (c .before .before .before .before .past .ensures) ∙ ap (λ (l : ℕ). convert (typesGiven (a .types) (a .given .now)) (bytesGiven (a .types) (a .given .now)) l 65536) room in
     (ap (λ (e : Effect). e .answer) effect, ap (λ (e : Effect). e .outputAfter) effect)
 
 pub convert-given-spec : {M : Type 1} → statement M
-convert-given-spec = tie.close (tie.spec (λ c. search needs) (λ c κs. search needs) returns)
+convert-given-spec =
+    tie.close
+    (tie.spec
+    (λ c. search needs)
+    (λ c. search needs)
+    (λ c κs. search needs)
+    (λ c. search needs)
+    (λ c κs. search needs)
+    (λ c κs. search needs)
+    (λ c. search needs)
+    (λ c κs. search needs)
+    returns
+    returns-2)
