@@ -2,6 +2,9 @@
 # What ./schedule, ./why and ./manifest have in common. Who reads this in has set `command`, the command's name, and `root`, the repository's folder, and has a function
 # `usage`, which prints the help.
 
+# The file that names types, as the user calls it, and the list made of it; neither where the eight are built in.
+types='' list=''
+
 # ---- Messages
 
 # Status 1 tells of a refusal alone, so no message, even one that cannot be written, may end the run.
@@ -175,9 +178,19 @@ is_result() {
     [ "$(size_of "$1")" -eq $((${#header} + 1 + length)) ]
 }
 
+# LINE FILE ANSWER: asks the program for texts, with the list of types if there is one: it comes before what the file has, and its length before the line.
+ask_with_types() {
+    if [ -z "$list" ]; then
+        ask manifest_text "$1" "$2" "$3"
+        return
+    fi
+    cat "$list" "$2" >"$3.given" || fail "there is no room for temporary files; TMPDIR names the folder to use"
+    ask manifest_text "types $(printf '%05d' "$(size_of "$list")") $1" "$3.given" "$3"
+}
+
 # CALL FILE RESULT: converts a text or prints a manifest into the file RESULT, and returns 0; or returns 1, with the refusal in `number` and `place`.
 ask_texts() {
-    ask manifest_text "$1" "$2" "$3.answer"
+    ask_with_types "$1" "$2" "$3.answer"
     if is_refusal "$3.answer"; then
         read -r _ number _ place <"$3.answer"
         return 1
@@ -188,7 +201,7 @@ ask_texts() {
 
 # TEXT OFFSET: the place in a text of the token that became the field at an offset of its tagged form, in `place`.
 text_place() {
-    ask manifest_text "place $2" "$1" "$room/place"
+    ask_with_types "place $2" "$1" "$room/place"
     one_line 'place [0-9][0-9]*' <"$room/place" || cut_short manifest_text
     read -r _ place <"$room/place"
 }
@@ -356,6 +369,7 @@ take_manifest() {
     manifest=$room/manifest
     build_texts
     if ! ask_texts convert "$room/given" "$manifest"; then
+        if [ "$number" = 28 ] && [ -n "$types" ]; then refuse_types "$types" "$list" "$place"; fi
         refused=$number at=$place
         print_refusal "$refused" "$at"
         explain_text "$1" "$room/given" "$refused" "$at"

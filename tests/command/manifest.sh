@@ -83,6 +83,61 @@ refuses print_name '' "$room/capital: $unprintable; it concerns the field at byt
 call "$manifest" print "$room/wide"
 refuses print_wide '' "$room/wide: the text of this manifest is longer than 65,535 bytes"
 
+# ---- Lists of types
+
+names=$room/names.list
+printf 'bench\nkiosk\n' >"$names"
+printf "node default { bench { 'hall': seats => 12 } }\n" >"$room/bench.pp"
+call "$manifest" convert --types "$names" -o "$room/bench" "$room/bench.pp"
+[ "$status" -eq 0 ] && [ ! -s "$out" ] && [ ! -s "$err" ] && [ "$(od -An -v -tx1 "$room/bench" | tr -d ' \n' | grep -c 250019)" -eq 1 ]
+count types_convert $?
+call "$manifest" print "$room/bench" --types "$names"
+prints types_print "$room/bench.pp"
+call "$manifest" print "$room/bench"
+refuses types_print_eight '' "$room/bench: $unprintable; it concerns the field at byte 35"
+call "$manifest" convert "$room/bench.pp" -o "$room/defined"
+call "$manifest" print "$room/defined"
+prints types_defined "$room/bench.pp"
+call "$manifest" print --types "$names" "$room/defined"
+refuses types_print_defined '' "$room/defined: $unprintable; it concerns the field at byte 35"
+printf 'gate\nkiosk\nplan\nprinter\nscanner\nscreen\ntablet\nwall\n' >"$room/eight.list"
+call "$manifest" convert --types "$room/eight.list" "$root/examples/gyms.pp"
+prints types_eight "$gyms"
+call "$manifest" print --types "$room/eight.list" "$gyms"
+cp "$out" "$room/printed.pp"
+call "$manifest" print "$gyms"
+prints types_eight_print "$room/printed.pp"
+# the list is looked at first, and nothing is written
+printf 'kiosk\nbench\n' >"$names"
+for words in "convert $room/bad.pp" "convert $room/fee.pp" "print $room/fee.pp" "print $room/fee" "print $room/long" "convert $room/empty.pp"; do
+    # shellcheck disable=SC2086
+    call "$manifest" ${words%% *} --types "$names" "${words#* }"
+    refuses "types_fault_$words" '' "$names:2:1: types rise, byte by byte, and this one is not above the line before it
+    bench
+    ^"
+done
+: >"$names"
+call "$manifest" convert --types "$names" "$room/fee.pp"
+refuses types_empty '' "$names: the list of types is empty: the file has no line"
+printf 'bench\n' >"$names"
+call "$manifest" convert --types "$names" "$room/bad.pp"
+refuses types_bad_text '' "$room/bad.pp:1:6: the text is outside the notation or its limits
+    \$x = ]
+         ^"
+printf ']' >"$room/sign.pp"
+call "$manifest" convert --types "$names" "$room/sign.pp"
+refuses types_first_byte '' "$room/sign.pp:1:1: the text is outside the notation or its limits
+    ]
+    ^"
+call "$manifest" convert --types
+fails types_no_argument '--types is followed by a file'
+call "$manifest" convert --types "$names" --types "$names" "$room/fee.pp"
+fails types_given_twice '--types is given twice'
+call "$manifest" print --types "$room/none" "$room/fee"
+fails types_no_file 'there is no file'
+call "$manifest" print --types "$room" "$room/fee"
+fails types_folder 'is a folder'
+
 # ---- Wrong use
 
 for words in '' fee.pp --unknown 'convert' 'print a b' 'convert -x a' 'convert -o' 'convert -o out' 'print -o out a b' "schedule $room/fee"; do

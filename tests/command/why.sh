@@ -322,16 +322,23 @@ typed() {
 some_types() { awk -v count="$1" 'BEGIN { letters = "abcdefghijklmnopqrstuvwxyz"; for (k = 0; k < count; k++) print substr(letters, int(k / 26) + 1, 1) substr(letters, k % 26 + 1, 1) }'; }
 eight='gate\nkiosk\nplan\nprinter\nscanner\nscreen\ntablet\nwall\n'
 
-# the eight answer as no list does, on each question: also where the value lacks the label, or there is no such attribute
+# FILE WORD..: the eight answer as no list does
+as_eight() {
+    call "$why" hill-desk "$@"
+    cp "$out" "$room/out.plain" && cp "$err" "$room/err.plain" && plain=$status
+    typed "$eight" hill-desk "$@"
+    [ "$status" -eq "$plain" ] && [ -s "$out" ] && cmp -s "$out" "$room/out.plain" && cmp -s "$err" "$room/err.plain"
+    count "types_eight_$*" $?
+}
+# on each question, of a tagged manifest and of a text: also where the value lacks the label, or there is no such attribute
 for words in 'kiosk front price 24' 'kiosk front price 64' 'wall overhang resets 27' 'kiosk front price 2' 'kiosk front until 1' 'robot rear speed 1'; do
     # shellcheck disable=SC2086
-    call "$why" hill-desk "$gyms" $words
-    cp "$out" "$room/out.plain" && cp "$err" "$room/err.plain" && plain=$status
+    as_eight "$gyms" $words
     # shellcheck disable=SC2086
-    typed "$eight" hill-desk "$gyms" $words
-    [ "$status" -eq "$plain" ] && [ -s "$out" ] && cmp -s "$out" "$room/out.plain" && cmp -s "$err" "$room/err.plain"
-    count "types_eight_$words" $?
+    as_eight "$gyms_text" $words
 done
+# and on texts that are refused: by the converter, and by the compile, where the token is told
+for file in "$room/texts/sign.pp" "$room/texts/empty.pp" "$room/refused"; do as_eight "$file" kiosk front price 24; done
 # a list that holds the types of this device, with and without the last line feed, and between options
 typed 'kiosk\nplan\nwall\n' hill-desk "$gyms" kiosk front price 24
 among_labels types_held "$gyms" 4 24 479
@@ -435,11 +442,22 @@ if [ -r /proc/self/mem ]; then
     call "$why" --types /proc/self/mem hill-desk "$gyms" kiosk front price 24
     fails types_read_fails 'the file /proc/self/mem cannot be read'
 fi
-# a text is converted with the eight types
-for file in "$gyms_text" "$room/texts/sign.pp" "$room/texts/empty.pp"; do
-    typed "$eight" hill-desk "$file" kiosk front price 24
-    fails "types_text_${file##*/}" "the file $file is a text, and texts are converted with the eight types"
-done
+# a text is converted with the types of the list, and the token of a refusal is found with them
+text=$room/texts/bench.pp
+printf "\$fee = 40\nnode default {\n  bench { 'hall': seats => 12 }\n}\n" >"$text"
+typed 'bench\n' desk "$text" bench hall seats 2
+among_lines types_text_bench 1 3:11
+call "$why" desk "$text" bench hall seats 2
+refuses types_text_no_list 'refused 9 at 27
+' "$text:3:3: $(words 9)
+      bench { 'hall': seats => 12 }
+      ^"
+printf "define bench () { }\nnode default { bench { 'hall': } }\n" >"$text"
+typed 'bench\n' desk "$text" bench hall seats 2
+refuses types_text_taken 'refused 8 at 0
+' "$text:1:1: $(words 8)
+    define bench () { }
+    ^"
 typed 'gate\nKiosk\n' hill-desk "$gyms" kiosk front price 24
 for closed in '>&-' '>/dev/full'; do
     [ -c /dev/full ] || [ "$closed" = '>&-' ] || continue
@@ -562,10 +580,14 @@ explainer 'refused 28 at 0\n'
 other_price "$gyms"
 refuses types_not_lent 'refused 28 at 0
 ' "$gyms: the list of types is not 1 to 64 names, each 1 to 32 letters a to z, that rise; it concerns the field at byte 0"
-# an empty manifest is refused, with any list
+# what the program for texts is handed of a text: how long the list is, the list, and the text
+stub manifest_text 'cat >"$0.in"; printf "written 3\n\001\000\000"'
 explainer 'not among\n'
 call "$other/why" --types "$names" desk "$gyms_text" kiosk front price 7
-fails types_text_cut 'explain_label wrote was cut short'
+[ "$status" -eq 0 ] && { printf 'types 00015 convert\n\002\000\005kiosk\002\000\004wall' && cat "$gyms_text"; } | cmp -s - "$other/target/bin/manifest_text.in"
+count types_text_handed $?
+[ "$status" -eq 0 ] && printf 'desk\nkiosk\nfront\nprice\n7 15\n\002\000\005kiosk\002\000\004wall\001\000\000' | cmp -s - "$other/target/bin/explain_label.in"
+count types_text_asked $?
 
 for answer in '' '\n' 'among' 'among \n' 'among 3\n' 'among 3 \n' 'among 3 6' 'among 3 66\0\n' 'among 3 66\nnot' 'among 3 66\nnot among\n' 'among 0 66\n' 'among 6 66\n' 'among 33 66\n' \
     'among 3 -6\n' 'among 3 x\n' 'among 3 100000\n' 'among 3 66 \n' ' among 3 66\n' 'part 3 at 66\n' 'not' 'not among' 'not among\0\n' 'not among\nnot among\n' 'not \n' 'not a question' \
