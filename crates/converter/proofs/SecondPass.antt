@@ -10,7 +10,7 @@ use Rattle.notation.specs.Tokens.{Lexeme}
 use Rattle.notation.specs.Convert.{enteredAll, tableBehind, crowdedAt}
 use Rattle.notation.proofs.WrittenNames.{Rising, noString}
 use Rattle.notation.proofs.StringTable.{Among, StringsIn, table-has, table-rising}
-use Rattle.converter.proofs.Entering.{known-again}
+use Rattle.parser.proofs.Entering.{known-again}
 
 module _ (table : List (List ℕ)) (up : Rising table) where
   none-entered : {ss : List (List ℕ)} → Each (λ s. Among s table) ss → enteredAll ss table ≡ table

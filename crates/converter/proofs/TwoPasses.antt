@@ -24,9 +24,9 @@ use Rattle.notation.proofs.ConvertedSound.{text-whole}
 use Rattle.interner.specs.Table.{listed, strings}
 use Rattle.interner.specs.TableField.{tableBytes, atStart}
 use Rattle.tree_builder.specs.Open.{lateNumber}
-use Rattle.converter.specs.declared.text.ReadText.{ReadText}
-use Rattle.converter.specs.declared.text.ReadText.the-variants.{Whole, Fault}
-use Rattle.converter.specs.Reading.{ReadWhole, ReadFault, TextRead}
+use Rattle.parser.specs.declared.text.ReadText.{ReadText}
+use Rattle.parser.specs.declared.text.ReadText.the-variants.{Whole, Fault}
+use Rattle.parser.specs.Reading.{ReadWhole, ReadFault, TextRead}
 use Rattle.converter.specs.Converting.{Passable, Measured, Fitting, Begins}
 use Rattle.converter.proofs.Converting.{itemBytes, items-fit, table-stays, items-again, items-bytes, begins-so}
 use Rattle.converter.proofs.LatePlace.{late-place}

@@ -16,7 +16,7 @@ use Rattle.notation.specs.Building.{Nodes}
 use Rattle.notation.specs.Convert.{tableBehind, numberedOnto, lateAmong, tooLong, textItems, manifestBytes, convert}
 use Rattle.interner.specs.Table.{strings}
 use Rattle.interner.specs.TableField.{tableBytes}
-use Rattle.converter.specs.Entering.{Enterable}
+use Rattle.parser.specs.Entering.{Enterable}
 
 -- the answer and all bytes lent are those of the definition
 pub record Converts (types : Types) (text outputBefore outputAfter memoryBefore memoryAfter : List ℕ) (answer : Answer) : Type 0 where

@@ -1,5 +1,1 @@
-pub mod Doing
-pub mod Stepping
-pub mod Entering
-pub mod Reading
 pub mod Converting

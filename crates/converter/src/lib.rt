@@ -8,22 +8,17 @@ ghost use Rattle.rules.specs.declared.Verdict.the-variants.{Sound};
 ghost use Rattle.type_list.specs.Listed.{chosen};
 ghost use Rattle.interner.specs.Table.{strings};
 ghost use Rattle.text_answers.specs.Leaving.{Leaves};
-ghost use Rattle.converter.specs.Reading.{TextRead};
+ghost use Rattle.parser.specs.Reading.{TextRead};
 ghost use Rattle.converter.specs.Converting.{Converts, Passable, Measured, Fitting, Begins};
-use crate::text::ReadText;
-use crate::text::read_text;
 use interner::fields::table_size;
 use interner::fields::write_table;
 use notation::Answer;
+use parser::text::ReadText;
+use parser::text::read_text;
 use rules::Verdict;
 use text_answers::accept;
 use text_answers::refuse;
 use values::Reason;
-
-pub mod actions; // actions.rt: the grammar's actions, done to the tree
-pub mod steps; // steps.rt: one token
-pub mod strings; // strings.rt: a token's strings in the table
-pub mod text; // text.rt: all tokens of a text
 
 // Once over the text, with room of its own for what is open.
 fn read_pass(types: &[u8], text: &[u8], out: &mut [u8], table: &mut [u8], count: usize) -> ReadText

@@ -1,5 +1,5 @@
 -- A text read with the log: each token that is taken is noted, as the log of the text says. Assumes nothing.
-use mathlib.Core.Path.{_≡_, refl, sym, ap, _∙_}
+use mathlib.Core.Path.{_≡_, refl, sym, ap, subst, _∙_}
 use mathlib.Core.Bool.{Bool, true, false}
 use mathlib.Core.List.{List, [], _∷_, _++_}
 use Prim.Native.Nat.{ℕ, _+_, _-_, _*_, _≤_, _<_}
@@ -26,11 +26,11 @@ use Rattle.parse_table.proofs.Bound.{Kept, stack-bound}
 use Rattle.tree_builder.specs.declared.Building.{Building}
 use Rattle.tree_builder.specs.Shows.{Shows}
 use Rattle.tree_builder.proofs.Ready.{ready}
-use Rattle.converter.specs.declared.text.Pass.{Pass}
-use Rattle.converter.specs.declared.text.Read.{Read}
-use Rattle.converter.specs.declared.text.Read.the-variants.{On, Done, Fault}
-use Rattle.converter.specs.Reading.{tokensLeft, symbolsOf, stringsSoFar, TokenTaken, ReadSo, ReadsToken, Readable, TextRead}
-use Rattle.converter.proofs.TextRead.{Along, going-first, answer, filled-next, going-next, along-next, whole-read, refused-read}
+use Rattle.parser.specs.declared.text.Pass.{Pass}
+use Rattle.parser.specs.declared.text.Read.{Read}
+use Rattle.parser.specs.declared.text.Read.the-variants.{On, Done, Fault}
+use Rattle.parser.specs.Reading.{tokensLeft, symbolsOf, stringsSoFar, TokenTaken, ReadSo, ReadsToken, Begun, Readable, TextRead}
+use Rattle.parser.proofs.TextRead.{Along, going-first, answer, filled-next, going-next, along-next, whole-read, refused-read}
 use Rattle.text_places.specs.Marks.{startOf, bodyOf, sizeOf}
 use Rattle.text_places.specs.Log.{Insertion, isOperator, sort, topBeforeParts, noted, logged, textLog, notedBy, logIn, Notable, Noted}
 use Rattle.text_places.specs.Places.{TextNoted}
@@ -203,10 +203,10 @@ first-log : (types : Types) (t st : List ℕ) (top : ℕ) → stackOf st top ≡
 unfolding textLog tokensOf
 first-log types t st top e = ap (λ (k : List Symbol). logged types (tokensFrom t 0 0 true) k start []) (sym e)
 
-pub first-noting : (types : Types) (t out m st₀ st tb log : List ℕ) (top : ℕ) (s : Building) → IsBytes t → Readable t out m st₀ tb 0 → Pushed st₀ st 1 0x2c05 top → ((table : List (List ℕ)) (frames o : List ℕ) → Shows table s frames o start)
+noting-first : (types : Types) (t out m st₀ st tb log : List ℕ) (top : ℕ) (s : Building) → IsBytes t → Readable t out m st₀ tb 0 → Pushed st₀ st 1 0x2c05 top → ((table : List (List ℕ)) (frames o : List ℕ) → Shows table s frames o start)
     → Noting types t out m st tb log out m st tb log (record { at = 0; line = 0; operand = true; machine = record { top = top; building = s }; count = 0 }) 0
 unfolding going-first logIn
-first-noting types t out m st₀ st tb log top s bytes h pushed fresh =
+noting-first types t out m st₀ st tb log top s bytes h pushed fresh =
     let symbols : stackOf st top ≡ manifest = pushed .symbols ∙ (unfold stackOf in ap (λ (k : List Symbol). k ++ []) manifest-coded) in
     record {
       along = record { going = going-first types t out m st₀ st tb 0 top s h pushed fresh; bytes = bytes; out-size = refl; frames-size = refl; stack-size = refl; table-size = refl };
@@ -217,6 +217,10 @@ first-noting types t out m st₀ st tb log top s bytes h pushed fresh =
       few = omega arith;
       size = refl;
     }
+
+pub noting-begun : (types : Types) (t out m st₀ st tb log : List ℕ) (p : Pass) → IsBytes t → Readable t out m st₀ tb 0 → Begun st₀ st 0 p → Noting types t out m st tb log out m st tb log p 0
+noting-begun types t out m st₀ st tb log p bytes h b =
+    subst (λ (q : Pass). Noting types t out m st tb log out m st tb log q 0) (sym (b .is)) (noting-first types t out m st₀ st tb log (b .top) (b .building) bytes h (b .pushed) (b .fresh))
 
 -- ---- The symbol on top
 

@@ -14,7 +14,7 @@ use Rattle.notation.specs.Building.{byte, Action, begin, beginResource, around,
 use Rattle.notation.specs.Grammar.{Entry, arm, attribute, parameter, Symbol, sign, aName, expression, operators, readOrWord, closeBracket, one, maybe, further, statements, block, otherwise, branches, items, classRest, parameters, defaultValue, aConstant, inherits, parent, devices, device, moreDevices, ends, Row, row, operatorByte, operatorRow, operatorIn, levels, binds, rowOf, leftOut}
 use Rattle.notation.proofs.NeedsKept.{none-not-some, same-result}
 use Rattle.notation.proofs.TableRows.{rowsOf}
-use Rattle.converter.proofs.RowFacts.{allKeyed, found-keyed}
+use Rattle.parser.proofs.RowFacts.{allKeyed, found-keyed}
 use Rattle.text_places.specs.Log.{isOperator, sort}
 use Rattle.text_places.proofs.MarkedTree.{appends}
 

@@ -12,7 +12,7 @@ use Rattle.notation.specs.Lexing.{tokens}
 use Rattle.notation.specs.Convert.{textItems, tableBehind, manifestFields}
 use Rattle.notation.proofs.WrittenNames.{noString}
 use Rattle.interner.specs.Table.{listed, strings}
-use Rattle.converter.specs.Reading.{Readable}
+use Rattle.parser.specs.Reading.{Readable}
 use Rattle.interner.specs.TableField.{tableBytes}
 use Rattle.text_places.specs.Marks.{Begins}
 use Rattle.text_places.specs.Log.{Insertion, followed, textLog, logIn}

@@ -17,7 +17,7 @@ use Rattle.notation.specs.Building.{Nodes, frame, Build, build, start}
 use Rattle.notation.specs.Grammar.{Symbol, manifest, Stepped, stuck, to, step, Ended, built, fault, run, reading}
 use Rattle.notation.specs.Convert.{readText, crowdedAt, textItems, tableBehind, stringFields, numberedOnto, manifestFields, manifestBytes}
 use Rattle.tree_builder.specs.Open.{partsBytes}
-use Rattle.converter.proofs.OutermostHead.{outermost}
+use Rattle.parser.proofs.OutermostHead.{outermost}
 use Rattle.text_places.specs.Marks.{headMarks, partMarks, openingMarks, aroundMarks, frontMarks, openMarks, treeMarks, sizeOf}
 use Rattle.text_places.specs.Log.{Insertion, Leads, noted, logged, textLog}
 use Rattle.text_places.proofs.StepMoves.{Sound, start-sound, step-sound, step-leads, step-short}

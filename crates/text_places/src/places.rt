@@ -1,4 +1,4 @@
-// The place in a text of a field of its manifest: the text is read as the converter reads it, and what each token inserts is noted.
+// The place in a text of a field of its manifest: the parser reads the text, and what each token inserts is noted.
 ghost use mathlib.Core.Path.{_≡_};
 ghost use mathlib.Core.Bool.{true};
 ghost use Prim.Native.Nat.{_≤_};
@@ -9,21 +9,17 @@ ghost use Rattle.parse_table.specs.Stack.{stackOf};
 ghost use Rattle.rules.specs.Types.{Types, checkTypes};
 ghost use Rattle.rules.specs.declared.Verdict.the-variants.{Sound};
 ghost use Rattle.type_list.specs.Listed.{chosen, Listed};
-ghost use Rattle.converter.specs.Reading.{Readable};
+ghost use Rattle.parser.specs.Reading.{Readable};
 ghost use Rattle.text_places.specs.Log.{sort, topBeforeParts};
 ghost use Rattle.text_places.specs.Places.{NotedWhole, Noted, TextNoted, PlaceTold, PlaceGiven};
 use crate::log::follow;
 use crate::log::note;
-use converter::steps::Machine;
-use converter::text::Pass;
-use converter::text::Read;
-use converter::text::read_token;
 use interner::fields::table_size;
 use lexer::next_token;
-use parse_table::stack::MANIFEST;
-use parse_table::stack::push;
+use parser::text::Read;
+use parser::text::begin;
+use parser::text::read_token;
 use rules::Verdict;
-use tree_builder::nothing;
 
 // What comes of a text: how many strings and how many entries of the log it has, or that it is refused.
 pub enum NotedText {
@@ -57,17 +53,7 @@ fn note_text(
     requires { ⌜ Listed (now types) (now index) listed × Readable (now text) (now out) (now frames) (now stack) (now table) 0 ⌝ }
     ensures { λ r. ⌜ TextNoted (chosen (now (types .entry))) (now (text .entry)) r (now (table .exit)) (now (log .exit)) ⌝ }
 {
-    let top = push(stack, 1, MANIFEST);
-    let mut pass = Pass {
-        at: 0,
-        line: 0,
-        operand: true,
-        machine: Machine {
-            top: top,
-            building: nothing(),
-        },
-        count: 0,
-    };
+    let mut pass = begin(stack, 0);
     let mut entries: usize = 0;
     loop {
         let machine = pass.machine;

@@ -4,28 +4,25 @@ use native.Mathlib.Omega.{arith}
 use lib.ListN.{length}
 use borrow.Author.Needs.{needs}
 use Rattle.rules.specs.EditRule.{IsBytes}
-use Rattle.converter.proofs.TextRead.{forward}
+use Rattle.parser.proofs.TextRead.{forward}
 use Rattle.type_list.specs.Listed.{chosen}
-use Rattle.text_places.proofs.Noting.{Noting, first-noting, top-within, next-notable, next-noting, last-notable, whole-noted, none-noted}
+use Rattle.text_places.proofs.Noting.{Noting, noting-begun, top-within, next-notable, next-noting, last-notable, whole-noted, none-noted}
 use Rattle.text_places.proofs.places.note_text.Statement.{statement}
 use Rattle.text_places.proofs.places.note_text.Tie as tie
 
 abbrev Inv-loop : tie.InvT-loop
-Inv-loop types index listed text out₀ frames₀ stack₀ table₀ log₀ top pass₀ entries₀ out frames stack table log pass entries = Noting (chosen types) text out₀ frames₀ stack₀ table₀ log₀ out frames stack table log pass entries
+Inv-loop types index listed text out₀ frames₀ stack₀ table₀ log₀ pass₀ entries₀ out frames stack table log pass entries = Noting (chosen types) text out₀ frames₀ stack₀ table₀ log₀ out frames stack table log pass entries
 
 abbrev μ-loop : tie.MeasureT-loop
-μ-loop types index listed text out₀ frames₀ stack₀ table₀ log₀ top pass₀ entries₀ out frames stack table log pass entries = length text - pass .at
+μ-loop types index listed text out₀ frames₀ stack₀ table₀ log₀ pass₀ entries₀ out frames stack table log pass entries = length text - pass .at
 
-push-requires : tie.Need-push-requires Inv-loop μ-loop
-push-requires c κs = (omega arith, omega (arith, c .before .before .before .before .before .before .before .before .before .pre .1 .room))
-
-nothing-requires : tie.Need-nothing-requires Inv-loop μ-loop
-nothing-requires c κs = tt
+begin-requires : tie.Need-begin-requires Inv-loop μ-loop
+begin-requires c κs = c .before .before .before .before .before .before .before .before .before .pre .1 .room
 
 loop-holds : tie.Need-loop-holds Inv-loop μ-loop
 loop-holds c =
-    let bytes : IsBytes (c .before .before .before .before .before .before .before .before .before .before .before .before .before .args .text .now) = record { below = λ i. omega (arith, c .before .before .before .before .before .before .before .before .before .before .shared-slice-known3 .given i) } in
-    first-noting _ _ _ _ _ _ _ _ _ _ bytes (c .before .before .before .before .before .before .before .before .before .before .before .before .before .pre .1) (c .before .before .before .push .ensures) (c .nothing .ensures)
+    let bytes : IsBytes (c .before .before .before .before .before .before .before .before .before .before .before .before .args .text .now) = record { below = λ i. omega (arith, c .before .before .before .before .before .before .before .before .before .shared-slice-known3 .given i) } in
+    noting-begun _ _ _ _ _ _ _ _ _ bytes (c .before .before .before .before .before .before .before .before .before .before .before .before .pre .1) (c .before .before .begin .ensures)
 
 top-symbol-requires : tie.Need-top-symbol-requires Inv-loop μ-loop
 top-symbol-requires c κs = let l = c .before .before .before .loop in let pass = l .inv .along .going .ready in top-within _ (l .pass) _ (pass .stage .kept) (pass .room)
@@ -34,7 +31,7 @@ next-token-requires : tie.Need-next-token-requires Inv-loop μ-loop
 next-token-requires c κs = let pass = c .before .before .before .before .loop .inv .along .going .ready in (pass .within, pass .short, pass .line-bound)
 
 read-token-requires : tie.Need-read-token-requires Inv-loop μ-loop
-read-token-requires c κs = (c .before .before .before .before .before .before .before .before .before .before .before .before .before .before .before .before .before .before .before .before .before .before .before .pre .0, c .before .before .before .before .before .before .before .before .before .loop .inv .along .going .ready)
+read-token-requires c κs = (c .before .before .before .before .before .before .before .before .before .before .before .before .before .before .before .before .before .before .before .before .before .before .pre .0, c .before .before .before .before .before .before .before .before .before .loop .inv .along .going .ready)
 
 enum-known-next : tie.Need-enum-known-next Inv-loop μ-loop
 enum-known-next c = search needs
@@ -61,7 +58,7 @@ same-length-2 : tie.Need-same-length-2 Inv-loop μ-loop
 same-length-2 c = search (needs, c .before .before .before .before .before .before .before .before .before .before .before .before .before .before .before .before .before .before .before .before .before .before .before .before .before .before .loop .inv .along .frames-size)
 
 same-length-3 : tie.Need-same-length-3 Inv-loop μ-loop
-same-length-3 c = search (needs, c .before .before .before .before .before .before .before .before .before .before .before .before .before .before .before .before .before .before .before .before .before .before .before .before .before .before .loop .inv .along .stack-size, c .before .before .before .before .before .before .before .before .before .before .before .before .before .before .before .before .before .before .before .before .before .before .before .before .before .before .before .before .before .before .push .ensures .size)
+same-length-3 c = search (needs, c .before .before .before .before .before .before .before .before .before .before .before .before .before .before .before .before .before .before .before .before .before .before .before .before .before .before .loop .inv .along .stack-size, c .before .before .before .before .before .before .before .before .before .before .before .before .before .before .before .before .before .before .before .before .before .before .before .before .before .before .before .before .before .begin .ensures .pushed .size)
 
 same-length-4 : tie.Need-same-length-4 Inv-loop μ-loop
 same-length-4 c = search (needs, c .before .before .before .before .before .before .before .before .before .before .before .before .before .before .before .before .before .before .before .before .before .before .before .before .before .before .loop .inv .along .table-size)
@@ -99,8 +96,7 @@ note-text-spec =
     (tie.spec
     Inv-loop
     μ-loop
-    push-requires
-    nothing-requires
+    begin-requires
     loop-holds
     top-symbol-requires
     next-token-requires

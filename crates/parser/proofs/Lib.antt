@@ -1,0 +1,16 @@
+pub mod Doing
+pub mod Sequence
+pub mod Leaving
+pub mod RowFacts
+pub mod Taking
+pub mod Passing
+pub mod Entering
+pub mod OtherTable
+pub mod Carrying
+pub mod TokenKinds
+pub mod StepSize
+pub mod OutermostHead
+pub mod StackEnd
+pub mod TokenStrings
+pub mod TokenRead
+pub mod TextRead

@@ -1,0 +1,4 @@
+pub mod Doing
+pub mod Stepping
+pub mod Entering
+pub mod Reading
