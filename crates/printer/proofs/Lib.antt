@@ -1,3 +1,1 @@
-pub mod ItemLabels
-pub mod PrintedItems
 pub mod WholeText

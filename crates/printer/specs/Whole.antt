@@ -1,26 +1,16 @@
--- What the functions of items are given, and what a whole print leaves.
+-- What a whole print leaves.
 use Prim.Native.Nat.{ℕ, _≤_, _<_}
 use mathlib.Core.Path.{_≡_}
 use mathlib.Core.List.{List}
 use lib.ListN.{length}
 use Rattle.values.specs.declared.Reason.the-variants.{Unprintable}
-use Rattle.rules.specs.Bytes.{byte}
 use Rattle.rules.specs.Outcome.{Outcome, _>>=_, refuseIf, done}
 use Rattle.rules.specs.Read.{manifestOf}
-use Rattle.rules.specs.declared.Kind.the-variants.{Item}
 use Rattle.rules.specs.Types.{Types}
-use Rattle.places.specs.At.{StandsAs}
 use Rattle.notation.specs.declared.Answer.{Answer}
 use Rattle.notation.specs.Convert.{refuseAt, tooLong}
 use Rattle.notation.specs.Printer.{unprintableAt, textOf, print}
 use Rattle.token_writer.specs.Writing.{Wrote}
-use Rattle.statement_printer.specs.Passing.{Source}
-
--- at p stands an item with the tag t
-pub record ItemHere (m table : List ℕ) (strings p t : ℕ) : Type 0 where
-  pub source : Source m table strings
-  pub stands : StandsAs m 32 Item p
-  pub tag : byte m p ≡ t
 
 -- n is the length of the text `whole`, which is written as far as the output goes; or both are over 65,535
 pub record Counted (whole out out′ : List ℕ) (n : ℕ) : Type 0 where

@@ -12,7 +12,7 @@ ghost use Rattle.notation.specs.Printer.{textOf, unprintableAt};
 ghost use Rattle.statement_printer.specs.Passing.{Source};
 ghost use Rattle.text_answers.specs.Leaving.{Leaves};
 ghost use Rattle.printer.specs.Whole.{fittingText, printableText, Counted, Prints};
-use crate::items::items;
+use item_printer::items;
 use notation::Answer;
 use printable::first_unprintable;
 use rules::Verdict;
@@ -26,8 +26,6 @@ use token_writer::Pen;
 use token_writer::put_end;
 use values::Reason;
 use wire::end_of;
-
-mod items; // items.rt: nodes, definitions and items
 
 // The text as far as the output goes. The answer is its length; one over 65,535 bytes is told to be longer than that, not how long.
 fn write_whole(m: &[u8], table: &[u8], strings: u16, out: &mut [u8]) -> usize

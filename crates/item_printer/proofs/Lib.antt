@@ -1,0 +1,2 @@
+pub mod ItemLabels
+pub mod PrintedItems
