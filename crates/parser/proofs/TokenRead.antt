@@ -29,11 +29,9 @@ use Rattle.parser.specs.declared.steps.Machine.{Machine}
 use Rattle.parser.specs.declared.steps.Taken.{Taken}
 use Rattle.parser.specs.declared.steps.Taken.the-variants.{To, Stuck}
 use Rattle.parser.specs.declared.text.Pass.{Pass}
-use Rattle.parser.specs.declared.text.Read.{Read}
-use Rattle.parser.specs.declared.text.Read.the-variants.{On, Done}
 use Rattle.parser.specs.Entering.{EnteredFor}
 use Rattle.parser.specs.Stepping.{WordOnTop, WordFor, Standing, TakenSo, SteppableAt, StepsAt}
-use Rattle.parser.specs.Reading.{withoutWord, wordFor, tokensLeft, symbolsOf, stringsSoFar, Stage, Passable, TokenTaken, Barred, isMalformed, isStuck, isCrowded, TokenRefused, passBehind, readTo, ReadSo}
+use Rattle.parser.specs.Reading.{withoutWord, wordFor, tokensLeft, symbolsOf, stringsSoFar, Stage, Passable, TokenTaken, Barred, isMalformed, isStuck, isCrowded, TokenRefused, passBehind}
 use Rattle.parser.proofs.Passing.{any-kind}
 use Rattle.parser.proofs.Entering.{known-again, first-of}
 use Rattle.parser.proofs.OtherTable.{shows-same, word-forgotten}
@@ -52,16 +50,6 @@ known-first x xs S e up =
     let T : List (List ℕ) = tableBehind (x ∷ xs) S in
     let there = first-of (λ y. Each (λ s. Among s T) (stringsOf (tokenOf y))) x xs (table-has (x ∷ xs) S) in
     all-known (stringsOf (tokenOf x)) S (subst (λ (U : List (List ℕ)). Each (λ s. Among s U) (stringsOf (tokenOf x))) e there) up
-
--- ---- Behind a token
-
-pub done-behind : (r : Token) (machine : Machine) (count : ℕ) (o : Bool) → o ≡ operandBehind (r .kind) → r .kind ≡ endOfText → Done (record { at = r .end; line = r .«line_behind»; operand = o; machine = machine; count = count }) ≡ readTo r machine count
-unfolding readTo
-done-behind r machine count o same e = rw (same, eq-eqb (r .kind) endOfText e)
-
-pub on-behind : (r : Token) (machine : Machine) (count : ℕ) (o : Bool) → o ≡ operandBehind (r .kind) → (r .kind ≡ endOfText → ⊥) → On (record { at = r .end; line = r .«line_behind»; operand = o; machine = machine; count = count }) ≡ readTo r machine count
-unfolding readTo
-on-behind r machine count o same k = rw (same, ne-eqb (r .kind) endOfText k)
 
 -- ---- A word just read
 
@@ -186,13 +174,10 @@ module _ (types : Types) (t out m st tb : List ℕ) (p : Pass) (h : Passable t o
               let stays : StepsAt types r names s (p .machine .top) st m out Stuck st′ m′ out′ = subst (λ (b : Taken). StepsAt types r names s (p .machine .top) st m out b st′ m′ out′) e steps in
               refused-at f this behind this-first refl (isStuck (stays U f this (standing f g)))
 
-          module _ (machine : Machine) (e : a ≡ To machine) where
-            abbrev next : Pass
-            next = passBehind r machine (n .count)
-
-            taken : (f : Build) → Stage t out m st tb p f → TokenTaken types t st tb p f next out′ m′ st′ tb′ behind
+          module _ (machine : Machine) (e : a ≡ To machine) (next : Pass) (is-next : next ≡ passBehind r machine (n .count)) (f : Build) (g : Stage t out m st tb p f) where
+            taken : TokenTaken types t st tb p f (passBehind r machine (n .count)) out′ m′ st′ tb′ behind
             unfolding StepsAt TakenSo
-            taken f g =
+            taken =
                 let goes : StepsAt types r names s (p .machine .top) st m out (To machine) st′ m′ out′ = subst (λ (b : Taken). StepsAt types r names s (p .machine .top) st m out b st′ m′ out′) e steps in
                 let w = goes U f this (standing f g) in
                 let room = h .enterable .room in
@@ -211,13 +196,10 @@ module _ (types : Types) (t out m st tb : List ℕ) (p : Pass) (h : Passable t o
                   line-bound = found .line-behind-bound;
                 }
 
-            -- it was the end, or more tokens follow
-            pub taken-so : (o : Read) → o ≡ readTo r machine (n .count) → (f : Build) → Stage t out m st tb p f → ReadSo types t st tb p f o out′ m′ st′ tb′
-            unfolding ReadSo readTo
-            taken-so o is-so f g = subst (λ (x : Read). ReadSo types t st tb p f x out′ m′ st′ tb′) (sym is-so) (go (eqb (r .kind) endOfText) refl)
-              where
-                go : (b : Bool) → eqb (r .kind) endOfText ≡ b → ReadSo types t st tb p f (pick b (Done next) (On next)) out′ m′ st′ tb′
-                go true i = rw i at taken f g
-                go false i =
-                    let other : behind ≡ tokensLeft t next = rw i in
-                    (subst (TokenTaken types t st tb p f next out′ m′ st′ tb′) other (taken f g), omega (arith, found .low, found .some-byte (eqb-false (r .kind) endOfText i) formed))
+            -- it was the end
+            pub taken-last : r .kind ≡ endOfText → TokenTaken types t st tb p f next out′ m′ st′ tb′ []
+            taken-last k = rw is-next (rw (eq-eqb (r .kind) endOfText k) at taken)
+
+            -- more tokens follow
+            pub taken-on : (r .kind ≡ endOfText → ⊥) → TokenTaken types t st tb p f next out′ m′ st′ tb′ (tokensLeft t next) × (p .at < next .at)
+            taken-on k = rw is-next (rw (ne-eqb (r .kind) endOfText k) at taken, omega (arith, found .low, found .some-byte k formed))

@@ -110,12 +110,9 @@ ReadSo types t st₀ tb₀ p f (On next) out m st tb = TokenTaken types t st₀ 
 ReadSo types t st₀ tb₀ p f (Done last) out m st tb = TokenTaken types t st₀ tb₀ p f last out m st tb []
 ReadSo types t st₀ tb₀ p f (Fault q) out m st tb = TokenRefused types t st₀ tb₀ p f q
 
--- behind a token that was taken: more tokens follow, unless it was the end
+-- where a pass stands behind a token that was taken
 abbrev pub passBehind : Token → Machine → (count : ℕ) → Pass
 passBehind token machine count = record { at = token .end; line = token .«line_behind»; operand = operandBehind (token .kind); machine = machine; count = count }
-
-unfoldable pub readTo : Token → Machine → (count : ℕ) → Read
-readTo token machine count = pick (eqb (token .kind) endOfText) (Done (passBehind token machine count)) (On (passBehind token machine count))
 
 -- what reading a token does, with whatever tree the pass stands at
 abbrev pub ReadsToken : (types : Types) (t out₀ frames₀ stack₀ table₀ : List ℕ) (p : Pass) → Read → (out frames stack table : List ℕ) → Type 0

@@ -8,7 +8,7 @@ ghost use Rattle.notation.specs.Building.{resourceTag};
 ghost use Rattle.type_list.specs.Listed.{chosen, Listed};
 ghost use Rattle.interner.specs.Table.{strings};
 ghost use Rattle.parser.specs.Entering.{Spelled, EnteredFor};
-ghost use Rattle.parser.specs.Reading.{wordFor, Passable, readTo, ReadsToken, Begun, Readable, TextRead};
+ghost use Rattle.parser.specs.Reading.{wordFor, Passable, passBehind, ReadsToken, Begun, Readable, TextRead};
 use crate::actions::Names;
 use crate::steps::Machine;
 use crate::steps::Taken;
@@ -119,20 +119,16 @@ pub enum Read {
 }
 
 // Where a pass stands behind a token that was taken.
-fn go_on(token: Token, machine: Machine, count: usize) -> Read
-    ensures { λ r. ⌜ r ≡ readTo token machine count ⌝ }
+fn pass_behind(token: Token, machine: Machine, count: usize) -> Pass
+    ensures { λ r. ⌜ r ≡ passBehind token machine count ⌝ }
 {
-    let next = Pass {
+    Pass {
         at: token.end,
         line: token.line_behind,
         operand: operand_behind(token.kind),
         machine: machine,
         count: count,
-    };
-    if token.kind == END_OF_TEXT {
-        return Read::Done(next);
     }
-    Read::On(next)
 }
 
 // One token.
@@ -167,7 +163,13 @@ pub fn read_token(
     let building = word_for(machine.building, token.kind);
     match take(out, frames, stack, building, machine.top, token, names) {
         Taken::Stuck => Read::Fault(token.start),
-        Taken::To(behind) => go_on(token, behind, numbers.count),
+        Taken::To(behind) => {
+            let next = pass_behind(token, behind, numbers.count);
+            if token.kind == END_OF_TEXT {
+                return Read::Done(next);
+            }
+            Read::On(next)
+        }
     }
 }
 

@@ -1,7 +1,7 @@
 -- `read_token`: the token is malformed, brings one string too many, may not stand there, or is taken.
 use native.Mathlib.Omega.{arith}
 use Rattle.parser.specs.Reading.{ReadSo}
-use Rattle.parser.proofs.TokenRead.{malformed-refused, crowded-refused, steppable, stuck-refused, taken-so}
+use Rattle.parser.proofs.TokenRead.{malformed-refused, crowded-refused, steppable, stuck-refused, taken-last, taken-on}
 use borrow.Author.Needs.{needs}
 use Rattle.parser.proofs.text.read_token.Statement.{statement}
 use Rattle.parser.proofs.text.read_token.Tie as tie
@@ -38,8 +38,8 @@ enum-told c = search needs
 enum-known-behind : tie.Need-enum-known-behind
 enum-known-behind c = search needs
 
-go-on-requires : tie.Need-go-on-requires
-go-on-requires c κs = search needs
+pass-behind-requires : tie.Need-pass-behind-requires
+pass-behind-requires c κs = search needs
 
 same-length-2 : tie.Need-same-length-2
 same-length-2 c = search needs
@@ -51,11 +51,11 @@ same-length-4 : tie.Need-same-length-4
 same-length-4 c = search needs
 
 same-length-5 : tie.Need-same-length-5
-same-length-5 c = search needs
+same-length-5 c = c .before .before .before .before .before .before .before .before .before .before .before .before .before .before .before .before .before .before .before .before .before .before .before .enter-strings .ensures .size
 
 returns-3 : tie.Need-returns-3
 unfolding ReadSo
-returns-3 c = λ f g. stuck-refused _ _ _ _ _ _ _ (c .before .before .before .before .before .before .before .before .before .before .before .before .before .before .before .before .before .before .before .before .before .before .before .before .before .before .before .before .before .before .before .pre .1) _ (c .before .before .before .before .before .before .before .before .before .before .before .before .before .before .before .before .before .before .before .before .before .before .before .next-token .ensures) (c .before .before .before .before .before .before .before .before .before .before .before .before .before .before .before .before .before .before .before .before .before .if1 .left) _ _ (c .before .before .before .before .before .before .before .before .before .before .before .before .before .before .before .before .before .before .before .enter-strings .ensures) (omega (arith, c .before .before .before .before .before .before .before .before .before .before .before .before .before .before .before .if2 .left)) _ (c .before .before .before .before .before .before .before .before .before .before .before .before .before .before .resource-tag .ensures) _ (c .before .before .before .before .before .before .before .before .before .before .before .before .word-for .ensures) _ _ _ _ (c .before .before .before .before .before .before .before .before .take .ensures _) (c .enum-told .given .1) f g
+returns-3 c = λ f g. taken-last _ _ _ _ _ _ _ (c .before .before .before .before .before .before .before .before .before .before .before .before .before .before .before .before .before .before .before .before .before .before .before .before .before .before .before .before .before .before .before .before .before .before .before .pre .1) _ (c .before .before .before .before .before .before .before .before .before .before .before .before .before .before .before .before .before .before .before .before .before .before .before .before .before .before .before .next-token .ensures) (c .before .before .before .before .before .before .before .before .before .before .before .before .before .before .before .before .before .before .before .before .before .before .before .before .before .if1 .left) _ _ (c .before .before .before .before .before .before .before .before .before .before .before .before .before .before .before .before .before .before .before .before .before .before .before .enter-strings .ensures) (omega (arith, c .before .before .before .before .before .before .before .before .before .before .before .before .before .before .before .before .before .before .before .if2 .left)) _ (c .before .before .before .before .before .before .before .before .before .before .before .before .before .before .before .before .before .before .resource-tag .ensures) _ (c .before .before .before .before .before .before .before .before .before .before .before .before .before .before .before .before .word-for .ensures) _ _ _ _ (c .before .before .before .before .before .before .before .before .before .before .before .before .take .ensures _) _ (c .before .before .before .before .behind .given .1) _ (c .before .before .pass-behind .ensures) f g (c .if3 .taken)
 
 same-length-6 : tie.Need-same-length-6
 same-length-6 c = search needs
@@ -67,10 +67,27 @@ same-length-8 : tie.Need-same-length-8
 same-length-8 c = search needs
 
 same-length-9 : tie.Need-same-length-9
-same-length-9 c = c .before .before .before .before .before .before .before .before .before .before .before .before .before .before .before .before .before .before .before .before .before .enter-strings .ensures .size
+same-length-9 c = search needs
 
 returns-4 : tie.Need-returns-4
-returns-4 c = λ f g. taken-so _ _ _ _ _ _ _ (c .before .before .before .before .before .before .before .before .before .before .before .before .before .before .before .before .before .before .before .before .before .before .before .before .before .before .before .before .before .before .before .before .before .pre .1) _ (c .before .before .before .before .before .before .before .before .before .before .before .before .before .before .before .before .before .before .before .before .before .before .before .before .before .next-token .ensures) (c .before .before .before .before .before .before .before .before .before .before .before .before .before .before .before .before .before .before .before .before .before .before .before .if1 .left) _ _ (c .before .before .before .before .before .before .before .before .before .before .before .before .before .before .before .before .before .before .before .before .before .enter-strings .ensures) (omega (arith, c .before .before .before .before .before .before .before .before .before .before .before .before .before .before .before .before .before .if2 .left)) _ (c .before .before .before .before .before .before .before .before .before .before .before .before .before .before .before .before .resource-tag .ensures) _ (c .before .before .before .before .before .before .before .before .before .before .before .before .before .before .word-for .ensures) _ _ _ _ (c .before .before .before .before .before .before .before .before .before .before .take .ensures _) _ (c .before .before .behind .given .1) _ (c .go-on .ensures) f g
+unfolding ReadSo
+returns-4 c = λ f g. stuck-refused _ _ _ _ _ _ _ (c .before .before .before .before .before .before .before .before .before .before .before .before .before .before .before .before .before .before .before .before .before .before .before .before .before .before .before .before .before .before .before .pre .1) _ (c .before .before .before .before .before .before .before .before .before .before .before .before .before .before .before .before .before .before .before .before .before .before .before .next-token .ensures) (c .before .before .before .before .before .before .before .before .before .before .before .before .before .before .before .before .before .before .before .before .before .if1 .left) _ _ (c .before .before .before .before .before .before .before .before .before .before .before .before .before .before .before .before .before .before .before .enter-strings .ensures) (omega (arith, c .before .before .before .before .before .before .before .before .before .before .before .before .before .before .before .if2 .left)) _ (c .before .before .before .before .before .before .before .before .before .before .before .before .before .before .resource-tag .ensures) _ (c .before .before .before .before .before .before .before .before .before .before .before .before .word-for .ensures) _ _ _ _ (c .before .before .before .before .before .before .before .before .take .ensures _) (c .enum-told .given .1) f g
+
+same-length-10 : tie.Need-same-length-10
+same-length-10 c = search needs
+
+same-length-11 : tie.Need-same-length-11
+same-length-11 c = search needs
+
+same-length-12 : tie.Need-same-length-12
+same-length-12 c = search needs
+
+same-length-13 : tie.Need-same-length-13
+same-length-13 c = c .before .before .before .before .before .before .before .before .before .before .before .before .before .before .before .before .before .before .before .before .before .before .before .enter-strings .ensures .size
+
+returns-5 : tie.Need-returns-5
+unfolding ReadSo
+returns-5 c = λ f g. taken-on _ _ _ _ _ _ _ (c .before .before .before .before .before .before .before .before .before .before .before .before .before .before .before .before .before .before .before .before .before .before .before .before .before .before .before .before .before .before .before .before .before .before .before .pre .1) _ (c .before .before .before .before .before .before .before .before .before .before .before .before .before .before .before .before .before .before .before .before .before .before .before .before .before .before .before .next-token .ensures) (c .before .before .before .before .before .before .before .before .before .before .before .before .before .before .before .before .before .before .before .before .before .before .before .before .before .if1 .left) _ _ (c .before .before .before .before .before .before .before .before .before .before .before .before .before .before .before .before .before .before .before .before .before .before .before .enter-strings .ensures) (omega (arith, c .before .before .before .before .before .before .before .before .before .before .before .before .before .before .before .before .before .before .before .if2 .left)) _ (c .before .before .before .before .before .before .before .before .before .before .before .before .before .before .before .before .before .before .resource-tag .ensures) _ (c .before .before .before .before .before .before .before .before .before .before .before .before .before .before .before .before .word-for .ensures) _ _ _ _ (c .before .before .before .before .before .before .before .before .before .before .before .before .take .ensures _) _ (c .before .before .before .before .behind .given .1) _ (c .before .before .pass-behind .ensures) f g (c .if3 .left)
 
 pub read-token-spec : {M : Type 1} → statement M
 read-token-spec =
@@ -86,7 +103,7 @@ read-token-spec =
     take-requires
     enum-told
     enum-known-behind
-    go-on-requires
+    pass-behind-requires
     same-length-2
     same-length-3
     same-length-4
@@ -96,4 +113,9 @@ read-token-spec =
     same-length-7
     same-length-8
     same-length-9
-    returns-4)
+    returns-4
+    same-length-10
+    same-length-11
+    same-length-12
+    same-length-13
+    returns-5)
