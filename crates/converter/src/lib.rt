@@ -5,7 +5,7 @@ ghost use lib.ListN.{length};
 ghost use Rattle.notation.specs.Convert.{converted};
 ghost use Rattle.rules.specs.Types.{theEight, lent, checkTypes};
 ghost use Rattle.rules.specs.declared.Verdict.the-variants.{Sound};
-ghost use Rattle.type_list.specs.Listed.{chosen};
+ghost use Rattle.type_list.specs.Listed.{chosen, Listed};
 ghost use Rattle.interner.specs.Table.{strings};
 ghost use Rattle.text_answers.specs.Leaving.{Leaves};
 ghost use Rattle.parser.specs.Reading.{TextRead};
@@ -21,17 +21,23 @@ use text_answers::refuse;
 use values::Reason;
 
 // Once over the text, with room of its own for what is open.
-fn read_pass(types: &[u8], text: &[u8], out: &mut [u8], table: &mut [u8], count: usize) -> ReadText
-    requires { ⌜ (checkTypes (chosen (now types)) ≡ Sound) × Passable (now text) (now out) (now table) count ⌝ }
+fn read_pass(
+    types: &[u8],
+    index: &[u8],
+    listed: u16,
+    text: &[u8],
+    out: &mut [u8],
+    table: &mut [u8],
+    count: usize,
+) -> ReadText
+    requires { ⌜ Listed (now types) (now index) listed × Passable (now text) (now out) (now table) count ⌝ }
     ensures { λ r. ⌜ TextRead (chosen (now (types .entry))) (now (text .entry)) (strings (now (text .entry)) (now (table .entry)) count) r (now (out .exit)) (now (table .exit)) ⌝ }
 {
     let mut frames = [0u8; 256];
     let mut stack = [0u8; 468];
-    let mut index = [0u8; type_list::INDEX];
-    let listed = type_list::index_types(types, &mut index);
     read_text(
         types,
-        &index,
+        index,
         listed,
         text,
         out,
@@ -45,22 +51,26 @@ fn read_pass(types: &[u8], text: &[u8], out: &mut [u8], table: &mut [u8], count:
 // The table of strings, and the items behind it.
 fn write_manifest(
     types: &[u8],
+    index: &[u8],
+    listed: u16,
     text: &[u8],
     out: &mut [u8],
     table: &mut [u8],
     count: usize,
     before: usize,
 )
-    requires { ⌜ Fitting (chosen (now types)) (now text) (now table) count before (now out) ⌝ }
+    requires { ⌜ Listed (now types) (now index) listed × Fitting (chosen (now types)) (now text) (now table) count before (now out) ⌝ }
     ensures { λ _. ⌜ Begins (chosen (now (types .entry))) (now (text .entry)) (now (out .exit)) ⌝ }
 {
     write_table(text, table, count, out);
-    read_pass(types, text, &mut out[before..], table, count);
+    read_pass(types, index, listed, text, &mut out[before..], table, count);
 }
 
 // A text that was read whole: its manifest, if it is not too long.
 fn finish(
     types: &[u8],
+    index: &[u8],
+    listed: u16,
     text: &[u8],
     out: &mut [u8],
     work: &mut [u8],
@@ -68,7 +78,7 @@ fn finish(
     count: usize,
     fill: usize,
 ) -> Answer
-    requires { ⌜ (65536 ≤ length (now work)) × Measured (chosen (now types)) (now text) (now table) count fill ⌝ }
+    requires { ⌜ (65536 ≤ length (now work)) × (Listed (now types) (now index) listed × Measured (chosen (now types)) (now text) (now table) count fill) ⌝ }
     ensures { λ r. ⌜ Leaves (converted (chosen (now (types .entry))) (now (text .entry)) (length (now (out .entry))) (length (now (work .entry)))) (now (out .entry)) (now (out .exit)) (now (work .entry)) (now (work .exit)) r ⌝ }
 {
     let before = table_size(text, table, count);
@@ -79,7 +89,7 @@ fn finish(
     if out.len() < size {
         return refuse(Reason::OutsideNotation, 0, out, work);
     }
-    write_manifest(types, text, out, table, count, before);
+    write_manifest(types, index, listed, text, out, table, count, before);
     accept(size as u16, out, work)
 }
 
@@ -91,15 +101,27 @@ fn convert_chosen(types: &[u8], text: &[u8], out: &mut [u8], work: &mut [u8]) ->
     if 65535 < text.len() {
         return refuse(Reason::OutsideNotation, 0, out, work);
     }
+    let mut index = [0u8; type_list::INDEX];
+    let listed = type_list::index_types(types, &mut index);
     let mut table = [0u8; 2050];
-    let first = read_pass(types, text, &mut out[0..0], &mut table, 0);
+    let first = read_pass(types, &index, listed, text, &mut out[0..0], &mut table, 0);
     match first {
         ReadText::Fault(place) => refuse(Reason::OutsideNotation, place as u16, out, work),
         ReadText::Whole { count, late, fill } => {
             if late != 0 {
                 return refuse(Reason::PastLine255, (late - 1) as u16, out, work);
             }
-            finish(types, text, out, work, &mut table, count, fill)
+            finish(
+                types,
+                &index,
+                listed,
+                text,
+                out,
+                work,
+                &mut table,
+                count,
+                fill,
+            )
         }
     }
 }

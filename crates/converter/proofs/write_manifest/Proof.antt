@@ -7,21 +7,21 @@ use Rattle.converter.proofs.write_manifest.Statement.{statement}
 use Rattle.converter.proofs.write_manifest.Tie as tie
 
 write-table-requires : tie.Need-write-table-requires
-write-table-requires c κs = writable _ (c .before .before .before .before .before .before .pre)
+write-table-requires c κs = writable _ (c .before .before .before .before .before .before .before .pre .1)
 
 sub-read-pass : tie.Need-sub-read-pass
-sub-read-pass c = omega (arith, items-fit _ (c .before .before .before .before .before .before .before .before .before .pre))
+sub-read-pass c = omega (arith, items-fit _ (c .before .before .before .before .before .before .before .before .before .before .pre .1))
 
 part-read-pass-start : tie.Need-part-read-pass-start
-part-read-pass-start c = omega (arith, items-fit _ (c .before .before .before .before .before .before .before .before .before .pre))
+part-read-pass-start c = omega (arith, items-fit _ (c .before .before .before .before .before .before .before .before .before .before .pre .1))
 
 read-pass-requires : tie.Need-read-pass-requires
-read-pass-requires c κs = (c .before .before .before .before .before .before .before .before .before .before .before .pre .measured .listed, passable _ (c .before .before .before .before .before .before .before .before .before .before .before .pre) _)
+read-pass-requires c κs = (c .before .before .before .before .before .before .before .before .before .before .before .before .pre .0, passable _ (c .before .before .before .before .before .before .before .before .before .before .before .before .pre .1) _)
 
 returns : tie.Need-returns
 returns c =
-    let s = c .before .before .before .before .before .before .before .before .before .before .before .before .before .before .before .before in
-    manifest-begins _ (s .pre) _ _ _ _ (c .before .before .before .before .before .before .before .before .before .write-table .ensures .1) (c .before .before .before .before .read-pass .ensures) (search needs) (search needs)
+    let s = c .before .before .before .before .before .before .before .before .before .before .before .before .before .before .before .before .before in
+    manifest-begins _ (s .pre .1) _ _ _ _ (c .before .before .before .before .before .before .before .before .before .write-table .ensures .1) (c .before .before .before .before .read-pass .ensures) (search needs) (search needs)
 
 pub write-manifest-spec : {M : Type 1} → statement M
 write-manifest-spec =
