@@ -117,21 +117,21 @@ module _ (types : Types) {t table : List ℕ} {count fill : ℕ} (x : Measured t
       within-both l h = rw (tooLong, le-ltb 65535 (length manifest) (omega (arith, manifest-size)), le-ltb output (length manifest) (omega (arith, manifest-size)))
 
       -- an output that begins with the manifest begins with what is asked for
-      pub written : (memory : ℕ) {out : List ℕ} → 65536 ≤ memory → before + fill ≤ 65535 → before + fill ≤ output → Begins types t out → converted types t output memory ≡ done (take (before + fill) out)
-      written memory {out} enough short room begins =
+      pub written : (memory : ℕ) {out : List ℕ} → checkTypes types ≡ Sound → 65536 ≤ memory → before + fill ≤ 65535 → before + fill ≤ output → Begins types t out → converted types t output memory ≡ done (take (before + fill) out)
+      written memory {out} sound enough short room begins =
           let first : take (before + fill) out ≡ manifest = ap (λ (n : ℕ). take n out) (sym manifest-size) ∙ begins .manifest (x .items) (x .read) in
-          all-fits types t output memory enough (x .listed) (x .short) (x .items) (x .read) (x .early) (within-both short room) ∙ ap done (sym first)
+          all-fits types t output memory enough sound (x .short) (x .items) (x .read) (x .early) (within-both short room) ∙ ap done (sym first)
 
       -- what writing it asks for
-      pub fitting : (out : List ℕ) → IsBytes t → output ≡ length out → before + fill ≤ 65535 → before + fill ≤ output → Fitting types t table count before out
-      fitting out bytes here short room =
+      pub fitting : (out : List ℕ) → checkTypes types ≡ Sound → IsBytes t → output ≡ length out → before + fill ≤ 65535 → before + fill ≤ output → Fitting types t table count before out
+      fitting out sound bytes here short room =
           let fits : tooLong manifest (length out) ≡ false = rw here at (within-both short room) in
           record {
             fill = fill;
             measured = x;
             table-size = table-size;
             fits = fits;
-            bytes = converted-manifest types t manifest (length out) 65536 bytes (all-fits types t (length out) 65536 (omega arith) (x .listed) (x .short) (x .items) (x .read) (x .early) fits) .bytes;
+            bytes = converted-manifest types t manifest (length out) 65536 bytes (all-fits types t (length out) 65536 (omega arith) sound (x .short) (x .items) (x .read) (x .early) fits) .bytes;
           }
 
 -- ---- The table, and the items behind it

@@ -12,8 +12,7 @@ use Rattle.values.specs.declared.Reason.the-variants.{OutsideNotation}
 use Rattle.rules.specs.EditRule.{IsBytes}
 use Rattle.rules.specs.Fields.{none as noFields, writeAll}
 use Rattle.rules.specs.Outcome.{refused, done}
-use Rattle.rules.specs.declared.Verdict.the-variants.{Sound}
-use Rattle.rules.specs.Types.{Types, checkTypes}
+use Rattle.rules.specs.Types.{Types}
 use Rattle.notation.specs.Lexing.{tokens}
 use Rattle.notation.specs.Building.{Nodes}
 use Rattle.notation.specs.Convert.{numberedOnto, lateAmong, textItems}
@@ -72,11 +71,10 @@ module _ (types : Types) (t table₀ out table : List ℕ) (r : ReadText) (x : T
     pub late-low : IsBytes t → length t ≤ 65535 → (late ≡ 0 → ⊥) → late - 1 < 65536
     late-low bytes short some-late = omega (arith, late-place types t (whole-found .items) (text-whole types (tokens t) (whole-found .items) (tokens-good t bytes) items-read .whole) (late - 1) (late-found some-late))
 
-    pub measured-so : checkTypes types ≡ Sound → length t ≤ 65535 → 2050 ≤ length table → late ≡ 0 → Measured types t table count fill
+    pub measured-so : length t ≤ 65535 → 2050 ≤ length table → late ≡ 0 → Measured types t table count fill
     unfolding lateNumber
-    measured-so listed short room none-late =
+    measured-so short room none-late =
         record {
-          listed = listed;
           short = short;
           items = whole-found .items;
           read = items-read;

@@ -8,8 +8,7 @@ use lib.ListN.{length, take}
 use Rattle.rules.specs.EditRule.{IsBytes}
 use Rattle.rules.specs.Fields.{none as noFields, writeAll}
 use Rattle.rules.specs.Outcome.{done}
-use Rattle.rules.specs.Types.{Types, checkTypes}
-use Rattle.rules.specs.declared.Verdict.the-variants.{Sound}
+use Rattle.rules.specs.Types.{Types}
 use Rattle.notation.specs.declared.Answer.{Answer}
 use Rattle.notation.specs.Lexing.{tokens}
 use Rattle.notation.specs.Building.{Nodes}
@@ -30,7 +29,6 @@ pub record Passable (t out table : List ℕ) (count : ℕ) : Type 0 where
 
 -- a text was read whole, and no constant is late: its items, the table of its strings, and how many bytes the items take
 pub record Measured (types : Types) (t table : List ℕ) (count fill : ℕ) : Type 0 where
-  pub listed : checkTypes types ≡ Sound
   pub short : length t ≤ 65535
   pub items : Nodes
   pub read : textItems types (tokens t) ≡ done items

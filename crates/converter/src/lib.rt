@@ -93,7 +93,7 @@ fn finish(
     accept(size as u16, out, work)
 }
 
-// Memory that is long enough, and types without fault: an empty list means the eight. The first pass writes nothing: it finds a fault, the strings and how long the manifest is.
+// Memory that is long enough, and types without fault: an empty list means the eight. The first pass writes nothing: it finds a fault, the strings and how long the manifest is. Both passes look types up in one index.
 fn convert_chosen(types: &[u8], text: &[u8], out: &mut [u8], work: &mut [u8]) -> Answer
     requires { ⌜ (65536 ≤ length (now work)) × (checkTypes (chosen (now types)) ≡ Sound) ⌝ }
     ensures { λ r. ⌜ Converts (chosen (now (types .entry))) (now (text .entry)) (now (out .entry)) (now (out .exit)) (now (work .entry)) (now (work .exit)) r ⌝ }

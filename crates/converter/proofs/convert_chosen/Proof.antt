@@ -31,7 +31,7 @@ returns-2 c =
     converts _ _ (late-constant _ _ _ _ (c .before .before .before .before .before .before .before .before .before .before .before .before .before .before .before .before .before .before .before .before .before .before .before .before .before .before .pre .0) (c .before .before .before .before .before .before .before .before .before .before .before .before .before .before .before .before .before .before .before .before .before .before .before .before .before .before .pre .1) (c .before .before .before .before .before .before .before .before .before .before .before .before .before .before .before .before .before .before .before .before .before .if1 .left) (whole-found _ _ _ _ _ _ x _ _ _ is .items) (items-read _ _ _ _ _ _ x _ _ _ is) (late-found _ _ _ _ _ _ x _ _ _ is (c .before .before .before .before .before .before .before .if2 .taken))) (search needs) refl (c .before .before .before .before .refuse3 .ensures)
 
 finish-requires : tie.Need-finish-requires
-finish-requires c κs = (c .before .before .before .before .before .before .before .before .before .before .before .before .before .before .before .before .before .before .before .before .before .before .before .pre .0, (c .before .before .before .before .before .before .before .before .before .before .before .before .before .before .before .before .index-types .ensures, measured-so _ _ _ _ _ _ (c .before .before .before .before .before .before .before .before .before .before .before .read-pass .ensures) _ _ _ (c .before .before .before .before .before .before .first2 .given .1) (c .before .before .before .before .before .before .before .before .before .before .before .before .before .before .before .before .before .before .before .before .before .before .before .pre .1) (c .before .before .before .before .before .before .before .before .before .before .before .before .before .before .before .before .before .before .if1 .left) (search needs) (c .before .before .before .before .if2 .left)))
+finish-requires c κs = (c .before .before .before .before .before .before .before .before .before .before .before .before .before .before .before .before .before .before .before .before .before .before .before .pre .0, (c .before .before .before .before .before .before .before .before .before .before .before .before .before .before .before .before .index-types .ensures, measured-so _ _ _ _ _ _ (c .before .before .before .before .before .before .before .before .before .before .before .read-pass .ensures) _ _ _ (c .before .before .before .before .before .before .first2 .given .1) (c .before .before .before .before .before .before .before .before .before .before .before .before .before .before .before .before .before .before .if1 .left) (search needs) (c .before .before .before .before .if2 .left)))
 
 returns-3 : tie.Need-returns-3
 returns-3 c = converts _ _ (not-read _ _ _ _ (c .before .before .before .before .before .before .before .before .before .before .before .before .before .before .before .before .before .before .before .before .before .before .before .before .before .pre .0) (c .before .before .before .before .before .before .before .before .before .before .before .before .before .before .before .before .before .before .before .before .before .before .before .before .before .pre .1) (c .before .before .before .before .before .before .before .before .before .before .before .before .before .before .before .before .before .before .before .before .if1 .left) (fault-first _ _ _ _ _ _ (c .before .before .before .before .before .before .before .before .before .before .before .before .before .read-pass .ensures) _ (c .before .before .before .before .before .before .before .before .first .given .1))) (search needs) refl (c .before .before .before .before .refuse2 .ensures)
