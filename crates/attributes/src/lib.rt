@@ -1,4 +1,6 @@
 // The attributes (26) of a declaration: evaluated in written order into a table by name, and the first of them that repeats a name.
+#![tactic(auto)]
+
 ghost use Rattle.std.specs.Prelude.{◌≡◌, [], ℕ, ◌+◌, ◌-◌, ◌≤◌, ◌<◌, eqb, length};
 ghost use Rattle.std.proofs.Math.Option.{some};
 ghost use Rattle.wire.specs.Bytes.{pick, byte, end_of, fields_in};
@@ -19,20 +21,20 @@ use records::Held;
 use values::{Labelled, Reason, Refusal, Value};
 
 // The fields from `first` up to `end`: the attributes of a declaration, or the parameters of a definition.
-#[derive(Drop)]
+#[derive(Clone, Copy)]
 pub struct Span {
     pub first: usize,
     pub end: usize,
 }
 
-#[derive(Drop)]
+#[derive(Clone, Copy)]
 pub enum Gathered {
     Done,
     Refused(Refusal),
 }
 
 // The title of a declaration.
-#[derive(Drop)]
+#[derive(Clone, Copy)]
 pub enum Title {
     Value(Labelled),
     Refused(Refusal),

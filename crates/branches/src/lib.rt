@@ -1,5 +1,7 @@
 // What the branches of a condition hold, taken or not: read in place from the manifest's bytes, where they stand soundly. One walk collects the names that
 // they assign, and tells whether they declare; then the condition's set joins the mark of each name once.
+#![tactic(auto)]
+
 ghost use Rattle.std.specs.Prelude.{◌≡◌, false, ◌≤◌, ◌<◌, length};
 ghost use Rattle.wire.specs.Bytes.{end_of, fields_in};
 ghost use Rattle.rules.specs.declared.Kind.TheVariants.{Statement, Block, Branch};

@@ -1,5 +1,7 @@
 // The catalog in the lent output. An entry is made in the rest of the output, from the fill point on; what an
 // attribute holds is read back.
+#![tactic(auto)]
+
 ghost use Rattle.std.specs.Prelude.{◌≡◌, List, ◌≤◌, length};
 ghost use Rattle.wire.specs.Runs.{over};
 ghost use Rattle.rules.specs.State.{Attribute};
@@ -18,21 +20,21 @@ use values::{Labelled, Value};
 pub mod layout; // layout.rt: where the parts of an entry and of an attribute stand
 
 // What finishing an entry answers: its length, or that it does not fit.
-#[derive(Drop)]
+#[derive(Clone, Copy)]
 pub enum Finished {
     Fits(usize),
     TooLong,
 }
 
 // Where a search found something.
-#[derive(Drop)]
+#[derive(Clone, Copy)]
 pub enum Place {
     At(usize),
     Nothing,
 }
 
 // What reading an attribute finds.
-#[derive(Drop)]
+#[derive(Clone, Copy)]
 pub enum Found {
     Content(Labelled),
     Nothing,

@@ -1,5 +1,7 @@
 // The index over the catalog, in the working memory: entries are chained by their titles, and attributes by the places of their entries and their names. A search
 // sees one chain, and each place in it is tested in the output. Whatever catalog the output and the index stand for, the answer is right for that one.
+#![tactic(auto)]
+
 ghost use Rattle.std.specs.Prelude.{◌≡◌, List, [], ◌∷◌, ◌++◌, ℕ, ◌+◌, ◌≤◌, ◌<◌, length};
 ghost use Rattle.std.proofs.Math.Option.{some};
 ghost use Rattle.wire.specs.Bytes.{end_of};
@@ -28,7 +30,7 @@ const SHORTEST_ATTRIBUTE: usize = 41;
 const LONGEST_ATTRIBUTE: usize = 48;
 
 // What a search looks for: the entry of a type and title, or the attribute of a name between two places.
-#[derive(Drop)]
+#[derive(Clone, Copy)]
 pub enum Sought {
     Entry { kind: u16, title: u16 },
     Attribute { name: u16, from: usize, end: usize },

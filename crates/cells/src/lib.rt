@@ -1,4 +1,6 @@
 // The cells of the working memory: 512 slots in lent bytes. Contracts speak of the definition's state, which the bytes stand for (specs/Memory.antt).
+#![tactic(auto)]
+
 ghost use Rattle.std.specs.Prelude.{◌≡◌, true, false, ◌+◌, ◌≤◌, ◌<◌, length};
 ghost use Rattle.labels.specs.Sets.{◌∪◌};
 ghost use Rattle.labels.specs.Bytes.{set_at};
@@ -27,14 +29,14 @@ const USED: u8 = 1;
 const FREED: u8 = 5;
 
 // What a search among the slots finds.
-#[derive(Drop)]
+#[derive(Clone, Copy)]
 pub enum Found {
     At(usize),
     Nothing,
 }
 
 // How a store ends: done, or refused since the variable has a value, or since a 513th cell would be needed.
-#[derive(Drop)]
+#[derive(Clone, Copy)]
 pub enum Stored {
     Done,
     HasValue,

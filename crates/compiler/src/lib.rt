@@ -1,4 +1,6 @@
 // A whole compile: from a manifest and a device name to the device's catalog.
+#![tactic(auto)]
+
 ghost use Rattle.std.specs.Prelude.{◌≡◌, List, [], ◌∷◌, ℕ, ◌≤◌, length, Bool};
 ghost use Rattle.wire.specs.Runs.{zeros};
 ghost use Rattle.values.specs.declared.Answer.TheVariants.{Refused};

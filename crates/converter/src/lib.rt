@@ -1,4 +1,6 @@
 // The converter: from a text in the notation to a manifest.
+#![tactic(auto)]
+
 ghost use Rattle.std.specs.Prelude.{◌≡◌, ◌≤◌, length};
 ghost use Rattle.notation.specs.Convert.{converted};
 ghost use Rattle.rules.specs.Types.{the_eight, lent, check_types};

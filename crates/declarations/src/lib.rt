@@ -1,4 +1,6 @@
 // Declarations up to the body that runs: the definition looked up, what is given checked, title and parameters assigned. Bodies and parents run in the crate `execution`.
+#![tactic(auto)]
+
 ghost use Rattle.std.specs.Prelude.{◌≡◌, ◌&&◌, List, ℕ, ◌+◌, ◌≤◌, ◌<◌, length};
 ghost use Rattle.wire.specs.Bytes.{two, fields_in};
 ghost use Rattle.rules.specs.State.{Entry, is_declared};
@@ -20,21 +22,21 @@ use statements::Ran;
 use values::{Labelled, Reason, Refusal};
 
 // Where the definition of a name is.
-#[derive(Drop)]
+#[derive(Clone, Copy)]
 pub enum Found {
     At(u16),
     Nothing,
 }
 
 // A type's body that is ready to run: where its block is.
-#[derive(Drop)]
+#[derive(Clone, Copy)]
 pub enum Started {
     Body(usize),
     Refused(Refusal),
 }
 
 // Where a class's definition is.
-#[derive(Drop)]
+#[derive(Clone, Copy)]
 pub enum Class {
     At(usize),
     Refused(Refusal),
@@ -42,7 +44,7 @@ pub enum Class {
 
 // What a declaration of a class asks for: the class `name`, by the 28, 29 or 35 at `place`. A 28 refuses a declared class (`again`) and gives attributes;
 // the others give none.
-#[derive(Drop)]
+#[derive(Clone, Copy)]
 pub struct Request {
     pub place: usize,
     pub name: u16,
@@ -51,7 +53,7 @@ pub struct Request {
 }
 
 // A class's body that is ready to run, and where it runs.
-#[derive(Drop)]
+#[derive(Clone, Copy)]
 pub enum StartedClass {
     Body { block: usize, here: Context },
     Refused(Refusal),

@@ -1,4 +1,6 @@
 // What the names of a manifest mean before anything runs: built-in types, the title, and all definitions; and the node that runs for a device.
+#![tactic(auto)]
+
 ghost use Rattle.std.specs.Prelude.{◌≡◌, List, [], ◌∷◌, ℕ, ◌+◌, ◌≤◌, ◌<◌, length};
 ghost use Rattle.wire.specs.Bytes.{byte, two};
 ghost use Rattle.rules.specs.Check.{string_places, check};
@@ -20,7 +22,7 @@ use syntax::Found;
 use values::{Reason, Refusal};
 
 // Whether the definitions are gathered, or why not.
-#[derive(Drop)]
+#[derive(Clone, Copy)]
 pub enum Gathered {
     Done,
     Refused(Refusal),

@@ -1,5 +1,7 @@
 // Expressions, evaluated over the manifest's bytes in place. The labels that decide a value join a set that the caller lends, in four words; what is handed
 // back is the value alone. What an answer means, and what the bytes must stand for, is in specs/.
+#![tactic(auto)]
+
 ghost use Rattle.std.specs.Prelude.{◌≡◌, true, List, ℕ, suc, ◌+◌, ◌≤◌, ◌<◌, length};
 ghost use Rattle.labels.specs.Words.{labels_in, Grows};
 ghost use Rattle.wire.specs.Bytes.{byte, two, end_of, fields_in};
@@ -24,7 +26,7 @@ use patterns::Choice;
 use values::{Computed, Labelled, Reason, Refusal, Value, place};
 
 // A value or a refusal, in one flat enum: this is what each part of an expression hands back.
-#[derive(Drop)]
+#[derive(Clone, Copy)]
 pub enum Evaluated {
     Integer(i64),
     String(u16),
@@ -33,28 +35,28 @@ pub enum Evaluated {
 }
 
 // The same, taken apart.
-#[derive(Drop)]
+#[derive(Clone, Copy)]
 pub enum Valued {
     Value(Value),
     Refused(Refusal),
 }
 
 // A variable that is sought: its name, the scope where the search begins, and how many scopes are tried.
-#[derive(Drop)]
+#[derive(Clone, Copy)]
 struct Variable {
     name: u16,
     scope: Scope,
     tries: u16,
 }
 
-#[derive(Drop)]
+#[derive(Clone, Copy)]
 enum Sought {
     Variable(Variable),
     Unknown,
 }
 
 // What the left value says of an operator: not of its kind, the result already, or that the right value counts.
-#[derive(Drop)]
+#[derive(Clone, Copy)]
 enum Begun {
     WrongKind,
     Decided,

@@ -1,4 +1,6 @@
 // Blocks, statements and declarations, which call one another. What falls with each call joins the steps left, the levels left and the depth left. What an answer means is in specs/.
+#![tactic(auto)]
+
 ghost use Rattle.std.specs.Prelude.{◌≡◌, false, List, [], ℕ, ◌+◌, ◌-◌, ◌≤◌, ◌<◌, leb};
 ghost use Rattle.values.specs.declared.Reason.TheVariants.{DeclaredAgain};
 ghost use Rattle.values.specs.Refusals.{refusal_at};

@@ -1,5 +1,7 @@
 // Why does this line count? Reads a question from standard input, five lines (device, type, title, attribute, label) and a manifest, and writes the line that
 // answers it. Behind the label may stand a space and a number: so many bytes between the lines and the manifest are a list of types, which replaces the eight.
+#![tactic(auto)]
+
 ghost use Rattle.std.specs.Prelude.{◌≡◌, true, ◌≤◌, length, take, drop};
 ghost use Rattle.rules.specs.Types.{the_eight, lent};
 ghost use Rattle.question.specs.Answers.{answer_line, wrong_line};

@@ -1,5 +1,7 @@
 // Why does this line count? One run of the manifest notes the part of an attribute's set that has a label; runs with constants struck out, by halves, find the lowest
 // place of a constant with the label that the compile came to.
+#![tactic(auto)]
+
 ghost use Rattle.std.specs.Prelude.{◌≡◌, true, false, [], ◌≤◌, length};
 ghost use Rattle.wire.specs.Runs.{zeros};
 ghost use Rattle.rules.specs.Read.{manifest_of};
@@ -27,7 +29,7 @@ use values::{Explanation, Reason, Refusal, SetPart};
 const ROOM: usize = 65535;
 
 // The numbers of the strings that a question names, if the table has them all.
-#[derive(Drop)]
+#[derive(Clone, Copy)]
 pub enum Numbers {
     Known { kind: u16, title: u16, name: u16 },
     Unknown,

@@ -8,7 +8,7 @@ use crate::lines::allows;
 use crate::parts::{COUNT, MANY, NAMES, ONE, SECOND, UP_TO};
 
 // What the first of the parts makes of a field: it takes the field, and these parts may come then; or it leaves the field to the others; or it refuses it.
-#[derive(Drop)]
+#[derive(Clone, Copy)]
 pub enum Taking {
     Parts(u64),
     Passes,
@@ -16,7 +16,7 @@ pub enum Taking {
 }
 
 // The parts that may come after a field, if it may stand here.
-#[derive(Drop)]
+#[derive(Clone, Copy)]
 pub enum Then {
     Parts(u64),
     Wrong,

@@ -1,11 +1,13 @@
 // Standard input, which comes in pieces, as a first line and the rest: the printer "reads the device name, a line feed, then the manifest".
+#![tactic(auto)]
+
 ghost use Rattle.std.specs.Prelude.{◌≡◌, List, [], ℕ, ◌+◌, min, length, drop};
 ghost use Rattle.wire.specs.Runs.{over};
 ghost use Rattle.rules.specs.Schedule.{before_feed};
 ghost use Rattle.input.specs.Reading.{reading, reading_of, is_full, Fed};
 
 // How far the input is read: whether the line feed was met, and how many bytes of each part are kept.
-#[derive(Drop)]
+#[derive(Clone, Copy)]
 pub struct Progress {
     pub met: bool,
     pub line: usize,

@@ -1,5 +1,7 @@
 // The table of a text's strings, in lent bytes. It keeps no copies: a string is known by the place in the text where it begins, an opening quote or the first
 // letter of a word. Each place takes two bytes, and the places are sorted by what the strings mean.
+#![tactic(auto)]
+
 ghost use Rattle.std.specs.Prelude.{◌≡◌, false, ◌+◌, ◌<◌, ◌≤◌, length};
 ghost use Rattle.notation.specs.Lexing.{in_word};
 ghost use Rattle.notation.specs.Quoted.{escape_of, string_from};
@@ -11,7 +13,7 @@ use lexer::bytes::{in_word, is_quote};
 pub mod fields; // fields.rt: the table as a field of a manifest
 
 // Which of two strings comes first.
-#[derive(Drop)]
+#[derive(Clone, Copy)]
 pub enum Order {
     Before,
     Same,
@@ -19,14 +21,14 @@ pub enum Order {
 }
 
 // Where a string goes on: its closing quote, or 0 for a word, and the place of its next byte.
-#[derive(Drop)]
+#[derive(Clone, Copy)]
 struct Cursor {
     quote: u8,
     at: usize,
 }
 
 // The code of the next byte of a string, and the place behind it. The code is 0 at the end, else one more than the byte: so codes are ordered as strings are.
-#[derive(Drop)]
+#[derive(Clone, Copy)]
 struct Step {
     code: u16,
     at: usize,
@@ -179,7 +181,7 @@ pub fn compare(text: &[u8], a: usize, b: usize) -> Order
 // ---- The table
 
 // Where a string stands in the table, or where it belongs if it is not there.
-#[derive(Drop)]
+#[derive(Clone, Copy)]
 pub struct Found {
     pub index: usize,
     pub there: bool,
@@ -225,7 +227,7 @@ fn make_room(table: &mut [u8], from: usize, end: usize)
 }
 
 // The number of a string in the table, and how many strings the table has.
-#[derive(Drop)]
+#[derive(Clone, Copy)]
 pub struct Entered {
     pub number: usize,
     pub count: usize,

@@ -1,4 +1,6 @@
 // Nodes, definitions of types and of classes, and the items of a manifest.
+#![tactic(auto)]
+
 ghost use Rattle.std.specs.Prelude.{◌≡◌, false, ℕ, ◌+◌, ◌≤◌, length};
 ghost use Rattle.wire.specs.Bytes.{two, fields_in};
 ghost use Rattle.rules.specs.Compile.{string_at};

@@ -1,4 +1,6 @@
 // A set of labels 0 to 255, held in four words by value.
+#![tactic(auto)]
+
 ghost use Rattle.std.specs.Prelude.{◌≡◌, ◌+◌, ◌≤◌, length};
 ghost use Rattle.wire.specs.Runs.{over};
 ghost use Rattle.labels.specs.Sets.{one_label, ◌∪◌, word_of, has};
@@ -6,7 +8,7 @@ ghost use Rattle.labels.specs.Search.{count_of, next_from};
 ghost use Rattle.labels.specs.Bytes.{low_bytes, number_at, label_bytes, set_at};
 ghost use Rattle.labels.specs.Words.{labels_in, Joins, JoinsAt};
 
-#[derive(Drop)]
+#[derive(Clone, Copy)]
 pub struct Labels {
     pub w0: u64,
     pub w1: u64,
@@ -15,7 +17,7 @@ pub struct Labels {
 }
 
 // What a search for the next label finds.
-#[derive(Drop)]
+#[derive(Clone, Copy)]
 pub enum NextLabel {
     At(u8),
     Nothing,

@@ -1,4 +1,6 @@
 // The lexer: the next token of a text in the notation.
+#![tactic(auto)]
+
 ghost use Rattle.std.specs.Prelude.{◌≡◌, false, ◌≤◌, ◌<◌, length, get_or};
 ghost use Rattle.lexer.specs.Scanned.{is_gap};
 ghost use Rattle.lexer.specs.Found.{Found};
@@ -23,21 +25,21 @@ mod strings; // strings.rt: strings
 mod signs; // signs.rt: signs
 
 // A place in the text, and its line.
-#[derive(Drop)]
+#[derive(Clone, Copy)]
 pub struct Spot {
     pub at: usize,
     pub line: usize,
 }
 
 // Where digits end, and their number.
-#[derive(Drop)]
+#[derive(Clone, Copy)]
 pub struct Digits {
     pub end: usize,
     pub value: u64,
 }
 
 // A string behind its opening quote: whether it is closed, where it ends and on which line, and how many bytes it stands for.
-#[derive(Drop)]
+#[derive(Clone, Copy)]
 pub struct Quoted {
     pub closed: bool,
     pub end: usize,
@@ -46,7 +48,7 @@ pub struct Quoted {
 }
 
 // A token: its kind, where it begins and on which line, where it ends, and the line there.
-#[derive(Drop)]
+#[derive(Clone, Copy)]
 pub struct Token {
     pub kind: u8,
     pub start: usize,

@@ -1,7 +1,9 @@
 // The compiler, the text tools and the why tool for programs in C and Rust: a call each, whose answer is one word.
+#![tactic(auto)]
+
 ghost use Rattle.std.specs.Prelude.{◌≡◌, ◌+◌, ◌*◌, length};
 ghost use Rattle.values.specs.Numbers.{number_of, said};
-ghost use Rattle.notation.specs.Convert.{convert, said as saidOfText};
+ghost use Rattle.notation.specs.Convert.{convert, said as said_of_text};
 ghost use Rattle.notation.specs.Printer.{print};
 ghost use Rattle.rules.specs.Types.{the_eight, lent};
 ghost use Rattle.rules.specs.Why.{why};
@@ -63,7 +65,7 @@ pub extern "C" fn rigbanut_compile_with_types(
 // ---- The text tools: what they answer is the length written, or as above number * 2^32 + place; and so are output and memory
 
 fn text_word(answer: notation::Answer) -> u64
-    ensures { result ≡ text_word (saidOfText answer) }
+    ensures { result ≡ text_word (said_of_text answer) }
 {
     match answer {
         notation::Answer::Written { length } => length as u64,

@@ -3,6 +3,8 @@
 // can tell whether it is whole; or the line of a refusal. Where the line is `place`, a space and an offset in decimal, the bytes are a text: writes "place" and the
 // place in the text of the field at that offset of its tagged form. Before each of these words may stand `types`, a space, five digits and a space: so many of the
 // bytes are then a list of types, which replaces the eight, and the others follow it.
+#![tactic(auto)]
+
 ghost use Rattle.std.specs.Prelude.{◌≡◌, true, List, ℕ, ◌+◌, ◌≤◌, length};
 ghost use Rattle.values.specs.Numbers.{number_of};
 ghost use Rattle.rules.specs.Schedule.{refusal_line};
@@ -27,14 +29,14 @@ use text_places::places::field_place;
 use values::Reason;
 
 // Which types are built in: the eight, or those of the list that the first bytes behind the first line are.
-#[derive(Drop)]
+#[derive(Clone, Copy)]
 pub enum BuiltIn {
     Eight,
     Listed { size: usize },
 }
 
 // What the first line asks for.
-#[derive(Drop)]
+#[derive(Clone, Copy)]
 pub enum Command {
     Convert,
     Print,

@@ -1,4 +1,6 @@
 // The trail and the names in the working memory, and clearing it. The layout, and the state that the bytes stand for, are in the crate `cells`.
+#![tactic(auto)]
+
 ghost use Rattle.std.specs.Prelude.{◌≡◌, true, List, ℕ, ◌≤◌, ◌<◌, eqb, length};
 ghost use Rattle.wire.specs.Runs.{zeros};
 ghost use Rattle.labels.specs.Sets.{◌∪◌};
@@ -16,7 +18,7 @@ use cells::layout::{
 use labels::Labels;
 
 // The scope in which code runs, and its base, node or top.
-#[derive(Drop)]
+#[derive(Clone, Copy)]
 pub struct Scope {
     pub number: u16,
     pub base_is_node: bool,
@@ -33,21 +35,21 @@ pub const NODE: Scope = Scope {
 };
 
 // Where a statement runs: its scope, and the path, the set of the conditions around it.
-#[derive(Drop)]
+#[derive(Clone, Copy)]
 pub struct Context {
     pub scope: Scope,
     pub path: Labels,
 }
 
 // The number of the scope above another one.
-#[derive(Drop)]
+#[derive(Clone, Copy)]
 pub enum Above {
     At(u16),
     Nothing,
 }
 
 // The number of the string "title".
-#[derive(Drop)]
+#[derive(Clone, Copy)]
 pub enum TitleName {
     At(u16),
     Nothing,

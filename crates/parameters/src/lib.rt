@@ -1,4 +1,6 @@
 // The parameters (33) of a definition: what a declaration gives them checked (11, 12, 21), and assigned in the order of the 33s.
+#![tactic(auto)]
+
 ghost use Rattle.std.specs.Prelude.{◌≡◌, ℕ, ◌+◌, ◌≤◌, ◌<◌, List, length, true};
 ghost use Rattle.wire.specs.Bytes.{two, fields_in, pick};
 ghost use Rattle.rules.specs.Run.{Given};

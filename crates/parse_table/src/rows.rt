@@ -1,7 +1,7 @@
 // What a symbol makes of a token of some kind: a row of the grammar's table.
 ghost use Rattle.std.specs.Prelude.{◌≡◌};
 ghost use Rattle.std.proofs.Math.Option.{some};
-ghost use Rattle.notation.specs.Grammar.{row, only as onlyOf};
+ghost use Rattle.notation.specs.Grammar.{row, only as only_of};
 ghost use Rattle.notation.specs.Lexing.{find};
 ghost use Rattle.parse_table.specs.Codes.{actions_in, symbols_in, constants_in, patterns_in, row_in};
 
@@ -9,7 +9,7 @@ use notation::kinds::{A_NUMBER, A_TEXT, A_WORD, DEFAULT_WORD, FALSE_WORD, TRUE_W
 
 // Whether the token is taken. If so, its actions, a byte each with the first one lowest, and the symbols that come instead, a byte each with the last
 // one lowest: they are put on the stack in this order.
-#[derive(Drop)]
+#[derive(Clone, Copy)]
 pub struct Row {
     pub taken: bool,
     pub actions: u32,
@@ -36,7 +36,7 @@ pub fn taken(actions: u32, symbols: u64) -> Row
 
 // A symbol that takes one kind.
 pub fn only(wanted: u8, kind: u8, actions: u32, symbols: u64) -> Row
-    ensures { row_in result ≡ onlyOf wanted kind (actions_in actions) (symbols_in symbols) }
+    ensures { row_in result ≡ only_of wanted kind (actions_in actions) (symbols_in symbols) }
 {
     if kind == wanted {
         taken(actions, symbols)

@@ -133,7 +133,7 @@ pub fn row(symbol: u8, kind: u8) -> Row
 }
 
 // Whether a symbol may be left out, and the actions that are done then.
-#[derive(Drop)]
+#[derive(Clone, Copy)]
 pub struct LeftOut {
     pub allowed: bool,
     pub actions: u32,

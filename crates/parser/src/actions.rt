@@ -1,6 +1,6 @@
 // The grammar's actions by their codes, each done to the tree in the making.
 ghost use Rattle.std.specs.Prelude.{◌≡◌, List, ℕ, ◌≤◌, ◌<◌};
-ghost use Rattle.notation.specs.Building.{constant as constantAction, read as readAction};
+ghost use Rattle.notation.specs.Building.{constant as constant_action, read as read_action};
 ghost use Rattle.parse_table.specs.Codes.{action_of, actions_in};
 ghost use Rattle.tree_builder.specs.Shows.{Does, IsWord, Ready};
 ghost use Rattle.parser.specs.Doing.{ConstantAt, VariableAt, WordRead, WordsRead, Able, Stands, DoesAll, DoesFor};
@@ -14,7 +14,7 @@ use parse_table::actions::{
 use tree_builder::{Building, Step};
 
 // The strings of a token by their numbers in the table, and the tag of a resource of the type that it names.
-#[derive(Drop)]
+#[derive(Clone, Copy)]
 pub struct Names {
     pub class: u16,
     pub name: u16,
@@ -29,7 +29,7 @@ const EMPTY: u32 = 0x40;
 // The token is a constant: a number, true or false, or else a string.
 fn add_constant(out: &mut [u8], s: Building, token: Token, name: u16) -> Step
     requires { (token.start ≤ 1048576) × Ready s }
-    ensures { ((frames : List ℕ) → Does (ConstantAt token name) constantAction s frames out.old result frames out.new) × (token.kind ≡ 0 → IsWord result) }
+    ensures { ((frames : List ℕ) → Does (ConstantAt token name) constant_action s frames out.old result frames out.new) × (token.kind ≡ 0 → IsWord result) }
 {
     let kind = token.kind;
     match kind {
@@ -43,7 +43,7 @@ fn add_constant(out: &mut [u8], s: Building, token: Token, name: u16) -> Step
 // The token is a variable: $x, $::x or $::a::x.
 fn add_variable(out: &mut [u8], s: Building, token: Token, names: Names) -> Step
     requires { Ready s }
-    ensures { (frames : List ℕ) → Does (VariableAt token names) readAction s frames out.old result frames out.new }
+    ensures { (frames : List ℕ) → Does (VariableAt token names) read_action s frames out.old result frames out.new }
 {
     if token.kind == A_VARIABLE {
         return tree_builder::add_variable(out, s, 0x13, names.name);

@@ -9,14 +9,14 @@ use parse_table::table::{left_out, row};
 use tree_builder::{Building, Step};
 
 // The number of symbols on the stack, and the tree in the making.
-#[derive(Drop)]
+#[derive(Clone, Copy)]
 pub struct Machine {
     pub top: usize,
     pub building: Building,
 }
 
 // What comes of a token: the new state, or that the token may not stand there.
-#[derive(Drop)]
+#[derive(Clone, Copy)]
 pub enum Taken {
     To(Machine),
     Stuck,

@@ -6,7 +6,7 @@ ghost use Rattle.parser.specs.Entering.{Enterable, EnteredOne, EnteredBoth};
 use interner::enter;
 
 // How many strings the table has, and the numbers of a token's strings in it.
-#[derive(Drop)]
+#[derive(Clone, Copy)]
 pub struct Numbered {
     pub count: usize,
     pub class: u16,

@@ -87,7 +87,7 @@ fn word_for(s: Building, kind: u8) -> Building
 }
 
 // Where a pass stands: the next byte of the text and its line, whether an operand may begin there, the machine, and the number of strings.
-#[derive(Drop)]
+#[derive(Clone, Copy)]
 pub struct Pass {
     pub at: usize,
     pub line: usize,
@@ -97,7 +97,7 @@ pub struct Pass {
 }
 
 // What comes of a token: more tokens follow, it was the end, or it may not stand there or brings one string too many.
-#[derive(Drop)]
+#[derive(Clone, Copy)]
 pub enum Read {
     On(Pass),
     Done(Pass),
@@ -178,7 +178,7 @@ pub fn begin(stack: &mut [u8], count: usize) -> Pass
 }
 
 // What comes of a text: it is read whole, or the place of the first token that may not stand there or brings the 1,025th string.
-#[derive(Drop)]
+#[derive(Clone, Copy)]
 pub enum ReadText {
     Whole {
         count: usize,

@@ -1,4 +1,6 @@
 // The patterns of a selector or of a case, tried on a value over the manifest's bytes in place. An arm (1A) and a branch (24) begin alike: a pattern, then what follows if it is chosen.
+#![tactic(auto)]
+
 ghost use Rattle.std.specs.Prelude.{◌≡◌, ◌≤◌, ◌<◌, length};
 ghost use Rattle.labels.specs.Sets.{one_label};
 ghost use Rattle.labels.specs.Words.{Joins};
@@ -13,7 +15,7 @@ ghost use Rattle.patterns.specs.Struck.{first_struck, Near};
 use values::Value;
 
 // The place of what follows from the pattern chosen.
-#[derive(Drop)]
+#[derive(Clone, Copy)]
 pub enum Choice {
     At(usize),
     Nothing,

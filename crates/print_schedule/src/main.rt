@@ -1,5 +1,7 @@
 // The schedule printer: reads a device name, a line feed and a manifest from standard input, and prints the device's schedule. Limit, output
 // and memory are those of document 01's schedule: 65,535 steps, 65,535 bytes and 65,536 bytes.
+#![tactic(auto)]
+
 ghost use Rattle.std.specs.Prelude.{◌≡◌, true, List, ℕ, ◌+◌, length};
 ghost use Rattle.values.specs.Numbers.{number_of};
 ghost use Rattle.rules.specs.Types.{the_eight};

@@ -1,4 +1,6 @@
 // Whether the notation can spell a manifest: refusal 26.
+#![tactic(auto)]
+
 ghost use Rattle.std.specs.Prelude.{◌≡◌, ◌≤◌, length};
 ghost use Rattle.rules.specs.Check.{check};
 ghost use Rattle.rules.specs.declared.Verdict.TheVariants.{Sound};

@@ -1,4 +1,6 @@
 // A manifest as text.
+#![tactic(auto)]
+
 ghost use Rattle.std.specs.Prelude.{◌≡◌, ◌≤◌, length};
 ghost use Rattle.rules.specs.Check.{check};
 ghost use Rattle.rules.specs.Read.{manifest_of};

@@ -1,4 +1,6 @@
 // Why a label is in the set of an attribute: the part of the set that holds it, and the marks that an expression reads. What an answer means is in specs/.
+#![tactic(auto)]
+
 ghost use Rattle.std.specs.Prelude.{◌≡◌, List, [], ◌∷◌, ℕ, suc, ◌+◌, ◌≤◌, ◌<◌, length};
 ghost use Rattle.labels.specs.declared.Labels.{Labels};
 ghost use Rattle.labels.specs.Sets.{no_labels};
@@ -31,7 +33,7 @@ pub const NO_PART: u8 = 6;
 pub const NO_ATTRIBUTE: u8 = 0;
 
 // What is noted when a resource is added: the part of the attribute asked about, or what was noted before.
-#[derive(Drop)]
+#[derive(Clone, Copy)]
 pub enum Note {
     Part(u8),
     Kept,

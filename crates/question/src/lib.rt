@@ -1,4 +1,6 @@
 // What the why program reads and writes: a question of five lines, with the manifest behind it or a list of types and the manifest, and a line that answers it.
+#![tactic(auto)]
+
 ghost use Rattle.std.specs.Prelude.{◌≡◌, ◌≤◌, length};
 ghost use Rattle.values.specs.Decimal.{decimal};
 ghost use Rattle.question.specs.Lines.{line_after, lines_of, line_between};
@@ -11,7 +13,7 @@ use values::Explanation;
 use values::decimal::put_unsigned;
 
 // Where the lines of a question end: at their line feeds. The first begins at 0, each other one behind the line feed before it, and the manifest behind the last.
-#[derive(Drop)]
+#[derive(Clone, Copy)]
 pub struct Lines {
     pub device: usize,
     pub kind: usize,
@@ -21,7 +23,7 @@ pub struct Lines {
 }
 
 // What an input asks: its lines, and the label that the last one spells; with types, how many bytes their list has, which follows that line; or that it is no question.
-#[derive(Drop)]
+#[derive(Clone, Copy)]
 pub enum Asked {
     Question { lines: Lines, label: u8 },
     WithTypes { lines: Lines, label: u8, size: u16 },

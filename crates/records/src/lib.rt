@@ -1,5 +1,7 @@
 // A labelled value in 48 bytes, as the cells and the table of given values keep it: payload 8 bytes, source 2, key 2, kind 1, spare 3, set 32.
 // A store writes all of them: source, key and spare as zeros, which nothing reads yet.
+#![tactic(auto)]
+
 ghost use Rattle.std.specs.Prelude.{◌≡◌, ◌+◌, ◌≤◌, length};
 ghost use Rattle.wire.specs.Numbers.{high_bytes};
 ghost use Rattle.wire.specs.Runs.{over};
@@ -20,7 +22,7 @@ const KIND: usize = 12;
 const SET: usize = 16;
 
 // What a record holds.
-#[derive(Drop)]
+#[derive(Clone, Copy)]
 pub enum Held {
     Empty,
     Holds(Labelled),

@@ -1,4 +1,6 @@
 // A resource of a built-in type, after its step: its parts evaluated over the manifest's bytes in place, and its entry written to the output.
+#![tactic(auto)]
+
 ghost use Rattle.std.specs.Prelude.{◌≡◌, true, List, ℕ, suc, ◌+◌, ◌-◌, ◌≤◌, ◌<◌, length, drop};
 ghost use Rattle.rules.specs.State.{Attribute, Entry};
 ghost use Rattle.rules.specs.Ranges.{Each, FitsAttribute};
@@ -16,7 +18,7 @@ use memory::{Context, Scope};
 use values::{Labelled, Reason, Refusal, Value, place};
 
 // The new fill point, or the size of the entry so far; or why not.
-#[derive(Drop)]
+#[derive(Clone, Copy)]
 pub enum Filled {
     Done(usize),
     Refused(Refusal),

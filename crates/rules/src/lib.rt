@@ -1,8 +1,10 @@
 // The types of document 01's list of fields. What they mean, and the rules themselves, stand in specs/; nothing runs here.
+#![tactic(auto)]
+
 use values::Reason;
 
 // What may stand at a position of a manifest.
-#[derive(Drop)]
+#[derive(Clone, Copy)]
 pub enum Kind {
     Table,
     Text,
@@ -22,7 +24,7 @@ pub enum Kind {
 
 // A part of a body: one field of a kind, at most so many, any number of them, or the names of a node (one 1B, or 31s).
 // `Over` is a part that is done.
-#[derive(Drop)]
+#[derive(Clone, Copy)]
 pub enum Part {
     Over,
     One(Kind),
@@ -32,7 +34,7 @@ pub enum Part {
 }
 
 // The parts that may still come, in order.
-#[derive(Drop)]
+#[derive(Clone, Copy)]
 pub struct Parts {
     pub first: Part,
     pub second: Part,
@@ -40,7 +42,7 @@ pub struct Parts {
 }
 
 // What a body begins with.
-#[derive(Drop)]
+#[derive(Clone, Copy)]
 pub enum Piece {
     Nothing,
     Label,
@@ -51,7 +53,7 @@ pub enum Piece {
 }
 
 // What follows the pieces: nothing, any bytes up to 255 in all, or fields.
-#[derive(Drop)]
+#[derive(Clone, Copy)]
 pub enum Rest {
     Only,
     Text,
@@ -59,7 +61,7 @@ pub enum Rest {
 }
 
 // A line of the list of fields: at most two pieces, and what follows them.
-#[derive(Drop)]
+#[derive(Clone, Copy)]
 pub struct Form {
     pub one: Piece,
     pub two: Piece,
@@ -67,7 +69,7 @@ pub struct Form {
 }
 
 // What a part makes of the next field.
-#[derive(Drop)]
+#[derive(Clone, Copy)]
 pub enum Took {
     Takes(Part),
     Passes,
@@ -75,14 +77,14 @@ pub enum Took {
 }
 
 // What may come after a field, if it may stand here.
-#[derive(Drop)]
+#[derive(Clone, Copy)]
 pub enum Next {
     Go(Parts),
     Wrong,
 }
 
 // What the check before running finds: no fault, or the first one with its place.
-#[derive(Drop)]
+#[derive(Clone, Copy)]
 pub enum Verdict {
     Sound,
     Fault { reason: Reason, place: usize },

@@ -1,5 +1,7 @@
 // Compiles, converts, prints or asks about the cases on standard input, a case to a line, and writes an answer line for each. The formats are those of
 // `reference batch`, `reference text-batch`, `reference why-batch` and `reference types-batch` (docs/CASES.md).
+#![tactic(auto)]
+
 ghost use Rattle.std.specs.Prelude.{◌≤◌, length};
 
 // Places in a text, and numbers and bytes as text.

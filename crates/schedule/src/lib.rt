@@ -1,4 +1,6 @@
 // The lines of a schedule, one at a time into a lent buffer: the line, then zeros; or zeros alone, and an answer that says why.
+#![tactic(auto)]
+
 ghost use Rattle.std.specs.Prelude.{◌≡◌, [], ◌≤◌, length};
 ghost use Rattle.catalog.specs.Making.{stored};
 ghost use Rattle.rules.specs.Schedule.{line_start, attribute_line, entry_lines_by, steps_line, refusal_line};
@@ -18,7 +20,7 @@ pub mod pieces; // pieces.rt: a line made of pieces
 mod subjects; // subjects.rt: what stands at a position
 
 // A line of a catalog: the place of its entry, and the place in it where the next attribute begins.
-#[derive(Drop)]
+#[derive(Clone, Copy)]
 pub struct Position {
     pub entry: usize,
     pub attribute: usize,
@@ -33,14 +35,14 @@ impl Position {
 }
 
 // What writing a line answers: how long it is, or that it does not fit.
-#[derive(Drop)]
+#[derive(Clone, Copy)]
 pub enum Written {
     Length(usize),
     TooLong,
 }
 
 // What a line tells of, with the position of the next line.
-#[derive(Drop)]
+#[derive(Clone, Copy)]
 enum Subject {
     AnAttribute(Position),
     NoAttributes(Position),
@@ -50,7 +52,7 @@ enum Subject {
 
 // What asking for a line answers: its length and where the next one is; that there are no more; that the buffer is too short for it; or that
 // what stands at the position is no entry or attribute of a catalog.
-#[derive(Drop)]
+#[derive(Clone, Copy)]
 pub enum Line {
     Text { length: usize, next: Position },
     End,

@@ -1,4 +1,6 @@
 // A program's standard input, read as a line and what follows it or as a whole, and its standard output, with a count of what was written.
+#![tactic(auto)]
+
 ghost use Rattle.std.specs.Prelude.{◌≡◌, true, List, ℕ, ◌+◌, ◌<◌, length, take};
 ghost use Rattle.input.specs.Reading.{reading, reading_of};
 ghost use Rattle.standard_streams.specs.Reading.{Holds};
@@ -10,7 +12,7 @@ use libc::{STDERR_FILENO, STDIN_FILENO, STDOUT_FILENO};
 const MOST_PIECES: u64 = 4294967296;
 
 // What reading came to: there may be more, or all that matters is read.
-#[derive(Drop)]
+#[derive(Clone, Copy)]
 pub enum Taken {
     More(Progress),
     All(Progress),
@@ -77,7 +79,7 @@ pub fn read_all(line: &mut [u8], rest: &mut [u8]) -> Taken
 }
 
 // How reading an input as a whole ended: with so many bytes, with as many as the buffer holds or more, or not at all.
-#[derive(Drop)]
+#[derive(Clone, Copy)]
 pub enum Whole {
     Bytes(usize),
     TooLong,

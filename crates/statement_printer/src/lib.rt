@@ -1,4 +1,6 @@
 // Expressions and statements of a manifest as text.
+#![tactic(auto)]
+
 pub mod tokens; // tokens.rt: one token, unless the text is too long already
 pub mod constants; // constants.rt: constants, patterns, and the line on which a form begins
 pub mod signs; // signs.rt: operators, brackets, commas and variables

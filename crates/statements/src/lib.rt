@@ -1,4 +1,6 @@
 // What statements without declarations do after their step and before any block runs, over the manifest's bytes in place. What an answer means is in specs/.
+#![tactic(auto)]
+
 ghost use Rattle.std.specs.Prelude.{◌≡◌, ◌+◌, ◌-◌, ◌≤◌, ◌<◌, length};
 ghost use Rattle.labels.specs.Sets.{◌∪◌};
 ghost use Rattle.labels.specs.Words.{labels_in};
@@ -23,20 +25,20 @@ use memory::Context;
 use patterns::Choice;
 use values::{Labelled, Reason, Refusal, Value};
 
-#[derive(Drop)]
+#[derive(Clone, Copy)]
 pub enum Ran {
     Done,
     Refused(Refusal),
 }
 
-#[derive(Drop)]
+#[derive(Clone, Copy)]
 pub enum Tested {
     Branch { yes: bool, set: Labels },
     Refused(Refusal),
 }
 
 // The place of the block that runs, or none, and the condition's set.
-#[derive(Drop)]
+#[derive(Clone, Copy)]
 pub enum TestedCase {
     Branch { block: usize, set: Labels },
     Nothing { set: Labels },

@@ -1,12 +1,14 @@
 // Summaries of conditions. The walk over the text of a condition notes in the working memory what the long conditions nested in it assign and declare, and
 // the tests of those take it from there, so that a text is not walked again for each condition around it.
+#![tactic(auto)]
+
 ghost use Rattle.std.specs.Prelude.{◌≡◌, true, false, ◌+◌, ◌≤◌, ◌<◌, length};
 ghost use Rattle.wire.specs.Bytes.{end_of, fields_in};
 ghost use Rattle.wire.specs.Runs.{over};
 ghost use Rattle.rules.specs.declared.Kind.TheVariants.{Statement, Block, Branch};
 ghost use Rattle.places.specs.At.{statement_at, block_at, statements_at, branches_at, StandsAs, Siblings};
 ghost use Rattle.cells.specs.Layout.{summary_at};
-ghost use Rattle.branches.specs.Texts.{both, text_of, text_in as textInside, text_any, Small, Collects};
+ghost use Rattle.branches.specs.Texts.{both, text_of, text_in as text_inside, text_any, Small, Collects};
 ghost use Rattle.summaries.specs.Lines.{number_bytes, text_with, line_of, text_in, line_bytes};
 ghost use Rattle.summaries.specs.Summaries.{IsFor, Summarized, Notes, Walking, Summarizes};
 
@@ -204,8 +206,8 @@ fn walk_statements(
     work: &mut [u8],
     names: &mut [u64; 16],
 ) -> bool
-    requires { Walking m.now work.old names.old × (Siblings m.now depth Statement from end × Small (textInside (statements_at m.now depth (fields_in m.now from end)))) }
-    ensures { Summarizes m.now work.old work.new names.old names.new result (textInside (statements_at m.now depth (fields_in m.now from end))) }
+    requires { Walking m.now work.old names.old × (Siblings m.now depth Statement from end × Small (text_inside (statements_at m.now depth (fields_in m.now from end)))) }
+    ensures { Summarizes m.now work.old work.new names.old names.new result (text_inside (statements_at m.now depth (fields_in m.now from end))) }
 {
     let mut declares = false;
     let mut q = from;
@@ -233,8 +235,8 @@ fn walk_in(
     work: &mut [u8],
     names: &mut [u64; 16],
 ) -> bool
-    requires { Walking m.now work.old names.old × ((StandsAs m.now depth Block p × Small (textInside (block_at m.now depth p))) × (end ≡ end_of m.now p)) }
-    ensures { Summarizes m.now work.old work.new names.old names.new result (textInside (block_at m.now depth p)) }
+    requires { Walking m.now work.old names.old × ((StandsAs m.now depth Block p × Small (text_inside (block_at m.now depth p))) × (end ≡ end_of m.now p)) }
+    ensures { Summarizes m.now work.old work.new names.old names.new result (text_inside (block_at m.now depth p)) }
 {
     if end <= p + 3 {
         return false;
@@ -252,8 +254,8 @@ fn walk_both(
     work: &mut [u8],
     names: &mut [u64; 16],
 ) -> bool
-    requires { Walking m.now work.old names.old × ((StandsAs m.now depth Block p × StandsAs m.now depth Block (end_of m.now p)) × Small (both (textInside (block_at m.now depth p)) (textInside (block_at m.now depth (end_of m.now p))))) }
-    ensures { Summarizes m.now work.old work.new names.old names.new result (both (textInside (block_at m.now depth p)) (textInside (block_at m.now depth (end_of m.now p)))) }
+    requires { Walking m.now work.old names.old × ((StandsAs m.now depth Block p × StandsAs m.now depth Block (end_of m.now p)) × Small (both (text_inside (block_at m.now depth p)) (text_inside (block_at m.now depth (end_of m.now p))))) }
+    ensures { Summarizes m.now work.old work.new names.old names.new result (both (text_inside (block_at m.now depth p)) (text_inside (block_at m.now depth (end_of m.now p)))) }
 {
     let second = end_in(m, p);
     let declares = walk_in(m, root, depth, p, second, work, names);

@@ -1,6 +1,8 @@
 // The check before running, and the strings of a manifest.
+#![tactic(auto)]
+
 ghost use Rattle.std.specs.Prelude.{◌≡◌};
-ghost use Rattle.rules.specs.Check.{check as checkOf};
+ghost use Rattle.rules.specs.Check.{check as check_of};
 ghost use Rattle.syntax.specs.Before.{before};
 ghost use Rattle.values.specs.declared.Reason.TheVariants.{ManifestLength};
 ghost use Rattle.rules.specs.declared.Verdict.TheVariants.{Fault};
@@ -19,7 +21,7 @@ pub mod strings; // strings.rt: strings by number and by text
 pub mod nodes; // nodes.rt: the node that runs for a device
 
 // A string's number or a field's place, if there is one.
-#[derive(Drop)]
+#[derive(Clone, Copy)]
 pub enum Found {
     At(u16),
     Nothing,
@@ -36,7 +38,7 @@ fn wrong_length() -> Verdict
 
 // Refusals 3 and 4, then 5.
 pub fn check(m: &[u8]) -> Verdict
-    ensures { result ≡ checkOf m.now }
+    ensures { result ≡ check_of m.now }
 {
     let shape = check_shape(m);
     match shape {

@@ -1,4 +1,6 @@
 // How a call of a text tool ends: its answer, and what becomes of every byte lent to it.
+#![tactic(auto)]
+
 ghost use Rattle.std.specs.Prelude.{◌≤◌, length, take};
 ghost use Rattle.rules.specs.Outcome.{refused, done};
 ghost use Rattle.text_answers.specs.Leaving.{Leaves, Clears};

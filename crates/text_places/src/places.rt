@@ -16,7 +16,7 @@ use parser::text::{Read, begin, read_token};
 use rules::Verdict;
 
 // What comes of a text: how many strings and how many entries of the log it has, or that it is refused.
-#[derive(Drop)]
+#[derive(Clone, Copy)]
 pub enum NotedText {
     Whole { count: usize, entries: usize },
     Refused,

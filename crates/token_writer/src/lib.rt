@@ -1,4 +1,6 @@
 // Tokens as text, one after the other into a lent output: white space as the lines and the brackets ask for it, then the token.
+#![tactic(auto)]
+
 ghost use Rattle.std.specs.Prelude.{◌≡◌, [], ◌≤◌, length};
 ghost use Rattle.notation.specs.Tokens.{word, number, text, variable, top_variable, class_variable, mark};
 ghost use Rattle.token_writer.specs.Writing.{Wrote};
@@ -28,7 +30,7 @@ const NONE: u8 = 255;
 
 // Where the text stands: how long it is so far, the kind of its last token (255 where there is none), the brackets that are open, and the
 // line of the last token.
-#[derive(Drop)]
+#[derive(Clone, Copy)]
 pub struct Pen {
     pub fill: usize,
     pub before: u8,

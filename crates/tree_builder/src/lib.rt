@@ -1,16 +1,18 @@
 // The tree of a text, built as a manifest's bytes in a lent output: a function for each action of the grammar. A byte past the output's end is
 // not written, and nothing else changes: with no output at all the same calls find a text's faults and its manifest's size.
+#![tactic(auto)]
+
 ghost use Rattle.std.specs.Prelude.{◌≡◌, List, [], ◌∷◌, ◌++◌, true, ℕ, ◌+◌, ◌-◌, ◌*◌, ◌%◌, ◌≤◌, ◌<◌, max, length};
 ghost use Rattle.wire.specs.Numbers.{high_bytes};
 ghost use Rattle.wire.specs.Runs.{bytes_at, over};
-ghost use Rattle.notation.specs.Building.{start, begin as beginAction, close as closeAction, constant as constantAction, named as namedAction, parent_first as parentAction, around as aroundAction, instead as insteadAction, byte, read as readAction, enter as enterAction, leave as leaveAction, void as voidAction};
+ghost use Rattle.notation.specs.Building.{start, begin as begin_action, close as close_action, constant as constant_action, named as named_action, parent_first as parent_action, around as around_action, instead as instead_action, byte, read as read_action, enter as enter_action, leave as leave_action, void as void_action};
 ghost use Rattle.tree_builder.specs.declared.Step.TheVariants.{Did};
 ghost use Rattle.tree_builder.specs.State.{slot_number, opened_at, with_part, raised, closed_into, late_with};
 ghost use Rattle.tree_builder.specs.Shows.{Shows, Does, AnyToken, AnInteger, AString, ABoolean, IsWord, AName, AVariable, AClassVariable, Ready};
 
 // The field being read, what is open around it, and how far the output is filled.
 // The fields of eight bytes come first, so that no gap lies between fields: with gaps each copy takes longer, as measured.
-#[derive(Drop)]
+#[derive(Clone, Copy)]
 pub struct Building {
     pub brackets: usize, // round brackets that are open
     pub depth: usize, // fields around
@@ -27,7 +29,7 @@ pub struct Building {
 }
 
 // What an action answers: the new state, or that it passes a limit.
-#[derive(Drop)]
+#[derive(Clone, Copy)]
 pub enum Step {
     Did(Building),
     No,
@@ -56,7 +58,7 @@ pub fn nothing() -> Building
 // ---- Round brackets
 
 pub fn enter(s: Building) -> Step
-    ensures { (frames out : List ℕ) → Does AnyToken enterAction s frames out result frames out }
+    ensures { (frames out : List ℕ) → Does AnyToken enter_action s frames out result frames out }
 {
     if 32 <= s.brackets {
         return Step::No;
@@ -67,7 +69,7 @@ pub fn enter(s: Building) -> Step
 }
 
 pub fn leave(s: Building) -> Step
-    ensures { (frames out : List ℕ) → Does AnyToken leaveAction s frames out result frames out }
+    ensures { (frames out : List ℕ) → Does AnyToken leave_action s frames out result frames out }
 {
     if s.brackets == 0 {
         return Step::No;
@@ -117,7 +119,7 @@ fn save(frames: &mut [u8], s: Building)
 
 pub fn begin(out: &mut [u8], frames: &mut [u8], s: Building, tag: u8) -> Step
     requires { (256 ≤ length frames.old) × Ready s }
-    ensures { Does AnyToken (beginAction tag) s frames.old out.old result frames.new out.new }
+    ensures { Does AnyToken (begin_action tag) s frames.old out.old result frames.new out.new }
 {
     if 32 <= s.depth {
         return Step::No;
@@ -153,7 +155,7 @@ fn closed(s: Building, slot: u64) -> Building
 // The field's length is known now. One that does not fit two bytes is of a tree that does not fit the output.
 pub fn close(out: &mut [u8], frames: &[u8], s: Building) -> Step
     requires { (256 ≤ length frames.now) × Ready s }
-    ensures { Does AnyToken closeAction s frames.now out.old result frames.now out.new }
+    ensures { Does AnyToken close_action s frames.now out.old result frames.now out.new }
 {
     if s.depth == 0 {
         return Step::No;
@@ -212,7 +214,7 @@ fn put_label(out: &mut [u8], at: usize, tag: u8, size: u16, line: usize)
 
 pub fn add_void(out: &mut [u8], s: Building, tag: u8) -> Step
     requires { Ready s }
-    ensures { (frames : List ℕ) → Does AnyToken (voidAction tag) s frames out.old result frames out.new }
+    ensures { (frames : List ℕ) → Does AnyToken (void_action tag) s frames out.old result frames out.new }
 {
     if 32 <= s.depth {
         return Step::No;
@@ -224,7 +226,7 @@ pub fn add_void(out: &mut [u8], s: Building, tag: u8) -> Step
 // A variable (13) or a top variable (14).
 pub fn add_variable(out: &mut [u8], s: Building, tag: u8, name: u16) -> Step
     requires { Ready s }
-    ensures { (frames : List ℕ) → Does (AVariable tag name) readAction s frames out.old result frames out.new }
+    ensures { (frames : List ℕ) → Does (AVariable tag name) read_action s frames out.old result frames out.new }
 {
     if 32 <= s.depth {
         return Step::No;
@@ -236,7 +238,7 @@ pub fn add_variable(out: &mut [u8], s: Building, tag: u8, name: u16) -> Step
 
 pub fn add_class_variable(out: &mut [u8], s: Building, class: u16, name: u16) -> Step
     requires { Ready s }
-    ensures { (frames : List ℕ) → Does (AClassVariable class name) readAction s frames out.old result frames out.new }
+    ensures { (frames : List ℕ) → Does (AClassVariable class name) read_action s frames out.old result frames out.new }
 {
     if 32 <= s.depth {
         return Step::No;
@@ -249,7 +251,7 @@ pub fn add_class_variable(out: &mut [u8], s: Building, class: u16, name: u16) ->
 
 pub fn add_integer(out: &mut [u8], s: Building, line: usize, place: usize, value: i64) -> Step
     requires { (place ≤ 1048576) × Ready s }
-    ensures { (frames : List ℕ) → Does (AnInteger line place value) constantAction s frames out.old result frames out.new }
+    ensures { (frames : List ℕ) → Does (AnInteger line place value) constant_action s frames out.old result frames out.new }
 {
     if 32 <= s.depth {
         return Step::No;
@@ -262,7 +264,7 @@ pub fn add_integer(out: &mut [u8], s: Building, line: usize, place: usize, value
 
 pub fn add_boolean(out: &mut [u8], s: Building, line: usize, place: usize, value: u8) -> Step
     requires { (place ≤ 1048576) × Ready s }
-    ensures { (frames : List ℕ) → Does (ABoolean line place value) constantAction s frames out.old result frames out.new }
+    ensures { (frames : List ℕ) → Does (ABoolean line place value) constant_action s frames out.old result frames out.new }
 {
     if 32 <= s.depth {
         return Step::No;
@@ -276,7 +278,7 @@ pub fn add_boolean(out: &mut [u8], s: Building, line: usize, place: usize, value
 // A string constant. It is remembered as the last part: it may turn out to be the name of a field.
 pub fn add_string(out: &mut [u8], s: Building, line: usize, place: usize, name: u16) -> Step
     requires { (place ≤ 1048576) × Ready s }
-    ensures { ((frames : List ℕ) → Does (AString line place name) constantAction s frames out.old result frames out.new) × IsWord result }
+    ensures { ((frames : List ℕ) → Does (AString line place name) constant_action s frames out.old result frames out.new) × IsWord result }
 {
     if 32 <= s.depth {
         return Step::No;
@@ -330,7 +332,7 @@ fn raised_by(s: Building, head: usize, size: usize) -> Building
 // A name of the field being read: it comes before the parts.
 pub fn add_name(out: &mut [u8], s: Building, name: u16) -> Building
     requires { Ready s }
-    ensures { (frames : List ℕ) → Does (AName name) namedAction s frames out.old (Did result) frames out.new }
+    ensures { (frames : List ℕ) → Does (AName name) named_action s frames out.old (Did result) frames out.new }
 {
     move_up(out, s.body, s.fill, 2);
     wire::put_two(out, s.body, name);
@@ -340,7 +342,7 @@ pub fn add_name(out: &mut [u8], s: Building, name: u16) -> Building
 // A parent (35) comes before the other parts.
 pub fn parent_first(out: &mut [u8], s: Building, name: u16) -> Step
     requires { Ready s }
-    ensures { (frames : List ℕ) → Does (AName name) parentAction s frames out.old result frames out.new }
+    ensures { (frames : List ℕ) → Does (AName name) parent_action s frames out.old result frames out.new }
 {
     if 32 <= s.depth {
         return Step::No;
@@ -375,7 +377,7 @@ fn lifted(s: Building, by: usize) -> Building
 // A field begins around the last part, which is its first one.
 pub fn around(out: &mut [u8], frames: &mut [u8], s: Building, tag: u8) -> Step
     requires { (256 ≤ length frames.old) × Ready s }
-    ensures { Does AnyToken (aroundAction tag []) s frames.old out.old result frames.new out.new }
+    ensures { Does AnyToken (around_action tag []) s frames.old out.old result frames.new out.new }
 {
     if s.tallest == 0 {
         return Step::No;
@@ -396,7 +398,7 @@ pub fn around_operator(
     operator: u8,
 ) -> Step
     requires { (256 ≤ length frames.old) × Ready s }
-    ensures { Does AnyToken (aroundAction tag (byte operator ∷ [])) s frames.old out.old result frames.new out.new }
+    ensures { Does AnyToken (around_action tag (byte operator ∷ [])) s frames.old out.old result frames.new out.new }
 {
     if s.tallest == 0 {
         return Step::No;
@@ -412,7 +414,7 @@ pub fn around_operator(
 // The string constant just read is none: a field begins that has its name. It takes a byte less.
 pub fn instead(out: &mut [u8], frames: &mut [u8], s: Building, tag: u8) -> Building
     requires { (s.word ≡ true) × (256 ≤ length frames.old) × Ready s }
-    ensures { Does AnyToken (insteadAction tag) s frames.old out.old (Did result) frames.new out.new }
+    ensures { Does AnyToken (instead_action tag) s frames.old out.old (Did result) frames.new out.new }
 {
     save(frames, s);
     let at = s.last;

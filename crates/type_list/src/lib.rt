@@ -1,5 +1,7 @@
 // The list of types that a caller may lend: its check, and whether it holds a type. A call that is lent none hands on an empty list, which no list that is lent
 // may be: then the eight types of document 01 are meant.
+#![tactic(auto)]
+
 ghost use Rattle.std.specs.Prelude.{◌≡◌, ◌<◌, ◌≤◌, length};
 ghost use Rattle.values.specs.declared.Reason.TheVariants.{TypeList};
 ghost use Rattle.rules.specs.Types.{lower_case, field_right, check_list, check_types};

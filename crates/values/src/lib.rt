@@ -1,4 +1,6 @@
 // What a manifest's expressions yield, why a compile refuses, and what it answers.
+#![tactic(auto)]
+
 ghost use Rattle.std.specs.Prelude.{◌≡◌, ◌≤◌};
 ghost use Rattle.values.specs.Integers.{same_value};
 ghost use Rattle.values.specs.Labelled.{under};
@@ -13,7 +15,7 @@ pub mod decimal;
 pub mod integers;
 
 // A value of document 01: an integer, a string (its number in the table), or a boolean.
-#[derive(Drop)]
+#[derive(Clone, Copy)]
 pub enum Value {
     Integer(i64),
     String(u16),
@@ -21,7 +23,7 @@ pub enum Value {
 }
 
 // A value with the set of the labels that decide it.
-#[derive(Drop)]
+#[derive(Clone, Copy)]
 pub struct Labelled {
     pub value: Value,
     pub labels: Labels,
@@ -42,7 +44,7 @@ impl Labelled {
 }
 
 // The papers' reasons for refusing: document 01's, 1 to 23, in its order, then those of the text tools, of the why tool and of a list of types.
-#[derive(Drop)]
+#[derive(Clone, Copy)]
 pub enum Reason {
     MemoryTooShort,
     ManifestLength,
@@ -75,21 +77,21 @@ pub enum Reason {
 }
 
 // Why a compile refuses, and the place of the field concerned.
-#[derive(Drop)]
+#[derive(Clone, Copy)]
 pub struct Refusal {
     pub reason: Reason,
     pub place: u16,
 }
 
 // What a compile answers: the catalog's length and the steps taken, or the reason for refusing and its place.
-#[derive(Drop)]
+#[derive(Clone, Copy)]
 pub enum Answer {
     Catalog { length: u16, steps: u16 },
     Refused { reason: Reason, place: u16 },
 }
 
 // The parts of an attribute's set, in the order in which a label is looked for in them.
-#[derive(Drop)]
+#[derive(Clone, Copy)]
 pub enum SetPart {
     Title,
     Path,
@@ -99,7 +101,7 @@ pub enum SetPart {
 }
 
 // Why a label counts for an attribute: the first part of its set that holds the label and the place of a constant with it, or that the set lacks it; or the reason for refusing and its place.
-#[derive(Drop)]
+#[derive(Clone, Copy)]
 pub enum Explanation {
     Among { part: SetPart, place: u16 },
     NotAmong,
@@ -107,7 +109,7 @@ pub enum Explanation {
 }
 
 // What an operation on integers answers.
-#[derive(Drop)]
+#[derive(Clone, Copy)]
 pub enum Computed {
     Integer(i64),
     Overflow,

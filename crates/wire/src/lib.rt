@@ -1,4 +1,6 @@
 // Bytes, big-endian numbers and fields in lent slices. Reads and stores are total: past the end a byte reads as 0, and nothing is stored there.
+#![tactic(auto)]
+
 ghost use Rattle.std.specs.Prelude.{◌≡◌, ◌∷◌, ◌+◌, ◌-◌, ◌≤◌, ◌<◌, length, drop};
 ghost use Rattle.wire.specs.Bytes.{byte, two, end_of};
 ghost use Rattle.wire.specs.Numbers.{number, signed64, high_bytes, word64};
