@@ -1,0 +1,58 @@
+-- `evaluate_attributes`: at the loop's head the attributes up to q are evaluated into the table, which is as long as it was, and has rows for the others.
+use mathlib.Core.Path.{refl}
+use Rattle.evaluator.proofs.Fresh.{fresh_refusal, fresh_value}
+use Rattle.labels.specs.Sets.{no_labels}
+use native.Mathlib.Omega.{arith}
+use Rattle.attributes.proofs.Table.{each_after, row_here}
+use Rattle.attributes.proofs.Evaluating.{evaluating_begins, deep, expression_sized, evaluating_stops, evaluating_on, evaluating_ends}
+use Rattle.attributes.proofs.evaluate_attributes.Goals as goal
+
+pub loop-q-init : goal.loop-q-init
+loop-q-init c = (evaluating_begins c.requires.0.1 c.requires.1.blank, (c.requires.1.rows, refl))
+
+pub overflow_sub-depth : goal.overflow_sub-depth
+overflow_sub-depth c = omega (arith, deep c.loop-q.invariant.0 c.loop-q-test.true)
+
+pub overflow_add-q : goal.overflow_add-q
+overflow_add-q c = omega (arith, c.loop-q-test.true, c.requires.0.0.place)
+
+pub evaluate-e-requires : goal.evaluate-e-requires
+evaluate-e-requires c = (expression_sized c.loop-q.invariant.0 c.loop-q-test.true c.requires.0.0, refl)
+
+pub enum_known-refusal : goal.enum_known-refusal
+enum_known-refusal c = c.in-Refused.keys1
+
+pub shape_of-table-in-Refused : goal.shape_of-table-in-Refused
+shape_of-table-in-Refused c = c.loop-q.invariant.1.1
+
+pub returns-in-Refused : goal.returns-in-Refused
+unfolding no_labels
+returns-in-Refused c = evaluating_stops c.loop-q.invariant.0 c.loop-q-test.true (λ s. fresh_refusal refl (c.evaluate-e.ensures.1 s) c.value_of.ensures c.refusal-1.given.1) refl
+
+pub enum_known-value : goal.enum_known-value
+enum_known-value c = c.in-Value.keys2
+
+pub overflow_add-q-in-Value : goal.overflow_add-q-in-Value
+overflow_add-q-in-Value c = omega (arith, c.loop-q-test.true, c.requires.0.0.place)
+
+pub add_given-requires : goal.add_given-requires
+add_given-requires c = let inv = c.loop-q.invariant.1 in row_here _ c.loop-q-test.true inv.0 c.two_at.ensures inv.1
+
+pub end_of-q-requires : goal.end_of-q-requires
+end_of-q-requires c = omega (arith, c.loop-q-test.true, c.requires.0.0.place)
+
+pub loop-q-smaller : goal.loop-q-smaller
+loop-q-smaller c = omega (arith, c.loop-q-test.true, c.end_of-q.ensures)
+
+pub loop-q-preserved : goal.loop-q-preserved
+unfolding no_labels
+loop-q-preserved c =
+    let inv = c.loop-q.invariant in
+    let more = c.loop-q-test.true in
+    (evaluating_on inv.0 more (λ s. fresh_value refl (c.evaluate-e.ensures.1 s) c.value_of.ensures c.value-1.given.1 c.in_words-labels.ensures) _ refl c.two_at.ensures c.add_given.ensures c.end_of-q.ensures, (rw c.end_of-q.ensures (each_after _ more inv.1.0), omega (arith, inv.1.1)))
+
+pub shape_of-table : goal.shape_of-table
+shape_of-table c = c.loop-q.invariant.1.1
+
+pub returns : goal.returns
+returns-in-Refused c = evaluating_ends c.loop-q.invariant.0 c.loop-q-test.false

@@ -1,0 +1,21 @@
+-- `find_named`: at the loop's head the first among those that are left is the first of all.
+use mathlib.Core.Path.{sym, ◌∙◌}
+use native.Mathlib.Omega.{arith}
+use borrow.Author.Tests.{eq-eqb, ne_eqb}
+use Rattle.catalog.specs.Finding.{Below}
+use Rattle.attributes.proofs.Repeats.{named_found, named_further, named_nowhere}
+use Rattle.attributes.proofs.find_named.Goals as goal
+
+pub returns-then-two_at-name : goal.returns-then-two_at-name
+unfolding Below
+returns-then-two_at-name c = (named_found _ _ _ _ _ c.loop-q.invariant c.loop-q-test.true (eq-eqb _ _ (sym c.two_at.ensures ∙ c.if-two_at-name.true)), c.loop-q-test.true)
+
+pub loop-q-smaller : goal.loop-q-smaller
+loop-q-smaller c = omega (arith, c.end_of-q.ensures)
+
+pub loop-q-preserved : goal.loop-q-preserved
+loop-q-preserved c = named_further _ _ _ _ _ c.loop-q.invariant c.loop-q-test.true (ne_eqb _ _ (λ e. c.if-two_at-name.false (c.two_at.ensures ∙ e))) c.end_of-q.ensures
+
+pub returns : goal.returns
+unfolding Below
+returns-then-two_at-name c = (named_nowhere _ _ _ _ _ c.loop-q.invariant c.loop-q-test.false, tt)

@@ -1,0 +1,16 @@
+-- `in_scope`: the low byte of the key's scope, the state, and the scope.
+use Prim.Native.Nat.{◌+◌}
+use native.Mathlib.Omega.{arith}
+use Rattle.cells.specs.Layout.{key_at}
+use Rattle.cells.proofs.SlotReads.{low_not_of_scope, not_used, used_for}
+use Rattle.cells.proofs.in_scope.Goals as goal
+
+pub returns-then-work-low : goal.returns-then-work-low
+returns-then-work-low c =
+    low_not_of_scope _ _ c.requires.0 _ c.if-work-low.true (omega (arith, c.shared_slice_known-2-1.given (key_at c.args.i + 1)))
+
+pub returns-then-work-i-ne-USED : goal.returns-then-work-i-ne-USED
+returns-then-work-i-ne-USED c = not_used _ _ c.requires.0 _ c.if-work-i-ne-USED.true
+
+pub returns : goal.returns
+returns-then-work-low c = used_for _ _ c.requires.0 _ c.if-work-i-ne-USED.false c.two_in.ensures

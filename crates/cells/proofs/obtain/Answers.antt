@@ -1,0 +1,12 @@
+-- `obtain`: the key was there, or a slot was claimed or refused.
+use mathlib.Core.Path.{refl, sym, ◌∙◌}
+use Rattle.cells.specs.Slots.{holds, lacks}
+use Rattle.cells.proofs.obtain.Goals as goal
+
+pub returns-in-At : goal.returns-in-At
+returns-in-At c = (holds (sym c.find.ensures ∙ c.i-1.given.1), refl)
+
+pub returns-in-Nothing : goal.returns-in-Nothing
+returns-in-Nothing c =
+    let claim-open = c.claim_open.ensures in
+    (lacks (sym c.find.ensures ∙ c.enum_told-1.given.1) claim-open.0, claim-open.1)

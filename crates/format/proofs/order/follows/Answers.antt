@@ -1,0 +1,16 @@
+-- `follows`: what the parts left make of the field is what they all make of it.
+use mathlib.Core.Path.{◌∙◌}
+use Rattle.format.proofs.Steps.{none_left_over}
+use Rattle.format.proofs.order.follows.Goals as goal
+
+pub returns-in-Parts : goal.returns-in-Parts
+returns-in-Parts c = rw c.then-1.given.1 at c.takes.ensures ∙ c.loop-left.invariant
+
+pub returns-in-Refuses : goal.returns-in-Refuses
+returns-in-Refuses c = rw c.enum_told-1.given.1 at c.takes.ensures ∙ c.loop-left.invariant
+
+pub loop-left-preserved : goal.loop-left-preserved
+loop-left-preserved c = rw c.enum_told-in-Passes-1.given.1 at c.takes.ensures ∙ c.loop-left.invariant
+
+pub returns : goal.returns
+returns-in-Parts c = none_left_over _ _ c.loop-left-test.false ∙ c.loop-left.invariant

@@ -1,0 +1,20 @@
+-- `may_end`: whether the parts left may be missing is whether they all may.
+use mathlib.Core.Path.{sym, ◌∙◌}
+use native.Mathlib.Omega.{arith}
+use Rattle.format.proofs.Steps.{nothing_needed, one_needed, names_needed, others_decide}
+use Rattle.format.proofs.order.may_end.Goals as goal
+
+pub returns-in-16 : goal.returns-in-16
+returns-in-16 c = one_needed _ (omega arith) (sym c.how_many.ensures ∙ c.in-16.keys1) ∙ c.loop-left.invariant.1
+
+pub returns-in-64 : goal.returns-in-64
+returns-in-64 c = names_needed _ (omega arith) (sym c.how_many.ensures ∙ c.in-64.keys2) ∙ c.loop-left.invariant.1
+
+pub loop-left-preserved : goal.loop-left-preserved
+loop-left-preserved c =
+    let e = c.how_many.ensures in
+    let n = c.in_default.rest in
+    (omega arith, others_decide _ (omega arith) (λ k. n.0.1 (e ∙ k)) (λ k. n.1 (e ∙ k)) ∙ c.loop-left.invariant.1)
+
+pub returns : goal.returns
+returns-in-16 c = nothing_needed _ c.loop-left-test.false ∙ c.loop-left.invariant.1

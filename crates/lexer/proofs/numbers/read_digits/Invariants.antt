@@ -1,0 +1,14 @@
+-- `read_digits`: each digit goes on with the number.
+use Prim.Native.Nat.{ℕ, ◌-◌, ◌≤◌}
+use mathlib.Core.Path.{◌≡◌}
+use mathlib.Core.Bool.{Bool}
+use lib.ListN.{length}
+use Rattle.notation.specs.Lexing.{in_number}
+use Rattle.lexer.specs.Found.{lex_from}
+use Rattle.lexer.proofs.numbers.read_digits.Given as goal
+
+abbrev pub invariant-loop-i : goal.invariant-loop-i
+invariant-loop-i l = (l.at ≤ l.i) × (l.i ≤ length l.text) × ((p l : ℕ) (s : Bool) → lex_from l.text l.at l (in_number p l s l.first) ≡ lex_from l.text l.i l (in_number p l s l.n))
+
+abbrev pub decreases-loop-i : goal.decreases-loop-i
+decreases-loop-i l = length l.text - l.i

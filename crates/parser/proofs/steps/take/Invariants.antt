@@ -1,0 +1,9 @@
+-- `take`: the symbols that are left out one after the other, up to the one that takes the token.
+use Rattle.parser.proofs.Passing.{Going}
+use Rattle.parser.proofs.steps.take.Given as goal
+
+abbrev pub invariant-loop-n : goal.invariant-loop-n
+invariant-loop-n l = Going l.initial.stack l.initial.frames l.initial.out l.initial.building l.initial.n l.token l.names l.stack l.frames l.out l.building l.n
+
+abbrev pub decreases-loop-n : goal.decreases-loop-n
+decreases-loop-n l = l.n

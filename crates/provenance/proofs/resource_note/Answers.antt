@@ -1,0 +1,29 @@
+-- `resource_note`: the title refuses, or is looked at.
+use mathlib.Core.Path.{refl}
+use Rattle.labels.specs.Sets.{no_labels}
+use Rattle.evaluator.proofs.Expressions.{resized}
+use Prim.Native.Nat.{◌-◌}
+use native.Mathlib.Omega.{arith}
+use Rattle.evaluator.proofs.Fresh.{fresh_refusal, fresh_value}
+use Rattle.provenance.proofs.Notes.{resource_flat, title_refused, title_noted}
+use Rattle.provenance.proofs.resource_note.Goals as goal
+
+pub returns-then-depth-lt2 : goal.returns-then-depth-lt2
+returns-then-depth-lt2 c = resource_flat _ _ _ _ _ _ _ c.if-depth-lt2.true
+
+pub evaluate-t-requires : goal.evaluate-t-requires
+evaluate-t-requires c = (resized c.requires c.place.ensures.0, refl)
+
+pub enum_told-1 : goal.enum_told-1
+enum_told-1 c = c.in-Refused.keys1
+
+pub enum_known-value : goal.enum_known-value
+enum_known-value c = c.in-Value.keys2
+
+pub returns-in-Refused : goal.returns-in-Refused
+unfolding no_labels
+returns-in-Refused c = title_refused _ _ _ _ _ _ _ {b = c.args.depth - 1} (omega (arith, c.if-depth-lt2.false)) c.requires.manifest c.place.ensures (λ s. fresh_refusal refl (c.evaluate-t.ensures.1 s) c.value_of.ensures c.enum_told-1.given.1) refl
+
+pub returns-in-Value : goal.returns-in-Value
+unfolding no_labels
+returns-in-Value c = title_noted _ _ _ _ _ _ _ {b = c.args.depth - 1} (omega (arith, c.if-depth-lt2.false)) c.requires.manifest c.place.ensures (λ s. fresh_value refl (c.evaluate-t.ensures.1 s) c.value_of.ensures c.value-1.given.1 c.in_words-labels.ensures) _ {inner = c.args.depth - 2} refl (omega (arith, c.if-depth-lt2.false)) c.titled_note.ensures

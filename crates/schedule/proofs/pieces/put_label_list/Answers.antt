@@ -1,0 +1,21 @@
+-- `put_label_list`: at the loop's head, what is left of the list makes the whole with the line so far.
+use mathlib.Core.Path.{refl, ◌∙◌}
+use native.Mathlib.Omega.{arith}
+use Rattle.schedule.proofs.LabelList.{list_from, label_from, label_put, labels_done}
+use Rattle.schedule.proofs.pieces.put_label_list.Goals as goal
+
+pub loop-n-init : goal.loop-n-init
+loop-n-init c = (refl, refl)
+
+pub loop-n-smaller : goal.loop-n-smaller
+loop-n-smaller c = omega (arith, label_from _ _ c.next.ensures _ c.n-1.given.1)
+
+pub loop-n-preserved : goal.loop-n-preserved
+loop-n-preserved c = (c.put_label-end.auto.0 ∙ c.loop-n.invariant.0, label_put _ _ c.next.ensures _ c.n-1.given.1 _ _ c.put_label-end.ensures c.loop-n.invariant.1)
+
+pub shape_of-line-in-Nothing : goal.shape_of-line-in-Nothing
+shape_of-line-in-Nothing c = c.loop-n.invariant.0
+
+pub returns-in-Nothing : goal.returns-in-Nothing
+unfolding list_from
+returns-in-Nothing c = labels_done _ _ c.next.ensures _ _ c.enum_told-1.given.1 c.loop-n.invariant.1

@@ -1,0 +1,35 @@
+-- `operator_kind`: by the number.
+use Prim.Native.Nat.{ℕ}
+use mathlib.Core.Path.{sym, ap}
+use Rattle.rules.specs.Read.{entry_for, operators, operator_from}
+use Rattle.notation.specs.Print.{operator_kind}
+use Rattle.statement_printer.proofs.OperatorSigns.{last_operator}
+use Rattle.statement_printer.proofs.signs.operator_kind.Goals as goal
+
+pub returns-in-0 : goal.returns-in-0
+unfolding operator_from entry_for operators operator_kind
+returns-in-0 c = sym (ap (λ (n : ℕ). operator_kind (operator_from n)) c.in-0.keys1)
+
+pub returns-in-1 : goal.returns-in-1
+unfolding operator_from entry_for operators operator_kind
+returns-in-1 c = sym (ap (λ (n : ℕ). operator_kind (operator_from n)) c.in-1.keys2)
+
+pub returns-in-2 : goal.returns-in-2
+unfolding operator_from entry_for operators operator_kind
+returns-in-2 c = sym (ap (λ (n : ℕ). operator_kind (operator_from n)) c.in-2.keys3)
+
+pub returns-in-3 : goal.returns-in-3
+unfolding operator_from entry_for operators operator_kind
+returns-in-3 c = sym (ap (λ (n : ℕ). operator_kind (operator_from n)) c.in-3.keys4)
+
+pub returns-in-4 : goal.returns-in-4
+unfolding operator_from entry_for operators operator_kind
+returns-in-4 c = sym (ap (λ (n : ℕ). operator_kind (operator_from n)) c.in-4.keys5)
+
+pub returns-in-5 : goal.returns-in-5
+unfolding operator_from entry_for operators operator_kind
+returns-in-5 c = sym (ap (λ (n : ℕ). operator_kind (operator_from n)) c.in-5.keys6)
+
+pub returns-in_default : goal.returns-in_default
+unfolding operator_kind
+returns-in_default c = sym (ap operator_kind (last_operator _ c.in_default.rest.0.0.0.0.0.1 c.in_default.rest.0.0.0.0.1 c.in_default.rest.0.0.0.1 c.in_default.rest.0.0.1 c.in_default.rest.0.1 c.in_default.rest.1))

@@ -1,0 +1,44 @@
+-- The cycle of `statement` and what it calls for statements with blocks: the measures and the answers of each member stand in the files below.
+use Prim.Native.Nat.{ℕ, ◌+◌, ◌-◌}
+use mathlib.Core.Path.{◌≡◌, refl, ◌∙◌}
+use lib.ListN.{length}
+use Rattle.rules.specs.Compile.{string_at}
+use Rattle.syntax.specs.Strings.{string_texts}
+use Rattle.statement_printer.proofs.PrintedStatements.{block_here, block_passes, StatementsTo, no_statement_yet, statement_stands, one_statement, all_statements}
+use Prim.Native.Nat.{ℕ, ◌-◌}
+use Rattle.statement_printer.proofs.PrintedBranches.{BranchesTo, no_branch_yet, branch_stands, one_branch, all_branches}
+use Prim.Native.Nat.{ℕ, ◌+◌, ◌*◌, ◌<◌}
+use Rattle.statement_printer.proofs.statements.+block_branch_branches_choice_conditional_otherwise_statement.Given as goal
+
+abbrev pub invariant-block-loop-q : goal.invariant-block-loop-q
+invariant-block-loop-q l = StatementsTo (string_at (string_texts l.m)) l.m (l.depth - 1) (l.p + 3) l.end l.q l.initial.out l.out l.initial.at l.at × (length l.out ≡ length l.initial.out)
+
+abbrev pub decreases-block-loop-q : goal.decreases-block-loop-q
+decreases-block-loop-q l = l.end - l.q
+
+abbrev pub invariant-branches-loop-q : goal.invariant-branches-loop-q
+invariant-branches-loop-q l = BranchesTo (string_at (string_texts l.m)) l.m l.depth l.first l.end l.q l.initial.out l.out l.initial.at l.at × (length l.out ≡ length l.initial.out)
+
+abbrev pub decreases-branches-loop-q : goal.decreases-branches-loop-q
+decreases-branches-loop-q l = l.end - l.q
+
+abbrev pub decreases-block : goal.decreases-block
+decreases-block l = 2 * l.depth
+
+abbrev pub decreases-branch : goal.decreases-branch
+decreases-branch l = 2 * l.depth
+
+abbrev pub decreases-branches : goal.decreases-branches
+decreases-branches l = 2 * l.depth + 1
+
+abbrev pub decreases-choice : goal.decreases-choice
+decreases-choice l = 2 * l.depth
+
+abbrev pub decreases-conditional : goal.decreases-conditional
+decreases-conditional l = 2 * l.depth
+
+abbrev pub decreases-otherwise : goal.decreases-otherwise
+decreases-otherwise l = 2 * l.depth + 1
+
+abbrev pub decreases-statement : goal.decreases-statement
+decreases-statement l = 2 * l.depth + 1

@@ -1,0 +1,325 @@
+-- The walk: a block looks at its statements one level down, and an if or a case at its blocks. The measure is the depth; the statements of a block come before
+use Prim.Native.Nat.{ℕ, ◌+◌, ◌-◌, ◌*◌, ◌<◌}
+use mathlib.Core.Path.{refl, sym, ◌∙◌}
+use borrow.Author.Rules.{rules}
+use native.Mathlib.Omega.{arith}
+use Rattle.wire.specs.Bytes.{fields_in}
+use Rattle.rules.specs.declared.Kind.TheVariants.{Statement as StatementKind, Branch}
+use Rattle.places.specs.At.{branches_at, statements_at, Siblings}
+use Rattle.branches.specs.Texts.{text_in, text_any}
+use Rattle.branches.proofs.Standing.{has_level, has_header, header_at, condition_header, scrutinee_header, if_blocks, case_branches, block_statements, sibling_here, siblings_after, branch_block, branch_ends, pattern_header}
+use Rattle.branches.proofs.Texts.{conditional_text, choice_text, block_text, statements_text, no_statement_text, empty_block_text, branches_text, no_branch_text, small_first, small_same, second_block, collects_none, here_small}
+use Rattle.summaries.proofs.Walks.{summarizes_same, summarizes_then, walking_on, only_collected, from_line, walking_fresh, place_small, own_text, joined_own, Walked, walk_starts, walked_all, walked_here}
+use Rattle.summaries.proofs.+walk_any_walk_both_walk_condition_walk_in_walk_long_walk_nested_walk_statements.{
+use Rattle.summaries.proofs.+walk_any_walk_both_walk_condition_walk_in_walk_long_walk_nested_walk_statements.Goals as goal
+
+  statement,
+}
+use Rattle.summaries.proofs.+walk_any_walk_both_walk_condition_walk_in_walk_long_walk_nested_walk_statements.Tie.{
+  close,
+}
+
+pub walk_any-loop-q-init : goal.walk_any-loop-q-init
+walk_any-loop-q-init t c = (c.requires.1.1.0, walk_starts c.requires.1.0 c.requires.1.1.1)
+
+pub walk_any-overflow_add-q : goal.walk_any-overflow_add-q
+walk_any-overflow_add-q t c = omega (arith, c.requires.1.0.manifest, has_header (sibling_here c.loop-q.invariant.0 c.loop-q-test.true))
+
+pub walk_any-end_in-block-requires : goal.walk_any-end_in-block-requires
+walk_any-end_in-block-requires t c = header_at (pattern_header (sibling_here c.loop-q.invariant.0 c.loop-q-test.true)) c.requires.1.0.manifest
+
+pub walk_any-end_in-next-requires : goal.walk_any-end_in-next-requires
+walk_any-end_in-next-requires t c = header_at (has_header (sibling_here c.loop-q.invariant.0 c.loop-q-test.true)) c.requires.1.0.manifest
+
+pub walk_any-overflow_sub-depth : goal.walk_any-overflow_sub-depth
+walk_any-overflow_sub-depth t c = omega (arith, has_level (sibling_here c.loop-q.invariant.0 c.loop-q-test.true))
+
+pub walk_any-walk_in-declares-requires : goal.walk_any-walk_in-declares-requires
+walk_any-walk_in-declares-requires t c =
+    let here = sibling_here c.loop-q.invariant.0 c.loop-q-test.true in
+    let small = here_small c.loop-q.invariant.1.collected _ _ (branches_text c.loop-q.invariant.0 c.loop-q-test.true c.end_in-block.ensures refl) in
+    (omega (arith, c.requires.0, has_level here), (c.loop-q.invariant.1.walk, ((branch_block here c.end_in-block.ensures, small), branch_ends here c.end_in-block.ensures c.end_in-next.ensures)))
+
+pub walk_any-loop-q-smaller : goal.walk_any-loop-q-smaller
+walk_any-loop-q-smaller t c = omega (arith, c.loop-q-test.true, c.end_in-next.ensures)
+
+pub walk_any-loop-q-preserved : goal.walk_any-loop-q-preserved
+walk_any-loop-q-preserved t c = (siblings_after c.loop-q.invariant.0 c.loop-q-test.true c.end_in-next.ensures, walked_here c.loop-q.invariant.1 _ _ (branches_text c.loop-q.invariant.0 c.loop-q-test.true c.end_in-block.ensures c.end_in-next.ensures) c.walk_in-declares.ensures)
+
+pub walk_any-shape_of-work : goal.walk_any-shape_of-work
+walk_any-shape_of-work t c = c.loop-q.invariant.1.notes.size
+
+pub walk_any-returns : goal.walk_any-returns
+walk_any-returns t c = walked_all c.loop-q.invariant.1 (no_branch_text c.loop-q.invariant.0 c.loop-q-test.false)
+
+pub walk_both-end_in-second-requires : goal.walk_both-end_in-second-requires
+walk_both-end_in-second-requires t c = header_at (has_header c.requires.1.1.0.0) c.requires.1.0.manifest
+
+pub walk_both-walk_in-declares-requires : goal.walk_both-walk_in-declares-requires
+walk_both-walk_in-declares-requires t c = (omega (arith, c.requires.0), (c.requires.1.0, ((c.requires.1.1.0.0, small_first _ _ c.requires.1.1.1 refl), c.end_in-second.ensures)))
+
+pub walk_both-end_in-requires : goal.walk_both-end_in-requires
+walk_both-end_in-requires t c = header_at (has_header (second_block c.requires.1.1.0 c.requires.1.1.1 c.end_in-second.ensures).0) c.requires.1.0.manifest
+
+pub walk_both-walk_in-requires : goal.walk_both-walk_in-requires
+walk_both-walk_in-requires t c = (omega (arith, c.requires.0), (walking_on c.requires.1.0 c.walk_in-declares.ensures, (second_block c.requires.1.1.0 c.requires.1.1.1 c.end_in-second.ensures, c.end_in.ensures)))
+
+pub walk_both-shape_of-work : goal.walk_both-shape_of-work
+walk_both-shape_of-work t c = c.walk_in.ensures.notes.size ∙ c.walk_in-declares.ensures.notes.size
+
+pub walk_both-returns : goal.walk_both-returns
+walk_both-returns t c = summarizes_then c.walk_in-declares.ensures (rw c.end_in-second.ensures at c.walk_in.ensures)
+
+pub walk_condition-is_for-requires : goal.walk_condition-is_for-requires
+walk_condition-is_for-requires t c = ((c.requires.1.0.memory, c.line_for-line.ensures), place_small c.requires.1.0 c.requires.1.1.0)
+
+pub walk_condition-recall-requires : goal.walk_condition-recall-requires
+walk_condition-recall-requires t c = ((c.requires.1.0.memory, c.line_for-line.ensures), c.requires.1.0.set)
+
+pub walk_condition-returns-then-is_for : goal.walk_condition-returns-then-is_for
+walk_condition-returns-then-is_for t c = from_line c.requires.1.0 c.line_for-line.ensures (c.is_for.ensures c.if-is_for.true) c.recall.ensures
+
+pub walk_condition-byte_in-requires : goal.walk_condition-byte_in-requires
+walk_condition-byte_in-requires t c = omega (arith, has_header c.requires.1.1.0)
+
+pub walk_condition-overflow_sub-depth : goal.walk_condition-overflow_sub-depth
+walk_condition-overflow_sub-depth t c = omega (arith, has_level c.requires.1.1.0)
+
+pub walk_condition-overflow_add-p : goal.walk_condition-overflow_add-p
+walk_condition-overflow_add-p t c = omega (arith, c.requires.1.0.manifest, has_header c.requires.1.1.0)
+
+pub walk_condition-end_in-requires : goal.walk_condition-end_in-requires
+walk_condition-end_in-requires t c = header_at (condition_header c.requires.1.1.0 c.byte_in.ensures c.in-34.keys1) c.requires.1.0.manifest
+
+pub walk_condition-walk_both-requires : goal.walk_condition-walk_both-requires
+walk_condition-walk_both-requires t c = (omega (arith, c.requires.0, has_level c.requires.1.1.0), (c.requires.1.0, (if_blocks c.requires.1.1.0 c.byte_in.ensures c.in-34.keys1 c.end_in.ensures, small_same c.requires.1.1.1 (conditional_text c.requires.1.1.0 c.byte_in.ensures c.in-34.keys1 c.end_in.ensures))))
+
+pub walk_condition-overflow_sub-depth-in-35 : goal.walk_condition-overflow_sub-depth-in-35
+walk_condition-overflow_sub-depth-in-35 t c = omega (arith, has_level c.requires.1.1.0)
+
+pub walk_condition-overflow_add-p-in-35 : goal.walk_condition-overflow_add-p-in-35
+walk_condition-overflow_add-p-in-35 t c = omega (arith, c.requires.1.0.manifest, has_header c.requires.1.1.0)
+
+pub walk_condition-end_in-requires-in-35 : goal.walk_condition-end_in-requires-in-35
+walk_condition-end_in-requires-in-35 t c = header_at (scrutinee_header c.requires.1.1.0 c.byte_in.ensures c.in-35.keys2) c.requires.1.0.manifest
+
+pub walk_condition-end_in-requires-in-35-2 : goal.walk_condition-end_in-requires-in-35-2
+walk_condition-end_in-requires-in-35-2 t c = header_at (has_header c.requires.1.1.0) c.requires.1.0.manifest
+
+pub walk_condition-walk_any-requires : goal.walk_condition-walk_any-requires
+walk_condition-walk_any-requires t c = (omega (arith, c.requires.0, has_level c.requires.1.1.0), (c.requires.1.0, (case_branches c.requires.1.1.0 c.byte_in.ensures c.in-35.keys2 c.end_in-in-35.ensures c.end_in-in-35-2.ensures, small_same c.requires.1.1.1 (choice_text c.requires.1.1.0 c.byte_in.ensures c.in-35.keys2 c.end_in-in-35.ensures c.end_in-in-35-2.ensures))))
+
+pub walk_condition-collect_at-requires : goal.walk_condition-collect_at-requires
+walk_condition-collect_at-requires t c = ((c.requires.1.0.manifest, c.requires.1.0.set), c.requires.1.1)
+
+pub walk_condition-shape_of-work-in-34 : goal.walk_condition-shape_of-work-in-34
+walk_condition-shape_of-work-in-34 t c = c.walk_both.ensures.notes.size
+
+pub walk_condition-returns-in-34 : goal.walk_condition-returns-in-34
+walk_condition-returns-in-34 t c = summarizes_same (conditional_text c.requires.1.1.0 c.byte_in.ensures c.in-34.keys1 c.end_in.ensures) c.walk_both.ensures
+
+pub walk_condition-shape_of-work-in-35 : goal.walk_condition-shape_of-work-in-35
+walk_condition-shape_of-work-in-35 t c = c.walk_any.ensures.notes.size
+
+pub walk_condition-returns-in-35 : goal.walk_condition-returns-in-35
+walk_condition-returns-in-35 t c = summarizes_same (choice_text c.requires.1.1.0 c.byte_in.ensures c.in-35.keys2 c.end_in-in-35.ensures c.end_in-in-35-2.ensures) c.walk_any.ensures
+
+pub walk_condition-returns-in_default : goal.walk_condition-returns-in_default
+walk_condition-returns-in_default t c = only_collected c.requires.1.0 c.collect_at.ensures
+
+pub walk_in-overflow_add-p : goal.walk_in-overflow_add-p
+walk_in-overflow_add-p t c = omega (arith, c.requires.1.0.manifest, has_header c.requires.1.1.0.0)
+
+pub walk_in-returns-then-end-p : goal.walk_in-returns-then-end-p
+walk_in-returns-then-end-p t c = only_collected c.requires.1.0 (collects_none _ (empty_block_text c.requires.1.1.0.0 c.requires.1.1.1 c.if-end-p.true))
+
+pub walk_in-overflow_sub-depth : goal.walk_in-overflow_sub-depth
+walk_in-overflow_sub-depth t c = omega (arith, has_level c.requires.1.1.0.0)
+
+pub walk_in-overflow_add-p-2 : goal.walk_in-overflow_add-p-2
+walk_in-overflow_add-p-2 t c = omega (arith, c.requires.1.0.manifest, has_header c.requires.1.1.0.0)
+
+pub walk_in-walk_statements-requires : goal.walk_in-walk_statements-requires
+walk_in-walk_statements-requires t c = (omega (arith, c.requires.0, has_level c.requires.1.1.0.0), (c.requires.1.0, (block_statements c.requires.1.1.0.0 c.requires.1.1.1, small_same c.requires.1.1.0.1 (block_text c.requires.1.1.0.0 c.requires.1.1.1))))
+
+pub walk_in-shape_of-work : goal.walk_in-shape_of-work
+walk_in-shape_of-work t c = c.walk_statements.ensures.notes.size
+
+pub walk_in-returns : goal.walk_in-returns
+walk_in-returns t c = summarizes_same (block_text c.requires.1.1.0.0 c.requires.1.1.1) c.walk_statements.ensures
+
+pub walk_long-byte_in-requires : goal.walk_long-byte_in-requires
+walk_long-byte_in-requires t c = omega (arith, has_header c.requires.1.1.0)
+
+pub walk_long-walk_nested-requires : goal.walk_long-walk_nested-requires
+walk_long-walk_nested-requires t c = (omega (arith, c.requires.0), c.requires.1)
+
+pub walk_long-collect_at-requires : goal.walk_long-collect_at-requires
+walk_long-collect_at-requires t c = ((c.requires.1.0.manifest, c.requires.1.0.set), c.requires.1.1)
+
+pub walk_long-shape_of-work : goal.walk_long-shape_of-work
+walk_long-shape_of-work t c = c.walk_nested.ensures.notes.size
+
+pub walk_long-returns-in-34 : goal.walk_long-returns-in-34
+walk_long-returns-in-34 t c = c.walk_nested.ensures
+
+pub walk_long-returns-in_default : goal.walk_long-returns-in_default
+walk_long-returns-in_default t c = only_collected c.requires.1.0 c.collect_at.ensures
+
+pub walk_nested-walk_condition-declares-requires : goal.walk_nested-walk_condition-declares-requires
+walk_nested-walk_condition-declares-requires t c = (omega (arith, c.requires.0), (walking_fresh c.requires.1.0, c.requires.1.1))
+
+pub walk_nested-slice_bounds-keep-end : goal.walk_nested-slice_bounds-keep-end
+walk_nested-slice_bounds-keep-end t c = sym c.walk_condition-declares.ensures.collects.size
+
+pub walk_nested-keep-requires : goal.walk_nested-keep-requires
+walk_nested-keep-requires t c =
+    let walk = walking_on (walking_fresh c.requires.1.0) c.walk_condition-declares.ensures in
+    ((walk.memory, place_small walk c.requires.1.1.0), (walk.set, (walk.summarized, own_text c.walk_condition-declares.ensures.collects)))
+
+pub walk_nested-join-requires : goal.walk_nested-join-requires
+walk_nested-join-requires t c = (c.requires.1.0.set, c.walk_condition-declares.ensures.collects.size)
+
+pub walk_nested-shape_of-work : goal.walk_nested-shape_of-work
+walk_nested-shape_of-work t c = c.keep.ensures.size ∙ c.walk_condition-declares.ensures.notes.size
+
+pub walk_nested-returns : goal.walk_nested-returns
+walk_nested-returns t c = joined_own c.walk_condition-declares.ensures c.keep.ensures c.join.ensures
+
+pub walk_statements-loop-q-init : goal.walk_statements-loop-q-init
+walk_statements-loop-q-init t c = (c.requires.1.1.0, walk_starts c.requires.1.0 c.requires.1.1.1)
+
+pub walk_statements-end_in-next-requires : goal.walk_statements-end_in-next-requires
+walk_statements-end_in-next-requires t c = header_at (has_header (sibling_here c.loop-q.invariant.0 c.loop-q-test.true)) c.requires.1.0.manifest
+
+pub walk_statements-overflow_sub-next : goal.walk_statements-overflow_sub-next
+walk_statements-overflow_sub-next t c = omega (arith, c.end_in-next.ensures)
+
+pub walk_statements-collect_at-declares-requires : goal.walk_statements-collect_at-declares-requires
+walk_statements-collect_at-declares-requires t c = ((c.loop-q.invariant.1.walk.manifest, c.loop-q.invariant.1.walk.set), (sibling_here c.loop-q.invariant.0 c.loop-q-test.true, (here_small c.loop-q.invariant.1.collected _ _ (statements_text c.loop-q.invariant.0 c.loop-q-test.true refl))))
+
+pub walk_statements-loop-q-smaller-then-next-q-lt-LONG : goal.walk_statements-loop-q-smaller-then-next-q-lt-LONG
+walk_statements-loop-q-smaller-then-next-q-lt-LONG t c = omega (arith, c.loop-q-test.true, c.end_in-next.ensures)
+
+pub walk_statements-loop-q-preserved-then-next-q-lt-LONG : goal.walk_statements-loop-q-preserved-then-next-q-lt-LONG
+walk_statements-loop-q-preserved-then-next-q-lt-LONG t c = (siblings_after c.loop-q.invariant.0 c.loop-q-test.true c.end_in-next.ensures, walked_here c.loop-q.invariant.1 _ _ (statements_text c.loop-q.invariant.0 c.loop-q-test.true c.end_in-next.ensures) (only_collected c.loop-q.invariant.1.walk c.collect_at-declares.ensures))
+
+pub walk_statements-walk_long-declares-requires : goal.walk_statements-walk_long-declares-requires
+walk_statements-walk_long-declares-requires t c = (omega (arith, c.requires.0), (c.loop-q.invariant.1.walk, (sibling_here c.loop-q.invariant.0 c.loop-q-test.true, (here_small c.loop-q.invariant.1.collected _ _ (statements_text c.loop-q.invariant.0 c.loop-q-test.true refl)))))
+
+pub walk_statements-loop-q-smaller : goal.walk_statements-loop-q-smaller
+walk_statements-loop-q-smaller t c = omega (arith, c.loop-q-test.true, c.end_in-next.ensures)
+
+pub walk_statements-loop-q-preserved : goal.walk_statements-loop-q-preserved
+walk_statements-loop-q-preserved t c = (siblings_after c.loop-q.invariant.0 c.loop-q-test.true c.end_in-next.ensures, walked_here c.loop-q.invariant.1 _ _ (statements_text c.loop-q.invariant.0 c.loop-q-test.true c.end_in-next.ensures) c.walk_long-declares.ensures)
+
+pub walk_statements-shape_of-work : goal.walk_statements-shape_of-work
+walk_statements-shape_of-work t c = c.loop-q.invariant.1.notes.size
+
+pub walk_statements-returns : goal.walk_statements-returns
+walk_statements-returns t c = walked_all c.loop-q.invariant.1 (no_statement_text c.loop-q.invariant.0 c.loop-q-test.false)
+
+pub +walk-any-walk-both-walk-condition-walk-in-walk-long-walk-nested-walk-statements-spec :
+    {M : Type 1} → statement M
++walk-any-walk-both-walk-condition-walk-in-walk-long-walk-nested-walk-statements-spec =
+    close
+    μ_walk_any
+    μ_walk_both
+    μ_walk_condition
+    μ_walk_in
+    μ_walk_long
+    μ_walk_nested
+    μ_walk_statements
+    (λ t. walk-any-lts.spec (walk_any_calls t)
+    (walk_any_at t)
+    walk_any.Post
+    walk_any_inv_loop
+    walk_any_μ_loop
+    (walk_any_loop_holds t)
+    (walk_any_add_end_in t)
+    (walk_any_end_in_requires t)
+    (walk_any_end_in_requires_2 t)
+    (walk_any_sub_walk_in t)
+    (walk_any_walk_in_requires t)
+    (walk_any_loop_less t)
+    (walk_any_loop_again t)
+    (walk_any_same_length t)
+    (walk_any_returns t))
+    (λ t. walk-both-lts.spec (walk_both_calls t)
+    (walk_both_at t)
+    walk-both.Post
+    (walk_both_end_in_requires t)
+    (walk_both_walk_in_requires t)
+    (walk_both_end_in_requires_2 t)
+    (walk_both_walk_in_requires_2 t)
+    (walk_both_same_length t)
+    (walk_both_returns t))
+    (λ t. walk-condition-lts.spec (walk_condition_calls t)
+    (walk_condition_at t)
+    walk-condition.Post
+    (walk_condition_line_for_requires t)
+    (walk_condition_is_for_requires t)
+    (walk_condition_recall_requires t)
+    (walk_condition_same_length t)
+    (walk_condition_returns t)
+    (walk_condition_byte_in_requires t)
+    (walk_condition_sub_walk_both t)
+    (walk_condition_add_end_in t)
+    (walk_condition_end_in_requires t)
+    (walk_condition_walk_both_requires t)
+    (walk_condition_sub_walk_any t)
+    (walk_condition_add_end_in_2 t)
+    (walk_condition_end_in_requires_2 t)
+    (walk_condition_end_in_requires_3 t)
+    (walk_condition_walk_any_requires t)
+    (walk_condition_collect_at_requires t)
+    (walk_condition_same_length_2 t)
+    (walk_condition_returns_2 t)
+    (walk_condition_same_length_3 t)
+    (walk_condition_returns_3 t)
+    (walk_condition_same_length_4 t)
+    (walk_condition_returns_4 t))
+    (λ t. walk-in-lts.spec (walk_in_calls t)
+    (walk_in_at t)
+    walk-in.Post
+    (walk_in_add_if1 t)
+    (walk_in_returns t)
+    (walk_in_sub_walk_statements t)
+    (walk_in_add_walk_statements t)
+    (walk_in_walk_statements_requires t)
+    (walk_in_same_length t)
+    (walk_in_returns_2 t))
+    (λ t. walk-long-lts.spec (walk_long_calls t)
+    (walk_long_at t)
+    walk-long.Post
+    (walk_long_byte_in_requires t)
+    (walk_long_walk_nested_requires t)
+    (walk_long_collect_at_requires t)
+    (walk_long_same_length t)
+    (walk_long_returns t)
+    (walk_long_returns_2 t))
+    (λ t. walk-nested-lts.spec (walk_nested_calls t)
+    (walk_nested_at t)
+    walk-nested.Post
+    (walk_nested_walk_condition_requires t)
+    (walk_nested_slice_aggregate_keep t)
+    (walk_nested_keep_requires t)
+    (walk_nested_join_requires t)
+    (walk_nested_same_length t)
+    (walk_nested_returns t))
+    λ t. walk-statements-lts.spec (walk_statements_calls t)
+    (walk_statements_at t)
+    walk-statements.Post
+    walk_statements_inv_loop
+    walk_statements_μ_loop
+    (walk_statements_loop_holds t)
+    (walk_statements_end_in_requires t)
+    (walk_statements_sub_if1 t)
+    (walk_statements_collect_at_requires t)
+    (walk_statements_loop_less t)
+    (walk_statements_loop_again t)
+    (walk_statements_walk_long_requires t)
+    (walk_statements_loop_less_2 t)
+    (walk_statements_loop_again_2 t)
+    (walk_statements_same_length t)
+    (walk_statements_returns t)

@@ -1,0 +1,6 @@
+-- `refuse`: nothing stays.
+use Rattle.text_answers.proofs.Ending.{refuses}
+use Rattle.text_answers.proofs.refuse.Goals as goal
+
+pub returns : goal.returns
+returns c = refuses _ _ c.clear_from.ensures
