@@ -137,6 +137,7 @@ pub fn place(q: usize) -> usize
 }
 
 // "= takes any two values, unequal if of unlike kinds".
+#[tactic(auto, unfolding(crate::specs::Integers::same_value))]
 pub fn same_value(a: Value, b: Value) -> bool
     ensures { result ≡ same_value a b }
 {
@@ -157,6 +158,7 @@ pub fn same_value(a: Value, b: Value) -> bool
 }
 
 // The papers' number for a reason.
+#[tactic(auto, unfolding(crate::specs::Numbers::number_of))]
 pub fn number_of(reason: Reason) -> u8
     ensures { result ≡ number_of reason }
 {
@@ -193,6 +195,7 @@ pub fn number_of(reason: Reason) -> u8
 }
 
 // The number of a part, by its place in document 02's list.
+#[tactic(auto, unfolding(crate::specs::Numbers::part_number))]
 pub fn part_number(part: SetPart) -> u8
     ensures { result ≡ part_number part }
 {

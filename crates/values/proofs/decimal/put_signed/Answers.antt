@@ -10,13 +10,6 @@ use Rattle.values.proofs.Digits.{last_decimal, text_long, text_stored}
 use Rattle.values.proofs.Sizes.{text_above, text_below}
 use Rattle.values.proofs.decimal.put_signed.Goals as goal
 
--- the text below 0
-text : (c : tie.Else1) → 45 ∷ decimal c.before.magnitude.result ≡ signed_decimal c.before.before.before.args.z
-text c = let s = c.before.before.before in text_below s.args.z s.ranges.z _ c.before.magnitude.ensures c.if1.false
-
-pub shape_of-out-then-z-ge0 : goal.shape_of-out-then-z-ge0
-shape_of-out-then-z-ge0 c = c.put_unsigned.auto.0
-
 pub returns-then-z-ge0 : goal.returns-then-z-ge0
 returns-then-z-ge0 c =
     c.put_unsigned.ensures
@@ -27,13 +20,10 @@ pub returns-then-out-count : goal.returns-then-out-count
 returns-then-out-count c =
     let s = c.args in
     text_long (45 ∷ decimal _) s.out.now (omega (arith, c.digit_count-count.ensures))
-    ∙ ap (λ (t : List ℕ). write_text t s.out.now) (text c.before.before)
+    ∙ ap (λ (t : List ℕ). write_text t s.out.now) (text_below s.z c.ranges.z _ c.magnitude-n.ensures c.if-z-ge0.false)
 
 pub put_digits-requires : goal.put_digits-requires
 put_digits-requires c = omega (arith, length-set c.args.out.now 0 45)
-
-pub shape_of-out : goal.shape_of-out
-shape_of-out c = c.put_digits.auto.0 ∙ length-set c.args.out.now 0 45
 
 pub returns : goal.returns
 returns c =
@@ -41,4 +31,4 @@ returns c =
     let n = c.magnitude-n.result in
     text_stored (45 ∷ decimal n) out _ (c.digit_count-count.result + 1) (omega (arith, c.digit_count-count.ensures)) (omega arith)
     (c.put_digits.ensures ∙ ap (sets (set out 0 45) 1) (last_decimal c.digit_count-count.result n c.digit_count-count.ensures))
-    ∙ ap (λ (t : List ℕ). write_text t out) (text b.before)
+    ∙ ap (λ (t : List ℕ). write_text t out) (text_below c.args.z c.ranges.z _ c.magnitude-n.ensures c.if-z-ge0.false)

@@ -11,9 +11,6 @@ returns-then-out-count c =
     let s = c.args in
     text_long (decimal s.n) s.out.now (omega (arith, c.digit_count-count.ensures))
 
-pub shape_of-out : goal.shape_of-out
-shape_of-out c = c.put_digits.auto.0
-
 pub returns : goal.returns
 returns c =
     let s = c.args in
