@@ -55,7 +55,7 @@ module _ (w : List ℕ) (p : ℕ) (v : Value) {w' : List ℕ} where
   pub integer_payload : {z : ℤ} → Ranged v → v ≡ Integer z → w' ≡ over w p (high_bytes 8 (word64 (to_z w64 (of_z w64 z)))) → w' ≡ over w p (high_bytes 8 (payload_of v))
   unfolding payload_of
   integer_payload {z} range e stored =
-      let same : to_z w64 (of_z w64 z) ≡ z = to_z-of_z (record { sfits = integer_range (rw e at range) }) in
+      let same : to_z w64 (of_z w64 z) ≡ z = to_z-of_z {w = w64} (record { sfits = integer_range (rw e at range) }) in
       let at_z : w' ≡ over w p (high_bytes 8 (word64 z)) = rw same at stored in
       rw e at_z
     where

@@ -30,6 +30,7 @@ pub enum Held {
 
 // ---- Values by kind and payload
 
+#[tactic(auto, unfolding(crate::specs::Record::kind_of))]
 fn kind_of(value: Value) -> u8
     ensures { result ≡ kind_of value }
 {

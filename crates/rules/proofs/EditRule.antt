@@ -63,11 +63,13 @@ module _ (D : Edit) where
   opposite (entry_left h r) (Memᴰ.head p) l = absurd (l (rw p h))
   opposite (entry_left h r) (Memᴰ.tail m) l = opposite r m l
   opposite (entry_right h r) m l = let y = opposite r m l in record { entry = y.entry; present = Memᴰ.tail y.present; same = y.same }
+  opposite {e = e} empty_both m l = elim m [ ]
 
   attribute_kept : {a : Attribute} {l l' : List Attribute} → Pairwise (SameAttribute D) l l' → Memᴰ a l → (High D a.content.labels → ⊥) → Memᴰ a l'
   attribute_kept (paired (same_attribute (both_high h g)) r) (Memᴰ.head p) n = absurd (n (rw p h))
   attribute_kept (paired (same_attribute equals) r) (Memᴰ.head p) n = Memᴰ.head p
   attribute_kept (paired v r) (Memᴰ.tail m) n = Memᴰ.tail (attribute_kept r m n)
+  attribute_kept {a = a} none_paired x7 n = elim x7 [ ]
 
 -- ---- The claim, about entries
 
@@ -109,8 +111,9 @@ behind : (c : List Entry) {e : Entry} → Memᴰ e (shown_all c) → Behind e c
 unfolding shown_all
 behind (x ∷ c) (Memᴰ.head p) = record { entry = x; present = Memᴰ.head refl; same = sym p }
 behind (x ∷ c) (Memᴰ.tail i) = let b = behind c i in record { entry = b.entry; present = Memᴰ.tail b.present; same = b.same }
+behind [] {e = e} x' = elim x' [ ]
 
-shown_present : {c : List Entry} {e : Entry} → Memᴰ e c → Memᴰ (shown e) (shown_all c)
+shown_present : {e : Entry} {c : List Entry} → Memᴰ e c → Memᴰ (shown e) (shown_all c)
 unfolding shown_all
 shown_present (Memᴰ.head p) = Memᴰ.head (ap shown p)
 shown_present (Memᴰ.tail i) = Memᴰ.tail (shown_present i)

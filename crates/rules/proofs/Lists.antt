@@ -109,6 +109,7 @@ perhaps_itself (some a) = there refl
 pub each_member : {A : Type 0} {P : A → Type 0} {x : A} {xs : List A} → Each P xs → Memᴰ x xs → P x
 each_member {P} (also p ps) (Memᴰ.head e) = subst P (sym e) p
 each_member (also p ps) (Memᴰ.tail m) = each_member ps m
+each_member {A = A} {P = P} none_left x4 = elim x4 [ ]
 
 pub found : {A : Type 0} {P : A → Type 0} (f : A → Bool) {xs : List A} → Each P xs → Perhaps P (first_with f xs)
 unfolding first_with

@@ -138,7 +138,7 @@ module _ (D : Edit) where
   attributes_under_same : (k : Labels) (c : Context) {st st' : State} → Low st st' → {gs gs' : List Given} → SameGivens gs gs' → Pairwise (SameAttribute D) (attributes_under k c st gs) (attributes_under k c st' gs')
   unfolding attributes_under stored
   attributes_under_same k c l none_paired = none_paired
-  attributes_under_same k c (low {t = t} hc hk u u') (paired (same_given w) r) = paired (same_attribute (under_same D k (under_same D (c.path ∪ t) w))) (attributes_under_same k c (low hc hk u u') r)
+  attributes_under_same k c (low {q = q} {t = t} {u = v} {u' = v'} {n = i} {n' = i'} {r = x} {r' = x'} hc hk u u') (paired (same_given w) p) = paired (same_attribute (under_same D k (under_same D (c.path ∪ t) w))) (attributes_under_same k c (low {q = q} {u = v} {u' = v'} {n = i} {n' = i'} {r = x} {r' = x'} hc hk u u') p)
 
   -- a bind on two values with their sets, by cases
   by_value : {A B : Type 0} {S : A → B → Type 0} {m n : Outcome Labelled} {f : Labelled → Outcome A} {g : Labelled → Outcome B} → Two (SameLabelled D) m n → ((x y : Labelled) → High D x.labels → High D y.labels → Two S (f x) (g y)) → ((x : Labelled) → Two S (f x) (g x)) → Two S (m >>= f) (n >>= g)

@@ -15,6 +15,7 @@ use Rattle.rules.specs.Types.{Types}
 use Rattle.rules.specs.Compile.{none_struck_out, run_manifest}
 use Rattle.rules.specs.Why.{without_limits, is_refused, comes_to_one, labelled_at, first_from, lowest_place}
 use Rattle.rules.proofs.Lists.{either_true, or_true_left, or_true_right, both_left, both_right, both_true, when_true, when_false}
+use Rattle.rules.proofs.Outcome.{all_get, all_refused}
 use Rattle.rules.proofs.ThreeRuns.{Alike, first_refused, second_refused, three_done, three_runs}
 
 -- ---- Booleans
@@ -105,10 +106,9 @@ module _ {A : Type 0} where
   refused_one (three_done p) h = absurd (false≢true h)
 
   pub third_done : {m n o : Outcome A} {a : A} → Alike m n o → m ≡ done a → n ≡ done a → o ≡ done a
-  third_done t e e' = inside (rw (e, e') at t)
-    where
-      inside : {o : Outcome A} {a : A} → Alike (done a) (done a) o → o ≡ done a
-      inside (three_done p) = refl
+  third_done first_refused e e' = absurd (all_get {P = λ (x : A). ⊥} all_refused e)
+  third_done second_refused e e' = absurd (all_get {P = λ (x : A). ⊥} all_refused e')
+  third_done (three_done p) e e' = e
 
   done_passes : {m : Outcome A} {a : A} → m ≡ done a → is_refused m ≡ false
   unfolding is_refused

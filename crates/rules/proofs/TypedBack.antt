@@ -296,6 +296,7 @@ unfolding form_of form_in forms head_size size piece_right constant_field value_
 constant_by d t here p h ks a = bare_same 0x10 (label_integer h a.head.count a.head.bytes) (ended a.fields)
 constant_by d t (there here) p h ks a = bare_same 0x11 (label_name_back h a.head.count a.head.bytes) (ended a.fields)
 constant_by d t (there (there here)) p h ks a = bare_same 0x12 (label_boolean h a.head.count a.head.second) (ended a.fields)
+constant_by d t (there (there (there x13))) p h ks a = elim x13 [ ]
 
 constant_back : (d : ℕ) (k : Field) → Listed d k → allowed ConstantKind (tag_of k) ≡ true → constant_field (constant_from k) ≡ unplaced k
 unfolding unplaced tag_of
@@ -347,6 +348,7 @@ operator_head (x ∷ []) n r = let small = leb-true x 6 r in ap (λ (y : ℕ). y
     by_number x (there (there (there (there here)))) = refl
     by_number x (there (there (there (there (there here))))) = refl
     by_number x (there (there (there (there (there (there here)))))) = refl
+    by_number x (there (there (there (there (there (there (there x33))))))) = elim x33 [ ]
 operator_head (x ∷ y ∷ h) n r = absurd (omega arith)
 
 -- an expression of at most d levels, read with n levels and written, is its field
@@ -394,6 +396,7 @@ module _ (n : ℕ) (back : ExpressionBack n) where
       bare_same 0x18 (names_back h a.head.count a.head.bytes) (one_written as_expression (λ r. noFields) (back d l) a.fields.in_first (ended_twice a.fields.in_second a.fields.in_third))
   expression_by_lem d l t (there (there (there (there (there (there (there (there (there here))))))))) p h ks a =
       bare_same 0x19 (empty_head h a.head.count) (one_written as_expression arms_written (back d l) a.fields.in_first (many_written arms_written (arm_back d l) (one_more a.fields.in_second a.fields.in_third) no_arms))
+  expression_by_lem d l t (there (there (there (there (there (there (there (there (there (there x41)))))))))) p h ks a = elim x41 [ ]
 
 expression_back : (n d : ℕ) → d ≤ n → (k : Field) → Listed d k → allowed ExpressionKind (tag_of k) ≡ true → expression_field (expression_in n k) ≡ unplaced k
 unfolding expression_in unplaced tag_of
@@ -475,6 +478,7 @@ module _ (n : ℕ) (n≤32 : n ≤ 32) (g : Field → Block) (back : BlockBack n
   statement_by_lem d l t (there (there (there (there (there here))))) p h ks a =
       bare_same 0x28 (name_back h a.head.count a.head.bytes) (many_written attributes_written (attribute_back d (omega arith)) a.fields.in_first (none_written attributes_written no_attributes a.fields.in_second a.fields.in_third))
   statement_by_lem d l t (there (there (there (there (there (there here)))))) p h ks a = bare_same 0x29 (name_back h a.head.count a.head.bytes) (ended a.fields)
+  statement_by_lem d l t (there (there (there (there (there (there (there x29))))))) p h ks a = elim x29 [ ]
 
   statement_back : (d : ℕ) → d ≤ suc n → (k : Field) → Listed d k → allowed StatementKind (tag_of k) ≡ true → statement_field (statement_in g k) ≡ unplaced k
   unfolding statement_in unplaced tag_of
@@ -652,6 +656,7 @@ statement_item t (there (there (there here))) = refl
 statement_item t (there (there (there (there here)))) = refl
 statement_item t (there (there (there (there (there here))))) = refl
 statement_item t (there (there (there (there (there (there here)))))) = refl
+statement_item t (there (there (there (there (there (there (there x28))))))) = elim x28 [ ]
 
 item_by_lem : (d : ℕ) → d ≤ 32 → (t : ℕ) → In (0x30 ∷ 0x32 ∷ 0x34 ∷ statement_tag_list) t → (p : ℕ) (h : List ℕ) (ks : Fields) → AsListed (Listed d) (form_of t) h ks → item_field (item_by (field p t h ks) p h ks (entry_for item_tags aStatement t)) ≡ field 0 t h (unplaced_all ks)
 unfolding form_of form_in forms head_size size item_field definition_field item_by entry_for item_tags parameters_written class_written statement_in

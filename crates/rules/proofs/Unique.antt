@@ -45,6 +45,7 @@ module _ {A K : Type 0} (key : A → K) (keyed : K → A → Bool) (own : (e : A
   unfolding how_many
   exactly_once {f} (unique {e = e} {c = c} h u) (Memᴰ.head p) = one_more_yes (keyed (key f) e) _ (rw p (own e)) (none_there (key f) c (rw p h))
   exactly_once {f} (unique {e = e} {c = c} h u) (Memᴰ.tail m) = one_more_no (keyed (key f) e) _ (λ t. true≢false (sym (present m) ∙ (rw (only (key f) e t) at h))) (exactly_once u m)
+  exactly_once {f = f} unique_none x3 = elim x3 [ ]
 
 -- ---- Entries by type and title, attributes by name
 

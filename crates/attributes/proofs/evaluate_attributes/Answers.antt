@@ -55,4 +55,4 @@ pub shape_of-table : goal.shape_of-table
 shape_of-table c = c.loop-q.invariant.1.1
 
 pub returns : goal.returns
-returns-in-Refused c = evaluating_ends c.loop-q.invariant.0 c.loop-q-test.false
+returns c = evaluating_ends c.loop-q.invariant.0 c.loop-q-test.false

@@ -18,4 +18,4 @@ loop-q-preserved c = named_further _ _ _ _ _ c.loop-q.invariant c.loop-q-test.tr
 
 pub returns : goal.returns
 unfolding Below
-returns-then-two_at-name c = (named_nowhere _ _ _ _ _ c.loop-q.invariant c.loop-q-test.false, tt)
+returns c = (named_nowhere _ _ _ _ _ c.loop-q.invariant c.loop-q-test.false, tt)

@@ -32,4 +32,4 @@ loop-q-preserved c =
 
 pub returns : goal.returns
 unfolding Below
-returns-then-end-first c = (repeated_nowhere c.loop-q.invariant.1.0 c.loop-q-test.false, tt)
+returns c = (repeated_nowhere c.loop-q.invariant.1.0 c.loop-q-test.false, tt)

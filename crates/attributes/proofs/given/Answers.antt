@@ -9,4 +9,4 @@ returns-then-table-place c = given_no_row _ _ c.if-table-place.true
 pub record_at-requires : goal.record_at-requires
 
 pub returns : goal.returns
-returns-then-table-place c = given_read _ _ (omega (arith, c.if-table-place.false)) c.record_at.ensures
+returns c = given_read _ _ (omega (arith, c.if-table-place.false)) c.record_at.ensures

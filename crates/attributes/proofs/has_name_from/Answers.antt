@@ -13,4 +13,4 @@ pub loop-q-preserved : goal.loop-q-preserved
 loop-q-preserved c = any_further _ _ _ _ _ c.loop-q.invariant c.loop-q-test.true (name_below _ _ _ c.two_at.ensures (omega (arith, c.if-limit-two_at.false))) c.end_of-q.ensures
 
 pub returns : goal.returns
-returns-then-limit-two_at c = any_nowhere _ _ _ _ _ c.loop-q.invariant c.loop-q-test.false
+returns c = any_nowhere _ _ _ _ _ c.loop-q.invariant c.loop-q-test.false

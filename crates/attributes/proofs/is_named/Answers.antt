@@ -15,4 +15,4 @@ pub loop-q-preserved : goal.loop-q-preserved
 loop-q-preserved c = any_further _ _ _ _ _ c.loop-q.invariant c.loop-q-test.true (ne_eqb _ _ (λ e. c.if-two_at-name.false (c.two_at.ensures ∙ e))) c.end_of-q.ensures
 
 pub returns : goal.returns
-returns-then-two_at-name c = any_nowhere _ _ _ _ _ c.loop-q.invariant c.loop-q-test.false
+returns c = any_nowhere _ _ _ _ _ c.loop-q.invariant c.loop-q-test.false

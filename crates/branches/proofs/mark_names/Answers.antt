@@ -48,4 +48,4 @@ pub shape_of-work : goal.shape_of-work
 shape_of-work c = c.loop-i.invariant.size
 
 pub returns : goal.returns
-returns-then-is_empty c = all_marked c.loop-i.invariant (no_words _ c.requires.1 c.loop-i-test.false)
+returns c = all_marked c.loop-i.invariant (no_words _ c.requires.1 c.loop-i-test.false)

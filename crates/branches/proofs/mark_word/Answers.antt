@@ -51,4 +51,4 @@ pub shape_of-work : goal.shape_of-work
 shape_of-work c = c.loop-rest.invariant.0.size
 
 pub returns : goal.returns
-returns-in_default c = all_marked c.loop-rest.invariant.0 (no_bits _ c.loop-rest-test.false)
+returns c = all_marked c.loop-rest.invariant.0 (no_bits _ c.loop-rest-test.false)

@@ -12,6 +12,6 @@ returns-then-rest-end c =
     attribute_left a.rest.now a.size a.name a.x c.value_size-body.ensures c.if-rest-end.true
 
 pub returns : goal.returns
-returns-then-rest-end c =
+returns c =
     let a = c.args in
     attribute_added a.rest.now a.size a.name a.x c.value_size-body.ensures c.if-rest-end.false c.put_header.ensures c.put_two.ensures c.write_at.ensures c.put_value.ensures

@@ -13,6 +13,6 @@ returns-then-room-size c =
     no_room a.rest.now a.size a.room a.kind a.title a.labels c.if-rest-size.false c.if-room-size.true
 
 pub returns : goal.returns
-returns-then-rest-size c =
+returns c =
     let a = c.args in
     entry_finished a.rest.now a.size a.room a.kind a.title a.labels c.if-rest-size.false c.if-room-size.false c.put_header.ensures c.put_two.ensures c.put_two-2.ensures c.write_at.ensures

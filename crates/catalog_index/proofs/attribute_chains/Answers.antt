@@ -12,4 +12,4 @@ returns-then-end-entry c = let a = c.args in (rw (lt-ltb a.end (a.entry + 87) (o
 
 pub returns : goal.returns
 unfolding attribute_chains
-returns-then-end-entry c = let a = c.args in (rw (le-ltb a.end (a.entry + 87) (omega arith)) refl, omega arith)
+returns c = let a = c.args in (rw (le-ltb a.end (a.entry + 87) (omega arith)) refl, omega arith)

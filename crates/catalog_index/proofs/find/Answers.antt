@@ -57,7 +57,7 @@ loop-r-preserved c =
     )
 
 pub returns : goal.returns
-returns-then-below-r c =
+returns c =
     let a = c.args in
     let l = c.loop-r in
     (walk_ends (sought_at a.out.now a.fill a.sought) (places_of a.work.now) (links_of a.work.now) l.found l.below l.r l.invariant.1.0 (omega arith), l.invariant.1.1)

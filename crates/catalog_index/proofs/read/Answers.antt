@@ -23,6 +23,6 @@ pub read_attribute-requires : goal.read_attribute-requires
 read_attribute-requires c = omega (arith, below_at c.find_attribute.ensures.1 c.at-1.given.1)
 
 pub returns : goal.returns
-returns-in_default c = λ es w i.
+returns c = λ es w i.
     let a = c.args in
     read_content a.out.now a.fill a.kind a.title c.requires.1.1 c.requires.1.0 es w (c.find_entry.ensures.0 es w i) a.name c.entry-1.given.0.0 c.entry-1.given.1 (λ e place is. c.find_attribute.ensures.0 es a.kind a.title e w i place is) c.at-1.given.0.0 c.at-1.given.1 c.read_attribute.ensures

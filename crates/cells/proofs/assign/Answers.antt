@@ -21,4 +21,4 @@ put_value-requires c =
     (slot.below, omega (arith, c.requires.0, obtain.auto.0))
 
 pub returns : goal.returns
-returns-in_default c = assign_done _ _ _ _ c.obtain.ensures c.requires.1 _ _ _ c.i-1.given.1 c.has_value.ensures c.if-has_value.false c.put_value.ensures
+returns c = assign_done _ _ _ _ c.obtain.ensures c.requires.1 _ _ _ c.i-1.given.1 c.has_value.ensures c.if-has_value.false c.put_value.ensures

@@ -12,4 +12,4 @@ pub returns-then-chain_at-chain : goal.returns-then-chain_at-chain
 returns-then-chain_at-chain c = link_other _ _ _ _ c.if-next-eq0.false c.if-p-i.false c.chain_at.ensures.0 c.if-chain_at-chain.true
 
 pub returns : goal.returns
-returns-then-next-eq0 c = link_some _ _ _ _ c.if-next-eq0.false c.if-p-i.false c.chain_at.ensures.0 c.if-chain_at-chain.false
+returns c = link_some _ _ _ _ c.if-next-eq0.false c.if-p-i.false c.chain_at.ensures.0 c.if-chain_at-chain.false

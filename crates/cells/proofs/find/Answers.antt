@@ -46,4 +46,4 @@ pub loop-p-preserved : goal.loop-p-preserved
 loop-p-preserved c = left_next _ _ _ _ _ _ _ c.loop-p.invariant c.counted_link.ensures c.loop-p-test.true c.is_for.ensures c.if-is_for.false c.two_in-link-in-loop-p.ensures
 
 pub returns : goal.returns
-returns-then-is_for c = left_none_lem _ _ _ _ _ _ _ c.loop-p.invariant c.counted_link.ensures c.loop-p-test.false
+returns c = left_none_lem _ _ _ _ _ _ _ c.loop-p.invariant c.counted_link.ensures c.loop-p-test.false

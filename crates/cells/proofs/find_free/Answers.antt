@@ -18,4 +18,4 @@ pub loop-i-preserved : goal.loop-i-preserved
 loop-i-preserved c = (omega arith, below_more _ _ c.loop-i.invariant.1 (used_read _ _ c.loop-i-test.true ∙ rw c.if-work-i-ne-USED.false refl))
 
 pub returns : goal.returns
-returns-then-work-i-ne-USED c = full (λ k l. c.loop-i.invariant.1 k (omega arith))
+returns c = full (λ k l. c.loop-i.invariant.1 k (omega arith))

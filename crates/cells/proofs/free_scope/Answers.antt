@@ -33,6 +33,6 @@ pub shape_of-work : goal.shape_of-work
 shape_of-work c = c.loop-i.invariant.1.0
 
 pub returns : goal.returns
-returns-then-work-i-eq0 c =
+returns c =
     let inv = c.loop-i.invariant.1.1 in
     free_way _ _ _ _ c.requires.1 (λ j l. none_past _ j (omega (arith, c.loop-i-test.false))) inv.0 inv.1

@@ -13,4 +13,4 @@ pub returns-then-work-i-ne-USED : goal.returns-then-work-i-ne-USED
 returns-then-work-i-ne-USED c = not_used _ _ c.requires.0 _ c.if-work-i-ne-USED.true
 
 pub returns : goal.returns
-returns-then-work-low c = used_for _ _ c.requires.0 _ c.if-work-i-ne-USED.false c.two_in.ensures
+returns c = used_for _ _ c.requires.0 _ c.if-work-i-ne-USED.false c.two_in.ensures

@@ -9,4 +9,4 @@ pub returns-then-two_in-name : goal.returns-then-two_in-name
 returns-then-two_in-name c = for_other_name _ _ c.requires.0 _ _ _ c.two_in.ensures c.if-two_in-scope.false c.two_in-2.ensures c.if-two_in-name.true
 
 pub returns : goal.returns
-returns-then-two_in-scope c = for_state _ _ c.requires.0 _ _ _ c.two_in.ensures c.if-two_in-scope.false c.two_in-2.ensures c.if-two_in-name.false
+returns c = for_state _ _ c.requires.0 _ _ _ c.two_in.ensures c.if-two_in-scope.false c.two_in-2.ensures c.if-two_in-name.false

@@ -14,4 +14,4 @@ pub returns-then-i-eq0 : goal.returns-then-i-eq0
 returns-then-i-eq0 c = λ _. next_turn _ _ (omega arith) c.if-work-i-ne0.false (λ l. absurd (omega (arith, c.if-i-eq0.true)))
 
 pub returns : goal.returns
-returns-then-i-ge-SLOTS c = λ yes. next_turn _ _ (omega arith) c.if-work-i-ne0.false (λ l. not_zero yes)
+returns c = λ yes. next_turn _ _ (omega arith) c.if-work-i-ne0.false (λ l. not_zero yes)

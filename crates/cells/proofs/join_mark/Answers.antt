@@ -22,5 +22,5 @@ join_at-requires c =
     ((ready_at _ _ _ _ obtain.ensures c.requires.1 _ c.i-1.given.1).below, omega (arith, c.requires.0, obtain.auto.0))
 
 pub returns : goal.returns
-returns-in_default c =
+returns c =
     mark_done _ _ _ _ c.obtain.ensures c.requires.1 _ _ _ c.i-1.given.1 c.join_at.ensures

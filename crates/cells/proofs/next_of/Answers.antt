@@ -4,4 +4,4 @@ use native.Mathlib.Omega.{arith}
 use Rattle.cells.proofs.next_of.Goals as goal
 
 pub returns : goal.returns
-returns-then-p-lt-SLOTS c = let end : c.args.p ≡ 512 = omega arith in rw end c.first_of.ensures
+returns c = let end : c.args.p ≡ 512 = omega arith in rw end c.first_of.ensures

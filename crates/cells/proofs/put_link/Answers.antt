@@ -6,4 +6,4 @@ pub returns-then-p-lt-SLOTS : goal.returns-then-p-lt-SLOTS
 returns-then-p-lt-SLOTS c = put_slot _ _ _ _ c.if-p-lt-SLOTS.true c.put_two.ensures
 
 pub returns : goal.returns
-returns-then-p-lt-SLOTS c = put_head _ _ _ _ c.if-p-lt-SLOTS.false c.put_two-2.ensures
+returns c = put_head _ _ _ _ c.if-p-lt-SLOTS.false c.put_two-2.ensures

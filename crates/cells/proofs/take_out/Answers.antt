@@ -12,5 +12,5 @@ returns-then-next_of-j c =
     out_absent _ _ _ _ c.requires.0 c.chain_at-chain.ensures.0 c.last_above-p.ensures c.next_of.ensures c.if-next_of-j.true
 
 pub returns : goal.returns
-returns-then-next_of-j c =
+returns c =
     out_way _ _ _ _ _ c.requires.0 c.requires.1 c.chain_at-chain.ensures c.last_above-p.ensures c.next_of.ensures c.if-next_of-j.false c.after-next.ensures c.put_link.ensures

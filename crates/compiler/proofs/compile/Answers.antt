@@ -23,4 +23,4 @@ compile_chosen-requires c = (c.if-work-lt65536.false, refl)
 
 pub returns : goal.returns
 unfolding chosen
-returns-then-work-lt65536 c = c.compile_chosen.ensures
+returns c = c.compile_chosen.ensures

@@ -36,4 +36,4 @@ pub shape_of-out : goal.shape_of-out
 shape_of-out c = c.loop-p.invariant.output
 
 pub returns : goal.returns
-returns-in-Refused c = items_done c.loop-p.invariant c.loop-p-test.false
+returns c = items_done c.loop-p.invariant c.loop-p-test.false

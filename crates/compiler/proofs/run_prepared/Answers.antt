@@ -12,4 +12,4 @@ pub run_items-requires : goal.run_items-requires
 run_items-requires c = (gathered_able c.requires.1 c.gather-gathered.ensures c.enum_told-1.given.1, c.requires.0.0)
 
 pub returns : goal.returns
-returns-in-Refused c = λ types s ask ready noted. manifest_runs types _ _ _ _ _ c.requires.0.0 s ask ready noted _ c.gather-gathered.ensures c.enum_told-1.given.1 _ _ c.choose_node-node.ensures c.run_items.ensures
+returns c = λ types s ask ready noted. manifest_runs types _ _ _ _ _ c.requires.0.0 s ask ready noted _ c.gather-gathered.ensures c.enum_told-1.given.1 _ _ c.choose_node-node.ensures c.run_items.ensures

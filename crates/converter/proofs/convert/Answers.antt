@@ -18,4 +18,4 @@ convert_chosen-requires c = (c.if-work-lt65536.false, refl)
 
 pub returns : goal.returns
 unfolding chosen
-returns-then-work-lt65536 c = c.convert_chosen.ensures
+returns c = c.convert_chosen.ensures

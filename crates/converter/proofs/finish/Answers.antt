@@ -29,5 +29,5 @@ write_manifest-requires c =
     (c.requires.1.0, fitting _ c.requires.1.1 c.table_size-before.ensures.0 _ _ c.requires.1.0.sound (record { below = λ i. omega (arith, c.shared_slice_known-3-1.given i) }) refl c.if-size-gt65535.false c.if-out-size.false)
 
 pub returns : goal.returns
-returns-then-size-gt65535 c =
+returns c =
     leaves_as (written _ c.requires.1.1 c.table_size-before.ensures.0 _ _ c.requires.1.0.sound c.requires.0 c.if-size-gt65535.false c.if-out-size.false c.write_manifest.ensures) (search rules) refl c.accept.ensures

@@ -9,4 +9,4 @@ pub returns-then-byte_at-tag : goal.returns-then-byte_at-tag
 returns-then-byte_at-tag c = found_other _ _ _ _ c.definition_at-d.ensures c.if-d-eq0.false c.byte_at.ensures c.if-byte_at-tag.true
 
 pub returns : goal.returns
-returns-then-d-eq0 c = found_there _ _ _ _ c.definition_at-d.ensures c.if-d-eq0.false c.byte_at.ensures c.if-byte_at-tag.false
+returns c = found_there _ _ _ _ c.definition_at-d.ensures c.if-d-eq0.false c.byte_at.ensures c.if-byte_at-tag.false

@@ -6,4 +6,4 @@ pub returns-then-asked : goal.returns-then-asked
 returns-then-asked c = again_asked _ _ c.if-asked.true c.is_declared.ensures
 
 pub returns : goal.returns
-returns-then-asked c = again_not _ _ c.if-asked.false
+returns c = again_not _ _ c.if-asked.false

@@ -29,4 +29,4 @@ pub shape_of-work : goal.shape_of-work
 shape_of-work c = c.loop-p.invariant.memory
 
 pub returns : goal.returns
-returns-in-Refused c = all_gathered c.loop-p.invariant c.loop-p-test.false
+returns c = all_gathered c.loop-p.invariant c.loop-p-test.false

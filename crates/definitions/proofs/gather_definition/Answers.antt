@@ -6,4 +6,4 @@ pub returns-then-is_taken : goal.returns-then-is_taken
 returns-then-is_taken c = defined_again c.requires.0 c.requires.1.0 c.requires.1.1 c.is_taken.ensures _ c.at.ensures c.if-is_taken.true
 
 pub returns : goal.returns
-returns-then-is_taken c = defined_now c.requires.0 c.requires.1.0 c.requires.1.1 c.is_taken.ensures c.if-is_taken.false c.define.ensures
+returns c = defined_now c.requires.0 c.requires.1.0 c.requires.1.1 c.is_taken.ensures c.if-is_taken.false c.define.ensures

@@ -9,4 +9,4 @@ pub returns-then-op-eq4 : goal.returns-then-op-eq4
 returns-then-op-eq4 c = begins_equal _ _ c.if-op-eq4.true
 
 pub returns : goal.returns
-returns-then-op-lt4 c = begins_boolean _ _ c.if-op-lt4.false c.if-op-eq4.false c.begin_boolean.ensures
+returns c = begins_boolean _ _ c.if-op-lt4.false c.if-op-eq4.false c.begin_boolean.ensures

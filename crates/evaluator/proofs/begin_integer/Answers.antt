@@ -11,4 +11,4 @@ pub returns-in_default : goal.returns-in_default
 returns-in_default c = integer_not _ (λ e. ⊎_elim (λ p. omega arith) (λ p. omega arith) c.in_default.keys2)
 
 pub returns : goal.returns
-returns-in_default c = integer_open _ c.in-Integer.keys1
+returns c = integer_open _ c.in-Integer.keys1

@@ -23,4 +23,4 @@ pub returns-then-op-eq3 : goal.returns-then-op-eq3
 returns-then-op-eq3 c = both_greater _ _ _ _ _ c.x-1.given.1 c.y-1.given.1 (to_z-of_z w64 _ (record { sfits = c.known_told-1.given.0.1 })) (to_z-of_z w64 _ (record { sfits = c.known_told-in-Integer-y-1.given.0.1 })) c.if-op-eq3.true c.is_greater.ensures c.answer.ensures
 
 pub returns : goal.returns
-returns-in_default c = both_computed _ _ _ _ _ c.compute.result c.x-1.given.1 c.y-1.given.1 (to_z-of_z w64 _ (record { sfits = c.known_told-1.given.0.1 })) (to_z-of_z w64 _ (record { sfits = c.known_told-in-Integer-y-1.given.0.1 })) c.compute.ensures c.computed_at.ensures
+returns c = both_computed _ _ _ _ _ c.compute.result c.x-1.given.1 c.y-1.given.1 (to_z-of_z w64 _ (record { sfits = c.known_told-1.given.0.1 })) (to_z-of_z w64 _ (record { sfits = c.known_told-in-Integer-y-1.given.0.1 })) c.compute.ensures c.computed_at.ensures

@@ -16,4 +16,4 @@ overflow_add-number c = omega (arith, c.is_class.ensures.1 (was_true _ c.if-not-
 
 pub returns : goal.returns
 unfolding sought_as variable_in base_for
-returns-then-not-is_class c = class_sought _ _ _ _ _ c.is_class.ensures.0 refl topBase c.if-not-is_class.false-raw (c.is_class.ensures.1 (was_true _ c.if-not-is_class.false-raw)) c.two_at.ensures refl
+returns c = class_sought _ _ _ _ _ c.is_class.ensures.0 refl topBase c.if-not-is_class.false-raw (c.is_class.ensures.1 (was_true _ c.if-not-is_class.false-raw)) c.two_at.ensures refl

@@ -9,4 +9,4 @@ pub returns-then-op-eq4 : goal.returns-then-op-eq4
 returns-then-op-eq4 c = combines_equal _ _ _ _ _ c.if-op-eq4.true c.same_value.ensures c.answer.ensures
 
 pub returns : goal.returns
-returns-then-op-lt4 c = combines_booleans _ _ _ _ _ c.if-op-lt4.false c.if-op-eq4.false c.right_boolean.ensures
+returns c = combines_booleans _ _ _ _ _ c.if-op-lt4.false c.if-op-eq4.false c.right_boolean.ensures

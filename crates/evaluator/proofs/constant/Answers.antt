@@ -16,4 +16,4 @@ pub value_at-requires : goal.value_at-requires
 value_at-requires c = omega (arith, c.requires.0.1)
 
 pub returns : goal.returns
-returns-then-is_struck c = constant_kept _ _ _ c.is_struck.ensures _ c.if-is_struck.false c.byte_at.ensures c.one.ensures c.join.ensures c.value_at.ensures c.answer.ensures
+returns c = constant_kept _ _ _ c.is_struck.ensures _ c.if-is_struck.false c.byte_at.ensures c.one.ensures c.join.ensures c.value_at.ensures c.answer.ensures

@@ -6,4 +6,4 @@ pub returns-then-q-eq0 : goal.returns-then-q-eq0
 returns-then-q-eq0 c = tag_none _ _ _ c.definition_at-q.ensures c.if-q-eq0.true
 
 pub returns : goal.returns
-returns-then-q-eq0 c = tag_there _ _ _ c.definition_at-q.ensures c.if-q-eq0.false c.byte_at.ensures
+returns c = tag_there _ _ _ c.definition_at-q.ensures c.if-q-eq0.false c.byte_at.ensures

@@ -7,4 +7,4 @@ pub returns-then-name-ge1024 : goal.returns-then-name-ge1024
 returns-then-name-ge1024 c = (class_past _ _ _ c.if-name-ge1024.true, λ e. absurd (false≢true e))
 
 pub returns : goal.returns
-returns-then-name-ge1024 c = (class_told _ _ _ c.defined_tag.ensures, λ e. c.if-name-ge1024.false)
+returns c = (class_told _ _ _ c.defined_tag.ensures, λ e. c.if-name-ge1024.false)

@@ -7,4 +7,4 @@ pub returns-then-none_struck_out : goal.returns-then-none_struck_out
 returns-then-none_struck_out c = nothing_struck _ _ _ (sym c.none_struck_out.ensures ∙ c.if-none_struck_out.true)
 
 pub returns : goal.returns
-returns-then-none_struck_out c = struck_told _ _ _ c.byte_at.ensures c.is_struck_out.ensures.0
+returns c = struck_told _ _ _ c.byte_at.ensures c.is_struck_out.ensures.0

@@ -9,4 +9,4 @@ pub returns-then-built_in : goal.returns-then-built_in
 returns-then-built_in c = type_built_in _ _ _ c.built_in.ensures c.if-built_in.true
 
 pub returns : goal.returns
-returns-then-name-ge1024 c = type_told _ _ _ c.built_in.ensures c.if-built_in.false c.defined_tag.ensures
+returns c = type_told _ _ _ c.built_in.ensures c.if-built_in.false c.defined_tag.ensures

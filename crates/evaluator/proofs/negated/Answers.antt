@@ -12,4 +12,4 @@ pub returns-in_default : goal.returns-in_default
 returns-in_default c = negates_unlike _ _ (λ e. ⊎_elim (λ p. omega arith) (λ p. omega arith) c.in_default.keys2) (refusal_is c.at.ensures)
 
 pub returns : goal.returns
-returns-in_default c = negates _ _ c.x-1.given.1 c.answer.ensures
+returns c = negates _ _ c.x-1.given.1 c.answer.ensures

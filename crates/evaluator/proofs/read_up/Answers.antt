@@ -99,4 +99,4 @@ pub at-requires-2 : goal.at-requires-2
 at-requires-2 c = c.requires.0.1
 
 pub returns : goal.returns
-returns-then-has_value c = record { grows = c.loop-left.invariant.0; says = read_out _ _ _ _ _ _ _ _ c.loop-left.invariant.1 (omega (arith, c.loop-left-test.false)) (refusal_told _ c.at-2.ensures) }
+returns c = record { grows = c.loop-left.invariant.0; says = read_out _ _ _ _ _ _ _ _ c.loop-left.invariant.1 (omega (arith, c.loop-left-test.false)) (refusal_told _ c.at-2.ensures) }

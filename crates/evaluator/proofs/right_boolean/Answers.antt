@@ -12,4 +12,4 @@ pub returns-in_default : goal.returns-in_default
 returns-in_default c = boolean_unlike _ _ (λ e. ⊎_elim (λ p. omega arith) (λ p. omega arith) c.in_default.keys2) (refusal_is c.at.ensures)
 
 pub returns : goal.returns
-returns-in_default c = boolean_right _ _ c.in-Boolean.keys1 c.answer.ensures
+returns c = boolean_right _ _ c.in-Boolean.keys1 c.answer.ensures

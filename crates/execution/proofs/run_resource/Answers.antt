@@ -25,4 +25,4 @@ pub index_entry-requires : goal.index_entry-requires
 index_entry-requires c = let within = resource_within c.requires.0.0 c.requires.0.1.0 c.requires.1 c.note_resource.ensures c.note_resource.auto.1.1.1.0 c.two_at.ensures c.built_in-built_in.ensures (ap (λ (r : ℕ). r - c.args.fill) c.room_in.ensures) c.add_resource-r.ensures 0 0 c.r-1.given.1 in (omega (arith, c.requires.0.0.set.memory, c.note_resource.auto.1.1.1.0), (within.0, (within.1, (sized c.requires.0.0 c.requires.0.1.0).short)))
 
 pub returns : goal.returns
-returns-in_default c = λ n levels. resource_done c.requires.0.0 c.requires.0.1.0 c.requires.1 c.note_resource.ensures c.note_resource.auto.1.1.1.0 c.two_at.ensures c.built_in-built_in.ensures (ap (λ (r : ℕ). r - c.args.fill) c.room_in.ensures) c.add_resource-r.ensures n levels c.r-1.given.1 c.index_entry.ensures
+returns c = λ n levels. resource_done c.requires.0.0 c.requires.0.1.0 c.requires.1 c.note_resource.ensures c.note_resource.auto.1.1.1.0 c.two_at.ensures c.built_in-built_in.ensures (ap (λ (r : ℕ). r - c.args.fill) c.room_in.ensures) c.add_resource-r.ensures n levels c.r-1.given.1 c.index_entry.ensures

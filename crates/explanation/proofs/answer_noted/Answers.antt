@@ -9,4 +9,4 @@ pub returns-then-note-2 : goal.returns-then-note-2
 returns-then-note-2 c = answers_not _ _ _ _ _ c.word-note.ensures c.if-note-2.true
 
 pub returns : goal.returns
-returns-then-note c = answers_part _ _ _ _ _ c.word-note.ensures c.if-note.false c.if-note-2.false c.part_of-part.ensures c.lowest_place-place.ensures
+returns c = answers_part _ _ _ _ _ c.word-note.ensures c.if-note.false c.if-note-2.false c.part_of-part.ensures c.lowest_place-place.ensures

@@ -20,4 +20,4 @@ explain_chosen-requires c = (c.if-work-lt65536.false, refl)
 
 pub returns : goal.returns
 unfolding chosen
-returns-then-work-lt65536 c = c.explain_chosen.ensures
+returns c = c.explain_chosen.ensures

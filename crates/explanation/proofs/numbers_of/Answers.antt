@@ -17,4 +17,4 @@ returns-in_default-a c = no_name _ _ _ c.string_number-k.ensures c.k-1.given.1 c
 
 pub returns : goal.returns
 unfolding numbers_of
-returns-in_default c = all_known _ _ _ c.string_number-k.ensures c.k-1.given.1 c.string_number-t.ensures c.t-1.given.1 c.string_number-a.ensures c.a-1.given.1
+returns c = all_known _ _ _ c.string_number-k.ensures c.k-1.given.1 c.string_number-t.ensures c.t-1.given.1 c.string_number-a.ensures c.a-1.given.1

@@ -17,7 +17,7 @@ slice_bounds-keep-end c =
     sym (length-take-le f.result piece (omega (arith, f.ensures, (split piece).within)))
 
 pub returns : goal.returns
-returns-then-at c =
+returns c =
     let a = c.args in
     fed_before a.piece.now a.line.now a.rest.now a.at c.if-at.false c.feed_place-e.ensures
     c.keep-before.ensures c.after.ensures c.keep-behind.ensures

@@ -13,4 +13,4 @@ loop-i-preserved c =
     feed_later c.args.piece.now l.i c.loop-i-test.true c.if-piece-i-eq10.false l.invariant
 
 pub returns : goal.returns
-returns-then-piece-i-eq10 c = let l = c.loop-i in feed_nowhere c.args.piece.now l.i c.loop-i-test.false l.invariant
+returns c = let l = c.loop-i in feed_nowhere c.args.piece.now l.i c.loop-i-test.false l.invariant

@@ -10,4 +10,4 @@ pub returns-then-bytes-count : goal.returns-then-bytes-count
 returns-then-bytes-count c = let a = c.args in sym (drop_of_length-le a.bytes.now {i = a.count} (omega arith))
 
 pub returns : goal.returns
-returns-then-bytes-count c = let a = c.args in take_all (length a.bytes.now - a.count) (drop a.count a.bytes.now) (omega (arith, length-drop a.count a.bytes.now))
+returns c = let a = c.args in take_all (length a.bytes.now - a.count) (drop a.count a.bytes.now) (omega (arith, length-drop a.count a.bytes.now))

@@ -16,4 +16,4 @@ pub overflow_mul-number-2 : goal.overflow_mul-number-2
 overflow_mul-number-2 c = omega (arith, c.search-found.ensures.within, c.requires.small)
 
 pub returns : goal.returns
-returns-then-found c = kept_new _ _ _ _ c.requires (c.search-found.ensures.missing c.if-found.false) c.make_room.ensures c.put_two.ensures
+returns c = kept_new _ _ _ _ c.requires (c.search-found.ensures.missing c.if-found.false) c.make_room.ensures c.put_two.ensures

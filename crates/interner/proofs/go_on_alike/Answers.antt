@@ -13,4 +13,4 @@ pub returns-then-c-d : goal.returns-then-c-d
 returns-then-c-d c = bytes_differ _ _ _ c.if-text-p.false c.if-text-q.false c.if-c-d.true
 
 pub returns : goal.returns
-returns-then-text-p c = c.in_word.ensures ∙ bytes_same _ _ _ c.if-text-p.false c.if-text-q.false c.if-c-d.false
+returns c = c.in_word.ensures ∙ bytes_same _ _ _ c.if-text-p.false c.if-text-q.false c.if-c-d.false

@@ -15,4 +15,4 @@ pub returns-then-text-q : goal.returns-then-text-q
 returns-then-text-q c = cut_off _ _ _ c.requires c.if-text-at.false c.if-c-quote.false c.if-c-ne92.false c.if-text-q.true
 
 pub returns : goal.returns
-returns-then-text-at c = escaped _ _ _ c.requires c.if-text-at.false c.if-c-quote.false c.if-c-ne92.false c.if-text-q.false c.escape_of.ensures c.letter-2.ensures.0 c.letter-2.ensures.2 c.letter-2.ensures.1
+returns c = escaped _ _ _ c.requires c.if-text-at.false c.if-c-quote.false c.if-c-ne92.false c.if-text-q.false c.escape_of.ensures c.letter-2.ensures.0 c.letter-2.ensures.2 c.letter-2.ensures.1

@@ -10,4 +10,4 @@ pub returns-then-in_word : goal.returns-then-in_word
 returns-then-in_word c = word_goes_on _ _ c.if-text-at.false (sym c.if-in_word.true ∙ c.in_word.ensures) c.letter.ensures.0 c.letter.ensures.2 c.letter.ensures.1
 
 pub returns : goal.returns
-returns-then-text-at c = word_over _ _ c.if-text-at.false (sym c.if-in_word.false ∙ c.in_word.ensures)
+returns c = word_over _ _ c.if-text-at.false (sym c.if-in_word.false ∙ c.in_word.ensures)

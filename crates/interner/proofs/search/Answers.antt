@@ -29,4 +29,4 @@ pub loop-low-preserved : goal.loop-low-preserved
 loop-low-preserved c = narrow_down _ _ _ _ _ c.requires.rising c.two_in-place.ensures c.loop-low.invariant (omega arith) (omega arith) (sym c.enum_told-in-After-1.given.1 ∙ c.compare.ensures)
 
 pub returns : goal.returns
-returns-in-Same c = narrow_enough _ _ _ c.loop-low.invariant c.loop-low-test.false
+returns c = narrow_enough _ _ _ c.loop-low.invariant c.loop-low-test.false

@@ -10,4 +10,4 @@ pub returns-then-is_quote : goal.returns-then-is_quote
 returns-then-is_quote c = let quote = sym c.if-is_quote.true ∙ c.is_quote.ensures in (begins_quoted _ _ quote, quote_no_letter _ quote)
 
 pub returns : goal.returns
-returns-then-text-p c = (begins_word _ _ (sym c.if-is_quote.false ∙ c.is_quote.ensures), refl)
+returns c = (begins_word _ _ (sym c.if-is_quote.false ∙ c.is_quote.ensures), refl)

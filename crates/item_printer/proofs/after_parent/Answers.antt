@@ -8,4 +8,4 @@ pub returns-then-byte_at-eq53 : goal.returns-then-byte_at-eq53
 returns-then-byte_at-eq53 c = c.end_of.ensures ∙ sym (after_given _ _ (eq-eqb _ _ (sym c.byte_at.ensures ∙ c.if-byte_at-eq53.true)))
 
 pub returns : goal.returns
-returns-then-byte_at-eq53 c = sym (after_none _ _ (ne_eqb _ _ (λ e. c.if-byte_at-eq53.false (c.byte_at.ensures ∙ e))))
+returns c = sym (after_none _ _ (ne_eqb _ _ (λ e. c.if-byte_at-eq53.false (c.byte_at.ensures ∙ e))))

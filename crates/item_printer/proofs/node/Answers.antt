@@ -18,4 +18,4 @@ pub in_braces-requires-2 : goal.in_braces-requires-2
 in_braces-requires-2 c = let o = node_here c.requires in let names = devices_there o c.byte_at.ensures c.if-byte_at-eq27.false in (c.requires.source, block_here (block_found c.last_field-body.ensures c.end_of-2.ensures names o.body) o.body)
 
 pub returns : goal.returns
-returns-then-byte_at-eq27 c = let o = node_here c.requires in let names = devices_there o c.byte_at.ensures c.if-byte_at-eq27.false in named_node_passes _ _ _ _ _ o (block_found c.last_field-body.ensures c.end_of-2.ensures names o.body) c.byte_at.ensures c.write_mark-word.ensures c.in_braces-2.ensures c.if-byte_at-eq27.false c.devices-names.ensures
+returns c = let o = node_here c.requires in let names = devices_there o c.byte_at.ensures c.if-byte_at-eq27.false in named_node_passes _ _ _ _ _ o (block_found c.last_field-body.ensures c.end_of-2.ensures names o.body) c.byte_at.ensures c.write_mark-word.ensures c.in_braces-2.ensures c.if-byte_at-eq27.false c.devices-names.ensures

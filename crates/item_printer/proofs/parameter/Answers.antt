@@ -14,4 +14,4 @@ pub shape_of-out : goal.shape_of-out
 shape_of-out c = c.write_constant.auto.1.1.1.1.0 ∙ c.write_mark-sign.auto.0 ∙ c.write_variable-name.auto.1.1.1.0 ∙ c.separate-begun.auto.0
 
 pub returns : goal.returns
-returns-then-end-q c = given_parameter_passes _ _ _ _ c.requires.1 c.two_at.ensures c.end_of-end.ensures c.first_label-line.ensures c.separate-begun.ensures c.write_variable-name.ensures c.if-end-q.false c.write_mark-sign.ensures c.write_constant.ensures
+returns c = given_parameter_passes _ _ _ _ c.requires.1 c.two_at.ensures c.end_of-end.ensures c.first_label-line.ensures c.separate-begun.ensures c.write_variable-name.ensures c.if-end-q.false c.write_mark-sign.ensures c.write_constant.ensures

@@ -54,7 +54,7 @@ pub returns-then-c-eq61 : goal.returns-then-c-eq61
 returns-then-c-eq61 c = c.equals_token.ensures c.args.operand
 
 pub returns : goal.returns
-returns-then-text-at c =
+returns c =
     let a = c.args in
     let b = get_or a.text.now a.at 0 in
     rw c.sign_token.ensures

@@ -18,6 +18,6 @@ returns-then-same_bytes c =
     ∙ then_behind _ (c.offset_of.ensures ∙ ap offset_of c.first.ensures) c.if-offset_of-gt99999.false (sym (ap (same_bytes (32 ∷ [])) space) ∙ sym c.same_bytes.ensures ∙ c.if-same_bytes.true)
 
 pub returns : goal.returns
-returns-then-offset_of-gt99999 c =
+returns c =
     let space = c.first-2.ensures ∙ ap (take 1) c.past.ensures in
     then_behind _ (c.offset_of.ensures ∙ ap offset_of c.first.ensures) c.if-offset_of-gt99999.false (sym (ap (same_bytes (32 ∷ [])) space) ∙ sym c.same_bytes.ensures ∙ c.if-same_bytes.false)

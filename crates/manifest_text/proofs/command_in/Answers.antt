@@ -7,4 +7,4 @@ pub returns-then-names_types : goal.returns-then-names_types
 returns-then-names_types c = c.command_behind.ensures ∙ command_is _ (sym c.names_types.ensures ∙ c.if-names_types.true)
 
 pub returns : goal.returns
-returns-then-names_types c = c.command_of.ensures ∙ command_is _ (sym c.names_types.ensures ∙ c.if-names_types.false)
+returns c = c.command_of.ensures ∙ command_is _ (sym c.names_types.ensures ∙ c.if-names_types.false)

@@ -20,5 +20,5 @@ returns-then-same_bytes-3 c =
     ∙ third_word _ (sym c.same_bytes.ensures ∙ c.if-same_bytes.false) (sym c.same_bytes-2.ensures ∙ c.if-same_bytes-2.false) c.first.ensures (sym c.same_bytes-3.ensures ∙ c.if-same_bytes-3.true)
 
 pub returns : goal.returns
-returns-then-same_bytes c =
+returns c =
     third_word _ (sym c.same_bytes.ensures ∙ c.if-same_bytes.false) (sym c.same_bytes-2.ensures ∙ c.if-same_bytes-2.false) c.first.ensures (sym c.same_bytes-3.ensures ∙ c.if-same_bytes-3.false)

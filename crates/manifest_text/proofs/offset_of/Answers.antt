@@ -13,4 +13,4 @@ pub loop-i-preserved : goal.loop-i-preserved
 loop-i-preserved c = rw c.with_digit-n.ensures (digit_more _ _ _ c.loop-i-test.true ∙ c.loop-i.invariant)
 
 pub returns : goal.returns
-returns-then-line-lt7 c = whole_offset _ c.if-line-lt7.false c.if-line-gt11.false (digits_end _ _ _ c.loop-i-test.false ∙ c.loop-i.invariant)
+returns c = whole_offset _ c.if-line-lt7.false c.if-line-gt11.false (digits_end _ _ _ c.loop-i-test.false ∙ c.loop-i.invariant)

@@ -6,4 +6,4 @@ pub returns-then-field-gt99999 : goal.returns-then-field-gt99999
 returns-then-field-gt99999 c = none_asked _ c.offset_of-field.ensures c.if-field-gt99999.true
 
 pub returns : goal.returns
-returns-then-field-gt99999 c = one_asked _ c.offset_of-field.ensures c.if-field-gt99999.false
+returns c = one_asked _ c.offset_of-field.ensures c.if-field-gt99999.false

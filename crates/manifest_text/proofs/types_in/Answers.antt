@@ -9,4 +9,4 @@ pub returns-then-names_types : goal.returns-then-names_types
 returns-then-names_types c = ap Listed (c.offset_of-size.ensures ∙ ap offset_of c.first.ensures) ∙ types_are _ (sym c.names_types.ensures ∙ c.if-names_types.true)
 
 pub returns : goal.returns
-returns-then-names_types c = types_are _ (sym c.names_types.ensures ∙ c.if-names_types.false)
+returns c = types_are _ (sym c.names_types.ensures ∙ c.if-names_types.false)

@@ -22,6 +22,6 @@ returns-then-n-gt9999 c =
 
 pub returns : goal.returns
 unfolding with_digit
-returns-then-byte-lt48 c =
+returns c =
     let a = c.args in
     rw (le-ltb a.byte 48 c.if-byte-lt48.false, le-ltb 57 a.byte c.if-byte-gt57.false, le-ltb 9999 a.n c.if-n-gt9999.false) refl

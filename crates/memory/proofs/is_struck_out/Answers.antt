@@ -8,10 +8,10 @@ pub word-end-requires : goal.word-end-requires
 word-end-requires c = (omega arith, omega arith)
 
 pub word-requires : goal.word-requires
-word-end-requires c = (omega arith, omega arith)
+word-requires c = (omega arith, omega arith)
 
 pub returns-then-place-end : goal.returns-then-place-end
 returns-then-place-end c = (struck_before _ _ _ c.word-end.ensures c.if-place-end.true c.word.ensures, λ e. omega (arith, c.if-place-end.true))
 
 pub returns : goal.returns
-returns-then-place-end c = (struck_behind _ _ _ c.word-end.ensures c.if-place-end.false, λ e. absurd (false≢true e))
+returns c = (struck_behind _ _ _ c.word-end.ensures c.if-place-end.false, λ e. absurd (false≢true e))

@@ -15,4 +15,4 @@ pub returns-then-byte_in-eq0 : goal.returns-then-byte_in-eq0
 returns-then-byte_in-eq0 c = above_unknown _ _ _ c.if-scope-eq0.false c.if-scope-eq1.false c.if-scope-ge1026.false c.byte_in.ensures c.if-byte_in-eq0.true
 
 pub returns : goal.returns
-returns-then-scope-eq0 c = above_known _ _ _ c.if-scope-eq0.false c.if-scope-eq1.false c.if-scope-ge1026.false c.byte_in.ensures c.if-byte_in-eq0.false c.two_in.ensures
+returns c = above_known _ _ _ c.if-scope-eq0.false c.if-scope-eq1.false c.if-scope-ge1026.false c.byte_in.ensures c.if-byte_in-eq0.false c.two_in.ensures

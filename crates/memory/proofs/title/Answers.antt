@@ -9,4 +9,4 @@ pub returns-then-t-gt1024 : goal.returns-then-t-gt1024
 returns-then-t-gt1024 c = title_past _ c.two_in-t.ensures c.if-t-eq0.false c.if-t-gt1024.true
 
 pub returns : goal.returns
-returns-then-t-eq0 c = title_some _ c.two_in-t.ensures c.if-t-eq0.false c.if-t-gt1024.false
+returns c = title_some _ c.two_in-t.ensures c.if-t-eq0.false c.if-t-gt1024.false

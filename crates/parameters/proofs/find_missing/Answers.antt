@@ -16,4 +16,4 @@ loop-q-preserved c = missing_further _ _ _ _ _ c.loop-q.invariant c.loop-q-test.
 
 pub returns : goal.returns
 unfolding Below
-returns-in-Empty c = (missing_nowhere _ _ _ _ _ c.loop-q.invariant c.loop-q-test.false, tt)
+returns c = (missing_nowhere _ _ _ _ _ c.loop-q.invariant c.loop-q-test.false, tt)

@@ -25,4 +25,4 @@ loop-q-preserved c = unknown_further _ _ _ _ _ c.loop-q.invariant c.loop-q-test.
 
 pub returns : goal.returns
 unfolding Below
-returns-then-end-first c = (unknown_nowhere _ _ _ _ _ c.loop-q.invariant c.loop-q-test.false, tt)
+returns c = (unknown_nowhere _ _ _ _ _ c.loop-q.invariant c.loop-q-test.false, tt)

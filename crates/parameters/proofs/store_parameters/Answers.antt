@@ -24,4 +24,4 @@ pub loop-q-preserved : goal.loop-q-preserved
 loop-q-preserved c = (search rules, store_further c.loop-q.invariant.1 c.loop-q-test.true c.store_parameter-r.ensures c.enum_told-1.given.1 c.end_of-q.ensures)
 
 pub returns : goal.returns
-returns-in-Refused c = store_ends c.loop-q.invariant.1 c.loop-q-test.false
+returns c = store_ends c.loop-q.invariant.1 c.loop-q-test.false

@@ -25,4 +25,4 @@ loop-q-preserved c = defaults_next _ _ _ _ _ c.loop-q-test.true _ c.takes_struck
 
 pub returns : goal.returns
 unfolding Near
-returns-then-none_struck_out c = (defaults_end _ _ _ _ _ c.loop-q-test.false ∙ c.loop-q.invariant, tt)
+returns c = (defaults_end _ _ _ _ _ c.loop-q-test.false ∙ c.loop-q.invariant, tt)

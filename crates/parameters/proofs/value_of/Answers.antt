@@ -9,4 +9,4 @@ pub returns-then-end_of-q : goal.returns-then-end_of-q
 returns-then-end_of-q c = value_nowhere _ _ _ c.two_at.ensures c.given-held.ensures c.enum_told-in-Empty-1.given.1 c.end_of.ensures c.if-end_of-q.true
 
 pub returns : goal.returns
-returns-in-Holds c = value_by_default _ _ _ c.two_at.ensures c.given-held.ensures c.enum_told-in-Empty-1.given.1 c.end_of.ensures c.if-end_of-q.false c.constant_at.ensures
+returns c = value_by_default _ _ _ c.two_at.ensures c.given-held.ensures c.enum_told-in-Empty-1.given.1 c.end_of.ensures c.if-end_of-q.false c.constant_at.ensures

@@ -37,4 +37,4 @@ loop-q-preserved c = struck_next _ _ _ _ _ c.loop-q-test.true c.byte_at-tag.ensu
 
 pub returns : goal.returns
 unfolding Near
-returns-then-none_struck_out c = (struck_end _ _ _ _ _ c.loop-q-test.false ∙ c.loop-q.invariant, tt)
+returns c = (struck_end _ _ _ _ _ c.loop-q-test.false ∙ c.loop-q.invariant, tt)

@@ -23,4 +23,4 @@ pub loop-q-preserved : goal.loop-q-preserved
 loop-q-preserved c = at_other _ _ _ _ _ _ _ _ c.loop-q.invariant c.loop-q-test.true c.byte_at-tag.ensures c.if-tag-eq27.false c.byte_at.ensures c.join_label.ensures c.equals_constant.ensures c.if-equals_constant.false c.end_of-q-in-loop-q.ensures
 
 pub returns : goal.returns
-returns-then-equals_constant c = at_end_lem _ _ _ _ _ _ _ _ c.loop-q.invariant c.loop-q-test.false
+returns c = at_end_lem _ _ _ _ _ _ _ _ c.loop-q.invariant c.loop-q-test.false

@@ -28,4 +28,4 @@ pub loop-p-preserved : goal.loop-p-preserved
 loop-p-preserved c = goes_on _ _ _ _ _ c.loop-p-test.true c.prints_at.ensures (not-false _ c.if-not-prints_at.false-raw) c.label_behind-last.ensures c.next_place-p.ensures c.loop-p.invariant
 
 pub returns : goal.returns
-returns-then-not-prints_at c = found_none _ _ c.requires.1.0 c.end_of-p.ensures (sym (gone_end _ _ _ _ _ c.loop-p-test.false) ∙ c.loop-p.invariant)
+returns c = found_none _ _ c.requires.1.0 c.end_of-p.ensures (sym (gone_end _ _ _ _ _ c.loop-p-test.false) ∙ c.loop-p.invariant)

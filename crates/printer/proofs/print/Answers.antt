@@ -18,4 +18,4 @@ print_chosen-requires c = (c.if-work-lt65536.false, refl)
 
 pub returns : goal.returns
 unfolding chosen
-returns-then-work-lt65536 c = c.print_chosen.ensures
+returns c = c.print_chosen.ensures

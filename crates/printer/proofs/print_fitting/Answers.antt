@@ -15,6 +15,6 @@ returns-then-out-size c =
     leaves_as (over_room _ _ c.write_whole-size.ensures c.if-size-gt65535.false (omega (arith, same, c.if-out-size.true))) same refl c.refuse-then-out-size.ensures
 
 pub returns : goal.returns
-returns-then-size-gt65535 c =
+returns c =
     let same = c.write_whole-size.auto.1.1.1.0 in
     leaves_as (fits _ _ c.write_whole-size.ensures c.if-size-gt65535.false refl (omega (arith, same, c.if-out-size.false))) same refl c.accept.ensures

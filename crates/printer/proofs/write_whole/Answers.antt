@@ -16,4 +16,4 @@ pub put_end-requires : goal.put_end-requires
 put_end-requires c = ready c.is_full.ensures c.if-is_full.false
 
 pub returns : goal.returns
-returns-then-is_full c = counts_all (items_end _ c.requires.1 c.end_of.ensures c.items-last.ensures) c.is_full.ensures c.if-is_full.false c.put_end.ensures
+returns c = counts_all (items_end _ c.requires.1 c.end_of.ensures c.items-last.ensures) c.is_full.ensures c.if-is_full.false c.put_end.ensures

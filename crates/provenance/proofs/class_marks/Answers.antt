@@ -15,4 +15,4 @@ overflow_add-number c = omega (arith, c.if-class-ge1024.false)
 
 pub returns : goal.returns
 unfolding base_for
-returns-then-class-ge1024 c = class_cell _ _ _ topBase c.if-class-ge1024.false c.marks_up.ensures
+returns c = class_cell _ _ _ topBase c.if-class-ge1024.false c.marks_up.ensures

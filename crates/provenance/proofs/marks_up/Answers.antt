@@ -68,4 +68,4 @@ pub loop-left-preserved : goal.loop-left-preserved
 loop-left-preserved c = marks_on _ _ _ _ _ _ _ (passed c.before.before.before.before) c.parent_of.ensures c.q-1.given.1
 
 pub returns : goal.returns
-returns-then-has_value c = marks_out _ _ _ _ _ _ _ c.loop-left.invariant (omega (arith, c.loop-left-test.false))
+returns c = marks_out _ _ _ _ _ _ _ c.loop-left.invariant (omega (arith, c.loop-left-test.false))

@@ -18,4 +18,4 @@ pub returns-then-contains-5 : goal.returns-then-contains-5
 returns-then-contains-5 c = held_in_value _ _ _ _ _ _ c.contains.ensures c.if-contains.false c.contains-2.ensures c.if-contains-2.false c.contains-3.ensures c.if-contains-3.false c.contains-4.ensures c.if-contains-4.false c.contains-5.ensures c.if-contains-5.true c.part_number-then-contains-5.ensures
 
 pub returns : goal.returns
-returns-then-contains c = held_nowhere _ _ _ _ _ _ c.contains.ensures c.if-contains.false c.contains-2.ensures c.if-contains-2.false c.contains-3.ensures c.if-contains-3.false c.contains-4.ensures c.if-contains-4.false c.contains-5.ensures c.if-contains-5.false
+returns c = held_nowhere _ _ _ _ _ _ c.contains.ensures c.if-contains.false c.contains-2.ensures c.if-contains-2.false c.contains-3.ensures c.if-contains-3.false c.contains-4.ensures c.if-contains-4.false c.contains-5.ensures c.if-contains-5.false

@@ -21,4 +21,4 @@ evaluate-a-requires c = (resized c.requires c.place.ensures.0, refl)
 
 pub returns : goal.returns
 unfolding no_labels
-returns-then-op-lt5 c = λ d o. skips_by_left _ _ _ _ _ o c.byte_at-op.ensures c.requires.manifest c.if-op-lt5.false c.place.ensures (λ s. fresh_told refl (c.evaluate-a.ensures.1 s) refl) (c.is_boolean.ensures _)
+returns c = λ d o. skips_by_left _ _ _ _ _ o c.byte_at-op.ensures c.requires.manifest c.if-op-lt5.false c.place.ensures (λ s. fresh_told refl (c.evaluate-a.ensures.1 s) refl) (c.is_boolean.ensures _)

@@ -17,5 +17,5 @@ pub returns-then-line-space : goal.returns-then-line-space
 returns-then-line-space c = label_alone _ _ _ c.space_place-space.ensures refl c.number_in-label.ensures c.if-label-gt255.false c.if-line-space.true
 
 pub returns : goal.returns
-returns-then-label-gt255 c =
+returns c =
     with_types _ _ _ c.space_place-space.ensures refl c.number_in-label.ensures c.if-label-gt255.false c.if-line-space.false c.after.ensures c.number_in-size.ensures c.ask_with_types.ensures

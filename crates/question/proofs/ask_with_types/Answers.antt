@@ -9,4 +9,4 @@ pub returns-then-there-size : goal.returns-then-there-size
 returns-then-there-size c = list_cut _ _ _ _ c.if-size-gt65535.false c.if-there-size.true
 
 pub returns : goal.returns
-returns-then-size-gt65535 c = list_there _ _ _ _ c.if-size-gt65535.false c.if-there-size.false
+returns c = list_there _ _ _ _ c.if-size-gt65535.false c.if-there-size.false

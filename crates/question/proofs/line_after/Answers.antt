@@ -10,4 +10,4 @@ pub overflow_add-result-2 : goal.overflow_add-result-2
 overflow_add-result-2 c = omega (arith, line_within _ _ c.if-given-feed.false c.after.ensures c.feed_place.ensures)
 
 pub returns : goal.returns
-returns-then-given-feed c = a_line _ _ c.if-given-feed.false c.after.ensures c.feed_place.ensures
+returns c = a_line _ _ c.if-given-feed.false c.after.ensures c.feed_place.ensures

@@ -15,4 +15,4 @@ returns-then-given-end c = between_all _ _ _ c.if-given-end.true
 
 pub returns : goal.returns
 unfolding line_between
-returns-then-end-feed c = refl
+returns c = refl

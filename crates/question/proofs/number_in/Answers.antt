@@ -13,4 +13,4 @@ pub returns-then-text-eq48 : goal.returns-then-text-eq48
 returns-then-text-eq48 c = number_zero _ _ c.if-text-eq0.false c.if-text-eq1.false c.if-text-eq48.true
 
 pub returns : goal.returns
-returns-then-text-eq0 c = c.number_spelled-2.ensures ∙ number_more _ _ c.if-text-eq0.false c.if-text-eq1.false c.if-text-eq48.false
+returns c = c.number_spelled-2.ensures ∙ number_more _ _ c.if-text-eq0.false c.if-text-eq1.false c.if-text-eq48.false

@@ -9,4 +9,4 @@ pub loop-i-preserved : goal.loop-i-preserved
 loop-i-preserved c = space_later _ _ c.loop-i-test.true c.if-line-i-eq32.false c.loop-i.invariant
 
 pub returns : goal.returns
-returns-then-line-i-eq32 c = space_nowhere _ _ c.loop-i-test.false c.loop-i.invariant
+returns c = space_nowhere _ _ c.loop-i-test.false c.loop-i.invariant

@@ -7,5 +7,5 @@ pub returns-then-given-lines : goal.returns-then-given-lines
 returns-then-given-lines c = feed_missing _ c.lines_of-lines.ensures c.if-given-lines.true
 
 pub returns : goal.returns
-returns-then-given-lines c =
+returns c =
     by_line _ c.lines_of-lines.ensures c.if-given-lines.false c.line_between.ensures (omega arith) c.ask.ensures

@@ -29,6 +29,6 @@ returns-then-limit-more c =
 
 pub returns : goal.returns
 unfolding with_digit
-returns-then-byte-lt48 c =
+returns c =
     let a = c.args in
     rw (le-ltb a.byte 48 c.if-byte-lt48.false, le-ltb 57 a.byte c.if-byte-gt57.false) (omega arith)

@@ -4,23 +4,14 @@ use Rattle.records.proofs.Ranges.{value_ranged}
 use Rattle.records.proofs.Values.{integer_payload, other_payload}
 use Rattle.records.proofs.put_payload.Goals as goal
 
-pub enum_known-value : goal.enum_known-value
-enum_known-value c = c.in-Integer.keys1
-
-pub enum_known-value-in-String-1 : goal.enum_known-value-in-String-1
-enum_known-value-in-String-1 c = c.in-String.keys2
-
-pub enum_known-value-in-Boolean-1 : goal.enum_known-value-in-Boolean-1
-enum_known-value-in-Boolean-1 c = c.in-Boolean.keys3
-
 pub returns-in-Integer : goal.returns-in-Integer
 returns-in-Integer c =
-    integer_payload _ _ _ (value_ranged _ _ c.well_formed.1.1.0) c.value-1.given.1 c.put_signed.ensures
+    integer_payload _ _ _ (value_ranged _ _ c.well_formed.1.1.0) c.in-Integer.is c.put_signed.ensures
 
 pub returns-in-String : goal.returns-in-String
 unfolding payload_of
-returns-in-String c = other_payload _ _ _ c.value-in-String-1.given.1 c.put_eight.ensures
+returns-in-String c = other_payload _ _ _ c.in-String.is c.put_eight.ensures
 
 pub returns-in-Boolean : goal.returns-in-Boolean
 unfolding payload_of
-returns-in-Boolean c = other_payload _ _ _ c.value-in-Boolean-1.given.1 c.put_eight-in-Boolean.ensures
+returns-in-Boolean c = other_payload _ _ _ c.in-Boolean.is c.put_eight-in-Boolean.ensures

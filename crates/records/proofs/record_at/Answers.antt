@@ -6,4 +6,4 @@ pub returns-then-kind-eq0 : goal.returns-then-kind-eq0
 returns-then-kind-eq0 c = read_nothing _ _ c.byte_in-kind.ensures c.if-kind-eq0.true
 
 pub returns : goal.returns
-returns-then-kind-eq0 c = read_value _ _ c.byte_in-kind.ensures c.if-kind-eq0.false c.value_at-value.ensures c.read_within-labels.ensures
+returns c = read_value _ _ c.byte_in-kind.ensures c.if-kind-eq0.false c.value_at-value.ensures c.read_within-labels.ensures

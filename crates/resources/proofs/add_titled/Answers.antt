@@ -28,5 +28,5 @@ check-requires c =
     (c.requires.0.memory, (omega (arith, kept.long, c.requires.0.filled), (c.requires.0.short, (least, (c.requires.1.0, (omega (arith, kept.long, c.requires.1.1), (c.requires.0.place, c.place-2.ensures.0)))))))
 
 pub returns : goal.returns
-returns-in_default c =
+returns c =
     titled_goes_on _ _ _ _ _ _ _ _ _ _ c.value-1.given.1 c.path_and_trail-outer.ensures c.union-own.ensures c.end_of.ensures c.end_of-2.ensures c.place-2.ensures c.gather-g.ensures c.g-1.given.1 (check_built _ _ _ _ _ _ _ _ _ _ _ _ c.if-not-built_in.false-raw c.check.ensures)

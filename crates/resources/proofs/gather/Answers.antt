@@ -29,4 +29,4 @@ pub shape_of-out : goal.shape_of-out
 shape_of-out c = (c.loop-q.invariant.0 _ refl).kept.long
 
 pub returns : goal.returns
-returns-in_default c = λ d e. gathering_ends (c.loop-q.invariant.0 d e) c.loop-q-test.false
+returns c = λ d e. gathering_ends (c.loop-q.invariant.0 d e) c.loop-q-test.false

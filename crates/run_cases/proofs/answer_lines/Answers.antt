@@ -18,4 +18,4 @@ pub loop-at-smaller : goal.loop-at-smaller
 loop-at-smaller c = omega (arith, c.find-end.ensures.from)
 
 pub returns : goal.returns
-returns-then-lines-end c = c.loop-at.invariant
+returns c = c.loop-at.invariant

@@ -32,4 +32,4 @@ loop-left-preserved c =
     (rw c.taken-1.given.1 at (held_then inv.0 c.read_piece-taken.ensures), (k.1.0 ∙ inv.1.0, k.1.1.0 ∙ inv.1.1))
 
 pub returns : goal.returns
-returns-in_default c = rw c.too_many_pieces.ensures failed
+returns c = rw c.too_many_pieces.ensures failed

@@ -12,4 +12,4 @@ pub returns-then-is_full : goal.returns-then-is_full
 returns-then-is_full c = λ d m input held. all_held _ (c.feed-next.ensures.more d m input held)
 
 pub returns : goal.returns
-returns-then-got-lt0 c = λ d m input held. more_held _ (c.feed-next.ensures.more d m input held)
+returns c = λ d m input held. more_held _ (c.feed-next.ensures.more d m input held)

@@ -9,4 +9,4 @@ pub returns-then-not-declares : goal.returns-then-not-declares
 returns-then-not-declares c = marks_only _ _ _ _ _ _ c.mark_names-stored.ensures c.enum_told-1.given.1 c.if-not-declares.true-raw
 
 pub returns : goal.returns
-returns-in_default c = marks_trail _ _ _ _ _ _ c.mark_names-stored.ensures c.enum_told-1.given.1 c.if-not-declares.false-raw c.join_trail.ensures
+returns c = marks_trail _ _ _ _ _ _ c.mark_names-stored.ensures c.enum_told-1.given.1 c.if-not-declares.false-raw c.join_trail.ensures

@@ -7,4 +7,4 @@ pub returns-then-two_in-p : goal.returns-then-two_in-p
 returns-then-two_in-p c = λ h. false_not_true h
 
 pub returns : goal.returns
-returns-then-two_in-p c = λ h. found_for _ _ c.two_in.ensures c.byte_in.ensures c.if-two_in-p.false h
+returns c = λ h. found_for _ _ c.two_in.ensures c.byte_in.ensures c.if-two_in-p.false h

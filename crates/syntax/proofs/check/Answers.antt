@@ -19,4 +19,4 @@ unfolding two
 count_strings-requires c = omega (arith, c.shared_slice_known-1.given 1, c.shared_slice_known-1.given 2, c.end_of-e.ensures)
 
 pub returns : goal.returns
-returns-in-Fault c = then_names _ c.check_shape-shape.ensures c.enum_told-in-Sound-1.given.1 c.end_of-e.ensures c.check_strings-strings.ensures c.enum_told-in-Sound-strings-1.given.1 c.count_strings.ensures c.check_names.ensures
+returns c = then_names _ c.check_shape-shape.ensures c.enum_told-in-Sound-1.given.1 c.end_of-e.ensures c.check_strings-strings.ensures c.enum_told-in-Sound-strings-1.given.1 c.count_strings.ensures c.check_names.ensures

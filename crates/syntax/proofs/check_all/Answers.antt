@@ -10,4 +10,4 @@ pub returns-then-m-gt65535 : goal.returns-then-m-gt65535
 returns-then-m-gt65535 c = c.wrong_length-then-m-gt65535.ensures ∙ too_long _ c.if-m-eq0.false c.if-m-gt65535.true
 
 pub returns : goal.returns
-returns-then-m-eq0 c = right_length _ c.if-m-eq0.false c.if-m-gt65535.false c.check.ensures
+returns c = right_length _ c.if-m-eq0.false c.if-m-gt65535.false c.check.ensures

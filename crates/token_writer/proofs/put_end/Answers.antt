@@ -7,4 +7,4 @@ pub returns-then-pen-eq-NONE : goal.returns-then-pen-eq-NONE
 returns-then-pen-eq-NONE c = wrote_is (end_none _ c.if-pen-eq-NONE.true) (wrote_none _ _)
 
 pub returns : goal.returns
-returns-then-pen-eq-NONE c = wrote_is (end_feed _ c.if-pen-eq-NONE.false) c.put_run.ensures
+returns c = wrote_is (end_feed _ c.if-pen-eq-NONE.false) c.put_run.ensures

@@ -15,7 +15,7 @@ returns-then-s-ge32 c =
     λ m types. constant_refused types a.s m a.out.now (ABoolean a.line a.place a.value) (omega (arith, c.if-s-ge32.true))
 
 pub returns : goal.returns
-returns-then-s-ge32 c =
+returns c =
     let a = c.args in
     λ m types. boolean_made types a.s m a.out.now (omega arith) a.line a.place c.late_with-late.ensures a.value
     (then_store a.out.now a.s.fill (0x12 ∷ high_bytes 2 2 ++ (a.line % 256 ∷ [])) (a.s.fill + 4) (high_bytes 1 a.value) c.put_label.ensures c.put_byte.ensures

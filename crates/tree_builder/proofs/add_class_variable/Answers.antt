@@ -15,7 +15,7 @@ returns-then-s-ge32 c =
     λ m types. read_refused types a.s m a.out.now (AClassVariable a.class a.name) (omega (arith, c.if-s-ge32.true))
 
 pub returns : goal.returns
-returns-then-s-ge32 c =
+returns c =
     let a = c.args in
     λ m types. class_made types a.s m a.out.now (omega arith) a.class a.name
     (then_store a.out.now a.s.fill ((0x15 ∷ high_bytes 2 4) ++ high_bytes 2 a.class) (a.s.fill + 5) (high_bytes 2 a.name)

@@ -17,7 +17,7 @@ returns-then-s-ge32 c =
     λ m types. constant_refused types a.s m a.out.now (AnInteger a.line a.place a.value) (omega (arith, c.if-s-ge32.true))
 
 pub returns : goal.returns
-returns-then-s-ge32 c =
+returns c =
     let a = c.args in
     λ m types. integer_made types a.s m a.out.now (omega arith) a.line a.place c.late_with-late.ensures a.value
     (signed_stored a.out.now a.s.fill (0x10 ∷ high_bytes 2 9 ++ (a.line % 256 ∷ [])) (a.s.fill + 4) a.value c.put_label.ensures c.put_signed.ensures (to_z-of_z w64 a.value c.ranges.value)

@@ -18,7 +18,7 @@ returns-then-s-ge32 c =
 
 pub returns : goal.returns
 unfolding IsWord
-returns-then-s-ge32 c =
+returns c =
     let a = c.args in (
       λ m types. string_made types a.s m a.out.now (omega arith) a.line a.place c.late_with-late.ensures a.name
           (then_store a.out.now a.s.fill (0x11 ∷ high_bytes 2 3 ++ (a.line % 256 ∷ [])) (a.s.fill + 4) (high_bytes 2 a.name) c.put_label.ensures c.put_two.ensures

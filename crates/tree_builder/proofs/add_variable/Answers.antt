@@ -14,7 +14,7 @@ returns-then-s-ge32 c =
     λ m types. read_refused types a.s m a.out.now (AVariable a.tag a.name) (omega (arith, c.if-s-ge32.true))
 
 pub returns : goal.returns
-returns-then-s-ge32 c =
+returns c =
     let a = c.args in
     λ m types. variable_made types a.s m a.out.now (omega arith) a.tag a.name (omega arith)
     (then_store a.out.now a.s.fill (a.tag ∷ high_bytes 2 2) (a.s.fill + 3) (high_bytes 2 a.name) c.put_header.ensures c.put_two.ensures (omega (arith, high_length 2 2))) c.with_part.ensures

@@ -10,6 +10,6 @@ returns-then-s-ge32 c =
     λ m types. void_refused types a.s m a.out.now AnyToken (omega (arith, c.if-s-ge32.true)) a.tag
 
 pub returns : goal.returns
-returns-then-s-ge32 c =
+returns c =
     let a = c.args in
     λ m types. void_made types a.s m a.out.now (omega arith) a.tag (omega arith) c.put_header.ensures c.with_part.ensures

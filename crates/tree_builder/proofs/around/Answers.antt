@@ -15,6 +15,6 @@ returns-then-s-ge32 c =
     λ types. deep_refused types a.s a.frames.now a.out.now a.tag [] (omega (arith, c.if-s-ge32.true))
 
 pub returns : goal.returns
-returns-then-s-eq0 c =
+returns c =
     let a = c.args in
     λ types. plain_made types a.s a.frames.now a.out.now c.requires.0 c.requires.1 c.lift.ensures.0 a.tag (omega arith) (omega arith) (omega arith) c.lift.ensures.1 c.lifted.ensures

@@ -16,6 +16,6 @@ returns-then-s-ge32 c =
     λ types. deep_refused types a.s a.frames.now a.out.now a.tag (byte a.operator ∷ []) (omega (arith, c.if-s-ge32.true))
 
 pub returns : goal.returns
-returns-then-s-eq0 c =
+returns c =
     let a = c.args in
     λ types. operator_made types a.s a.frames.now a.out.now c.requires.0 c.requires.1 c.lift.ensures.0 a.tag (omega (arith, c.ranges.tag)) a.operator (omega (arith, c.ranges.operator)) (omega (arith, c.if-s-eq0.false)) (omega (arith, c.if-s-ge32.false)) c.lift.ensures.1 c.put_byte.ensures c.lifted.ensures

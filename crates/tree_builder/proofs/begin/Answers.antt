@@ -19,6 +19,6 @@ pub opened-requires : goal.opened-requires
 
 pub returns : goal.returns
 unfolding DoesAt Answers act
-returns-then-s-ge32 c =
+returns c =
     let a = c.args in
     λ types table f x p shows. begin_made table a.s a.frames.now a.out.now (place_of x) a.tag f (omega arith) (omega arith) c.requires.0 c.requires.1 c.save.ensures c.put_header.ensures c.opened.ensures shows

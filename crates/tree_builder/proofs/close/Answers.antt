@@ -17,6 +17,6 @@ overflow_sub-size-2 c = omega (arith, c.requires.1.header (omega arith))
 
 pub returns : goal.returns
 unfolding DoesAt Answers act slot_in
-returns-then-s-eq0 c =
+returns c =
     let a = c.args in
     λ types table f x p shows. close_made types table a.s a.frames.now a.out.now x f (omega arith) c.requires.1 c.put_two.ensures c.number_in-slot.ensures c.closed.ensures shows

@@ -7,4 +7,4 @@ pub returns-then-s-ge32 : goal.returns-then-s-ge32
 returns-then-s-ge32 c = λ m out types. enter_refused types c.args.s m out (omega (arith, c.if-s-ge32.true))
 
 pub returns : goal.returns
-returns-then-s-ge32 c = λ m out types. enter_made types c.args.s m out (omega arith)
+returns c = λ m out types. enter_made types c.args.s m out (omega arith)

@@ -10,4 +10,4 @@ pub returns-then-line-le255 : goal.returns-then-line-le255
 returns-then-line-le255 c = let a = c.args in not_late a.late a.line a.place (omega arith) (omega arith)
 
 pub returns : goal.returns
-returns-then-late-ne0 c = let a = c.args in first_late a.late a.line a.place (omega arith) (omega arith)
+returns c = let a = c.args in first_late a.late a.line a.place (omega arith) (omega arith)

@@ -7,4 +7,4 @@ pub returns-then-s-eq0 : goal.returns-then-s-eq0
 returns-then-s-eq0 c = λ m out types. leave_refused types c.args.s m out (omega (arith, c.if-s-eq0.true))
 
 pub returns : goal.returns
-returns-then-s-eq0 c = λ m out types. leave_made types c.args.s m out (omega arith)
+returns c = λ m out types. leave_made types c.args.s m out (omega arith)

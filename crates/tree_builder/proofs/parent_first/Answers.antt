@@ -18,6 +18,6 @@ returns-then-s-eq0 c =
     λ m types. parent_only types a.s m a.out.now a.name (omega (arith, c.if-s-ge32.false)) c.move_up.ensures (then_store _ a.s.body (0x35 ∷ high_bytes 2 2) (a.s.body + 3) (high_bytes 2 a.name) c.put_header.ensures c.put_two.ensures (omega (arith, high_length 2 2))) (omega arith) c.with_part.ensures
 
 pub returns : goal.returns
-returns-then-s-ge32 c =
+returns c =
     let a = c.args in
     λ m types. parent_before types a.s m a.out.now a.name (omega (arith, c.if-s-ge32.false)) c.move_up.ensures (then_store _ a.s.body (0x35 ∷ high_bytes 2 2) (a.s.body + 3) (high_bytes 2 a.name) c.put_header.ensures c.put_two.ensures (omega (arith, high_length 2 2))) (omega arith) c.raised_by.ensures

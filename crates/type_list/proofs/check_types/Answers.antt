@@ -45,4 +45,4 @@ pub loop-q-preserved : goal.loop-q-preserved
 loop-q-preserved c = next_field _ _ _ c.loop-q-test.true _ c.is_right.ensures c.if-more-eq0.false c.loop-q.invariant (not-false _ c.if-not-is_right.false-raw) c.end_of-q.ensures
 
 pub returns : goal.returns
-returns-then-list-eq0 c = all_right _ _ _ _ c.loop-q-test.false c.loop-q.invariant
+returns c = all_right _ _ _ _ c.loop-q-test.false c.loop-q.invariant

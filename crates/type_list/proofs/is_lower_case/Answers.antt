@@ -12,4 +12,4 @@ pub loop-i-preserved : goal.loop-i-preserved
 loop-i-preserved c = is_letter_lem _ _ c.loop-i-test.true c.loop-i.invariant c.if-text-i-lt97.false c.if-text-i-gt122.false
 
 pub returns : goal.returns
-returns-then-text-i-lt97 c = all_letters _ _ c.loop-i-test.false c.loop-i.invariant
+returns c = all_letters _ _ c.loop-i-test.false c.loop-i.invariant

@@ -29,4 +29,4 @@ pub returns-then-not-is_lower_case : goal.returns-then-not-is_lower_case
 returns-then-not-is_lower_case c = other_byte _ _ _ (omega (arith, c.if-left-lt-HEADER.false, c.requires)) c.byte_in.ensures c.if-byte_in-ne2.false c.length_at-letters.ensures (omega (arith, c.if-left-letters.false, c.if-left-lt-HEADER.false, c.requires)) c.if-letters-eq0.false c.if-letters-gt-LONGEST.false c.text_of-name.ensures c.is_lower_case.ensures (not-true _ c.if-not-is_lower_case.true-raw)
 
 pub returns : goal.returns
-returns-then-left-lt-HEADER c = by_order _ _ _ (omega (arith, c.if-left-lt-HEADER.false, c.requires)) c.byte_in.ensures c.if-byte_in-ne2.false c.length_at-letters.ensures (omega (arith, c.if-left-letters.false, c.if-left-lt-HEADER.false, c.requires)) c.if-letters-eq0.false c.if-letters-gt-LONGEST.false c.text_of-name.ensures c.is_lower_case.ensures (not-false _ c.if-not-is_lower_case.false-raw) c.comes_before.ensures
+returns c = by_order _ _ _ (omega (arith, c.if-left-lt-HEADER.false, c.requires)) c.byte_in.ensures c.if-byte_in-ne2.false c.length_at-letters.ensures (omega (arith, c.if-left-letters.false, c.if-left-lt-HEADER.false, c.requires)) c.if-letters-eq0.false c.if-letters-gt-LONGEST.false c.text_of-name.ensures c.is_lower_case.ensures (not-false _ c.if-not-is_lower_case.false-raw) c.comes_before.ensures

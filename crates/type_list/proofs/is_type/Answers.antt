@@ -12,4 +12,4 @@ pub returns-then-count-before : goal.returns-then-count-before
 returns-then-count-before c = all_before _ _ _ _ c.requires c.if-list-eq0.false c.count_before-before.ensures c.if-count-before.true
 
 pub returns : goal.returns
-returns-then-list-eq0 c = by_this _ _ _ _ c.requires c.if-list-eq0.false c.count_before-before.ensures c.if-count-before.false c.two_at-place.ensures c.text_of-name.ensures c.same_bytes.ensures
+returns c = by_this _ _ _ _ c.requires c.if-list-eq0.false c.count_before-before.ensures c.if-count-before.false c.two_at-place.ensures c.text_of-name.ensures c.same_bytes.ensures

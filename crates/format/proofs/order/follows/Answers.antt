@@ -13,4 +13,4 @@ pub loop-left-preserved : goal.loop-left-preserved
 loop-left-preserved c = rw c.enum_told-in-Passes-1.given.1 at c.takes.ensures ∙ c.loop-left.invariant
 
 pub returns : goal.returns
-returns-in-Parts c = none_left_over _ _ c.loop-left-test.false ∙ c.loop-left.invariant
+returns c = none_left_over _ _ c.loop-left-test.false ∙ c.loop-left.invariant

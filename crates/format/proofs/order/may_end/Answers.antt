@@ -17,4 +17,4 @@ loop-left-preserved c =
     (omega arith, others_decide _ (omega arith) (λ k. n.0.1 (e ∙ k)) (λ k. n.1 (e ∙ k)) ∙ c.loop-left.invariant.1)
 
 pub returns : goal.returns
-returns-in-16 c = nothing_needed _ c.loop-left-test.false ∙ c.loop-left.invariant.1
+returns c = nothing_needed _ c.loop-left-test.false ∙ c.loop-left.invariant.1

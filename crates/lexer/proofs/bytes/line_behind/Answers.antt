@@ -7,4 +7,4 @@ pub returns-then-c-eq10 : goal.returns-then-c-eq10
 returns-then-c-eq10 c = rw (c.if-c-eq10.true, add-one)
 
 pub returns : goal.returns
-returns-then-c-eq10 c = rw (ne_eqb c.args.c 0x0a c.if-c-eq10.false)
+returns c = rw (ne_eqb c.args.c 0x0a c.if-c-eq10.false)

@@ -22,7 +22,7 @@ loop-i-preserved c =
     comment_on l.invariant (record { low = omega arith; high = omega arith; goes_on = λ o line. comment_passed t l.i o line (omega arith) (ne_eqb (get_or t l.i 0) 0x0a c.if-text-i-eq10.false) })
 
 pub returns : goal.returns
-returns-then-text-i-eq10 c =
+returns c =
     let l = c.loop-i in
     let t = c.args.text.now in
     record { low = l.invariant.low; high = l.invariant.high; same_tokens = λ o line. l.invariant.goes_on o line ∙ comment_finished t l.i o line (omega arith) }

@@ -8,4 +8,4 @@ pub returns-then-text-at-lt4 : goal.returns-then-text-at-lt4
 returns-then-text-at-lt4 c = λ e. absurd (false_not_true e)
 
 pub returns : goal.returns
-returns-then-text-at-lt4 c = four_passed _ _ (omega (arith, c.if-text-at-lt4.false))
+returns c = four_passed _ _ (omega (arith, c.if-text-at-lt4.false))

@@ -17,7 +17,7 @@ returns-then-c-eq35 c =
     record { low = omega (arith, run.low); high = run.high; same_tokens = λ o line. comment_begun t p o line c.requires.0 here ∙ run.same_tokens o line ∙ rw here }
 
 pub returns : goal.returns
-returns-then-c-eq35 c =
+returns c =
     let t = c.args.text.now in
     let p = c.args.at in
     let space : is_space (get_or t p 0) ≡ true = rw (sym c.requires.1) (gap_no_comment c.args.c c.requires.2 (ne_eqb c.args.c 0x23 c.if-c-eq35.false)) in

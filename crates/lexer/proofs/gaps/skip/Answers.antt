@@ -31,6 +31,6 @@ loop-at-preserved c =
     (omega (arith, run.low), run.high, omega arith, omega (arith, run.low), λ o. l.invariant.4 o ∙ run.same_tokens o l.line ∙ rw behind)
 
 pub returns : goal.returns
-returns-then-not-is_gap c =
+returns c =
     let inv = c.loop-at.invariant in
     record { low = inv.0; high = inv.1; line_low = inv.2; line_bound = inv.3; same_tokens = inv.4; stops = λ h. absurd (omega arith) }

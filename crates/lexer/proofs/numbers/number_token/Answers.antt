@@ -29,7 +29,7 @@ returns-then-largest-n c =
     λ o begun. rw c.plain-then-largest-n.ensures (number_large a.text.now a.start a.line o a.from a.negative c.requires.0 c.requires.1 begun d.result run (sym c.word_at.ensures ∙ c.if-word_at.false) (omega arith))
 
 pub returns : goal.returns
-returns-then-word_at c =
+returns c =
     let a = c.args in
     let d = c.read_digits-d in
     let run : DigitsRun a.text.now (a.from + 1) (get_or a.text.now a.from 0 - 0x30) d.result = rw c.wide.ensures at d.ensures in

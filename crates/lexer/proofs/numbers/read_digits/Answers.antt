@@ -41,6 +41,6 @@ loop-i-preserved c =
     (omega arith, omega arith, λ p k s. l.invariant.2 p k s ∙ digit_read t l.i l.n p k s (omega arith) more ∙ rw (sym c.wide.ensures))
 
 pub returns : goal.returns
-returns-then-not-is_more c =
+returns c =
     let l = c.loop-i in
     record { low = l.invariant.0; high = l.invariant.1; same_tokens = l.invariant.2; stops = λ h. absurd (omega arith) }

@@ -42,7 +42,7 @@ overflow_sub-result c =
     rw (minus_word (c.args.n - 1) (omega arith)) (record { sfits = omega arith })
 
 pub returns : goal.returns
-returns-then-not-negative c =
+returns c =
     let minus : c.args.negative ≡ true = not-false c.args.negative c.if-not-negative.false-raw in
     let high : c.args.n ≤ 9223372036854775808 = rw minus at c.requires in
     rw minus (minus_bits (c.args.n - 1) (omega arith) ∙ sym (negative_number c.args.n (omega arith)))

@@ -10,6 +10,6 @@ returns-then-at-text c =
     rw (lt-ltb a.at (length a.text.now) (omega arith)) c.in_word.ensures
 
 pub returns : goal.returns
-returns-then-at-text c =
+returns c =
     let a = c.args in
     rw (le-ltb a.at (length a.text.now) (omega arith))

@@ -17,7 +17,7 @@ returns-then-c-eq62 c =
     λ o. rw c.plain-then-c-eq62.ensures (arrow_found a.text.now a.start a.line o c.requires.1 c.requires.0 c.requires.2 (sym c.byte_at-c.ensures ∙ c.if-c-eq62.true))
 
 pub returns : goal.returns
-returns-then-c-eq61 c =
+returns c =
     let a = c.args in
     let b = c.byte_at-c in
     let next = get_or a.text.now (a.start + 1) 0 in

@@ -21,7 +21,7 @@ returns-then-is_digit c =
     c.number_token.ensures true (minus_number a.text.now a.start a.line c.requires.1 c.requires.0 c.requires.2 digit)
 
 pub returns : goal.returns
-returns-then-is_digit c =
+returns c =
     let a = c.args in
     let other : is_digit (get_or a.text.now (a.start + 1) 0) ≡ false = ap is_digit (sym c.byte_at.ensures) ∙ sym c.is_digit.ensures ∙ c.if-is_digit.false in
     rw c.plain.ensures (minus_found a.text.now a.start a.line c.requires.1 c.requires.0 c.requires.2 other)

@@ -11,6 +11,6 @@ returns-then-kind-eq0 c =
     c.plain.ensures ∙ no_sign_meant c.sign_kind-kind.result (find a.c signs) a.start a.line c.sign_kind-kind.ensures (eq-eqb c.sign_kind-kind.result 0 c.if-kind-eq0.true)
 
 pub returns : goal.returns
-returns-then-kind-eq0 c =
+returns c =
     let a = c.args in
     c.plain-2.ensures ∙ sign_meant c.sign_kind-kind.result (find a.c signs) a.start a.line c.sign_kind-kind.ensures (ne_eqb c.sign_kind-kind.result 0 c.if-kind-eq0.false)

@@ -19,7 +19,7 @@ returns-then-escape_at c =
     rw (eq-eqb (get_or a.text.now a.at 0) 0x5c c.if-text-at-ne92.false, letter)
 
 pub returns : goal.returns
-returns-then-text-at-ne92 c =
+returns c =
     let a = c.args in
     let letter : escape_at a.text.now (a.at + 1) ≡ false = sym c.escape_at.ensures ∙ c.if-escape_at.false in
     rw (eq-eqb (get_or a.text.now a.at 0) 0x5c c.if-text-at-ne92.false, letter)

@@ -67,7 +67,7 @@ loop-i-preserved c =
     (omega arith, omega (arith, piece_high a.text.now l.i (omega arith)), omega arith, omega arith, omega arith, rw (size, behind) (part_more a.text.now a.quote l.i l.here (omega arith) other l.invariant.5 (omega arith)))
 
 pub returns : goal.returns
-returns-then-c-quote c =
+returns c =
     let l = c.loop-i in
     record {
       low = omega arith;

@@ -17,7 +17,7 @@ returns-then-s-gt255 c =
     λ o. rw c.plain-then-s-gt255.ensures (string_long a.text.now a.start a.line o c.requires.0 c.requires.1 c.requires.2 q.result q.ensures (not-false _ c.if-not-s.false) (omega arith))
 
 pub returns : goal.returns
-returns-then-not-s c =
+returns c =
     let a = c.args in
     let q = c.read_string-s in
     λ o. string_found a.text.now a.start a.line o c.requires.0 c.requires.1 c.requires.2 q.result q.ensures (not-false _ c.if-not-s.false) (omega arith)

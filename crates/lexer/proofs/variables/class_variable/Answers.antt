@@ -37,7 +37,7 @@ returns-then-not-is_name-2 c =
     λ o. rw c.plain-then-not-is_name-2.ensures (variable_no_name a.text.now a.start a.line a.colons c.requires.0 c.requires.1 o c.word_end-end.result letter c.word_end-end.ensures named (sym c.is_name-2.ensures ∙ not-true _ c.if-not-is_name-2.true-raw))
 
 pub returns : goal.returns
-returns-then-text-from c =
+returns c =
     let a = c.args in
     let letter = sym c.is_letter.ensures ∙ not-false _ c.if-not-is_letter.false-raw in
     let named = sym c.is_name.ensures ∙ not-false _ c.if-not-is_name.false-raw in

@@ -43,7 +43,7 @@ returns-then-not-is_name c =
     λ o. rw c.plain-then-not-is_name.ensures (top_no_name a.text.now a.start a.line e.result top o (sym c.two_colons.ensures ∙ c.if-two_colons.false) (sym c.is_name.ensures ∙ not-true _ c.if-not-is_name.true-raw))
 
 pub returns : goal.returns
-returns-then-text-start-le3 c =
+returns c =
     let a = c.args in
     let letter = sym c.is_letter.ensures ∙ not-false _ c.if-not-is_letter.false-raw in
     let e = c.word_end-end in

@@ -18,7 +18,7 @@ returns-then-not-is_name c =
     λ o. rw c.plain.ensures (variable_faulty a.text.now a.start a.line o e.result c.requires.2 c.requires.3 e.ensures c.requires.1 (sym c.is_name.ensures ∙ not-true _ c.if-not-is_name.true-raw))
 
 pub returns : goal.returns
-returns-then-not-is_name c =
+returns c =
     let a = c.args in
     let e = c.word_end-end in
     λ o. rw c.plain-2.ensures (variable_found a.text.now a.start a.line o e.result c.requires.2 c.requires.3 e.ensures c.requires.1 (sym c.is_name.ensures ∙ not-false _ c.if-not-is_name.false-raw))

@@ -11,6 +11,6 @@ returns-then-text-at-lt2 c =
     rw (le-ltb (a.at + 1) (length a.text.now) (omega arith))
 
 pub returns : goal.returns
-returns-then-text-at-lt2 c =
+returns c =
     let a = c.args in
     rw (lt-ltb (a.at + 1) (length a.text.now) (omega arith))

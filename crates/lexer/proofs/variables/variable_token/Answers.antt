@@ -15,6 +15,6 @@ simple_variable-requires c =
     (omega arith, c.requires.1, c.requires.2, sym c.is_letter.ensures ∙ c.if-is_letter.true)
 
 pub returns : goal.returns
-returns-then-text-from c =
+returns c =
     let a = c.args in
     λ o. rw c.plain-2.ensures (dollar_alone a.text.now a.start a.line o c.requires.1 c.requires.0 c.requires.2 (λ h. (sym c.is_letter.ensures ∙ c.if-is_letter.false, ne_eqb _ 0x3a c.if-c-eq58.false)))

@@ -12,7 +12,7 @@ returns-then-end-start-gt255 c =
     sym (long_no_name (slice a.start a.end a.text.now) (omega arith))
 
 pub returns : goal.returns
-returns-then-end-start-gt255 c =
+returns c =
     let a = c.args in
     let size = length-slice a.start a.end a.text.now c.requires.high in
     sym (name_by_kind (slice a.start a.end a.text.now) c.keyword_at.result (omega arith) c.keyword_at.ensures)

@@ -13,7 +13,7 @@ returns-then-end-start-gt8 c =
     sym (long_no_keyword (slice a.start a.end a.text.now) (omega arith))
 
 pub returns : goal.returns
-returns-then-end-start-gt8 c =
+returns c =
     let a = c.args in
     let run = c.requires in
     c.keyword_kind.ensures ∙ rw c.word_number.ensures

@@ -27,6 +27,6 @@ loop-i-preserved c =
 
 -- src/lib.rt:36:1
 pub returns : goal.returns
-returns-then-not-in_word c =
+returns c =
     let inv = c.loop-i.invariant in
     record { low = inv.0; high = inv.1; inside = inv.2; stops = λ h. absurd (omega arith) }

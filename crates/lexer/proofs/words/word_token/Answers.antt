@@ -16,6 +16,6 @@ keyword_at-requires c =
     with_letter c.args.text.now c.args.start (c.args.start + 1) c.word_end-end.result refl c.requires.2 c.word_end-end.ensures
 
 pub returns : goal.returns
-returns-then-end-start-gt255 c =
+returns c =
     let a = c.args in
     λ o. rw c.plain-2.ensures (word_found a.text.now a.start a.line o c.word_end-end.result c.requires.2 c.word_end-end.ensures c.requires.1 (omega arith) c.keyword_at.result c.keyword_at.ensures)

@@ -12,4 +12,4 @@ returns-then-token-eq0 c = λ m types table f x k shows. c.add_variable-then-tok
 
 pub returns : goal.returns
 unfolding DoesAt
-returns-then-token-eq-A_VARIABLE c = λ m types table f x k shows. c.add_class_variable.ensures m types table f x (k.qualified c.if-token-eq-A_VARIABLE.false c.if-token-eq0.false) shows
+returns c = λ m types table f x k shows. c.add_class_variable.ensures m types table f x (k.qualified c.if-token-eq-A_VARIABLE.false c.if-token-eq0.false) shows

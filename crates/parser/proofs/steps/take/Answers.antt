@@ -35,4 +35,4 @@ pub returns-in-No : goal.returns-in-No
 returns-in-No c = c.loop-n.invariant.goes_on _ _ _ _ (λ types. out_stuck types _ _ _ _ _ _ _ (omega arith) c.row-w.result c.row-w.ensures c.if-w.false _ _ _ c.enum_told-1.given.1 (leaves_done types _ c.left_out-left.result c.left_out-left.ensures _ _ _ (not-false _ c.if-not-left.false) _ _ _ _ _ (c.do_actions.ensures.0 types)))
 
 pub returns : goal.returns
-returns-then-w c = c.loop-n.invariant.goes_on _ _ _ _ (λ types. none_left types _ _ _ _ _ _ _ (omega arith))
+returns c = c.loop-n.invariant.goes_on _ _ _ _ (λ types. none_left types _ _ _ _ _ _ _ (omega arith))

@@ -10,4 +10,4 @@ pub returns-then-second-gt1024 : goal.returns-then-second-gt1024
 returns-then-second-gt1024 c = name_crowds _ _ _ c.requires.0 _ _ _ _ _ c.enter-first.ensures _ _ _ c.enter-second.ensures (omega arith) (omega arith)
 
 pub returns : goal.returns
-returns-then-first-gt1024 c = both_entered _ _ _ c.requires.0 _ _ _ _ _ c.enter-first.ensures _ _ _ c.enter-second.ensures (omega arith) _ _ _ c.enter-class.ensures (omega arith)
+returns c = both_entered _ _ _ c.requires.0 _ _ _ _ _ c.enter-first.ensures _ _ _ c.enter-second.ensures (omega arith) _ _ _ c.enter-class.ensures (omega arith)

@@ -8,4 +8,4 @@ pub returns-then-is_type : goal.returns-then-is_type
 returns-then-is_type c = λ e. let p = c.requires.1 in tag_of _ _ _ _ p.0 p.1 true (sym c.is_type.ensures ∙ c.if-is_type.true)
 
 pub returns : goal.returns
-returns-then-token-ne-A_WORD c = λ e. let p = c.requires.1 in tag_of _ _ _ _ p.0 p.1 false (sym c.is_type.ensures ∙ c.if-is_type.false)
+returns c = λ e. let p = c.requires.1 in tag_of _ _ _ _ p.0 p.1 false (sym c.is_type.ensures ∙ c.if-is_type.false)

@@ -9,4 +9,4 @@ returns-then-kind-eq-LEFT_SQUARE c = rw c.if-kind-eq-LEFT_SQUARE.true
 
 pub returns : goal.returns
 unfolding word_for
-returns-then-kind-eq-LEFT_SQUARE c = rw (ne_eqb c.args.kind 11 c.if-kind-eq-LEFT_SQUARE.false)
+returns c = rw (ne_eqb c.args.kind 11 c.if-kind-eq-LEFT_SQUARE.false)

@@ -9,4 +9,4 @@ pub returns-then-tag-gt18 : goal.returns-then-tag-gt18
 returns-then-tag-gt18 c = label_kept _ _ _ _ c.byte_in-tag.ensures (above_constants _ c.if-tag-gt18.true)
 
 pub returns : goal.returns
-returns-then-tag-lt16 c = label_new _ _ _ _ c.byte_in-tag.ensures (among_constants _ c.if-tag-lt16.false c.if-tag-gt18.false) c.byte_at.ensures
+returns c = label_new _ _ _ _ c.byte_in-tag.ensures (among_constants _ c.if-tag-lt16.false c.if-tag-gt18.false) c.byte_at.ensures

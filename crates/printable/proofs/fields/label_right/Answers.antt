@@ -9,4 +9,4 @@ pub returns-then-tag-gt18 : goal.returns-then-tag-gt18
 returns-then-tag-gt18 c = let a = c.args in no_label _ a.m.now _ a.p _ (above_constants _ c.if-tag-gt18.true)
 
 pub returns : goal.returns
-returns-then-tag-lt16 c = let a = c.args in its_label _ a.m.now _ a.p _ (among_constants _ c.if-tag-lt16.false c.if-tag-gt18.false) c.byte_at.ensures
+returns c = let a = c.args in its_label _ a.m.now _ a.p _ (among_constants _ c.if-tag-lt16.false c.if-tag-gt18.false) c.byte_at.ensures

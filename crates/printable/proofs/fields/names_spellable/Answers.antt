@@ -9,4 +9,4 @@ pub returns-then-tag-eq49 : goal.returns-then-tag-eq49
 returns-then-tag-eq49 c = let a = c.args in device_spelled _ a.m.now a.p _ c.if-tag-eq17.false c.if-tag-eq49.true
 
 pub returns : goal.returns
-returns-then-tag-eq17 c = pieces_decide _ _ _ _ c.if-tag-eq17.false c.if-tag-eq49.false (c.pieces_spellable.ensures _ c.line_of.ensures)
+returns c = pieces_decide _ _ _ _ c.if-tag-eq17.false c.if-tag-eq49.false (c.pieces_spellable.ensures _ c.line_of.ensures)

@@ -10,4 +10,4 @@ pub returns-then-not-names_spellable : goal.returns-then-not-names_spellable
 returns-then-not-names_spellable c = names_wrong _ _ _ _ _ c.byte_in-tag.ensures c.label_right.ensures (not-false _ c.if-not-label_right.false-raw) c.names_spellable.ensures (not-true _ c.if-not-names_spellable.true-raw)
 
 pub returns : goal.returns
-returns-then-not-label_right c = type_decides _ _ _ _ _ c.byte_in-tag.ensures c.label_right.ensures (not-false _ c.if-not-label_right.false-raw) c.names_spellable.ensures (not-false _ c.if-not-names_spellable.false-raw) c.type_right.ensures
+returns c = type_decides _ _ _ _ _ c.byte_in-tag.ensures c.label_right.ensures (not-false _ c.if-not-label_right.false-raw) c.names_spellable.ensures (not-false _ c.if-not-names_spellable.false-raw) c.type_right.ensures

@@ -10,4 +10,4 @@ pub loop-i-preserved : goal.loop-i-preserved
 loop-i-preserved c = one_in_word _ _ c.loop-i-test.true c.in_word.ensures (not-false _ c.if-not-in_word.false-raw) c.loop-i.invariant
 
 pub returns : goal.returns
-returns-then-not-in_word c = all_passed_lem _ _ c.loop-i-test.false c.loop-i.invariant
+returns c = all_passed_lem _ _ c.loop-i-test.false c.loop-i.invariant

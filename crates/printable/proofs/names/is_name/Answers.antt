@@ -16,4 +16,4 @@ pub returns-then-bytes-gt8 : goal.returns-then-bytes-gt8
 returns-then-bytes-gt8 c = long_name _ c.if-bytes-eq0.false c.is_letter.ensures (not-false _ c.if-not-is_letter.false-raw) c.all_in_word.ensures (not-false _ c.if-not-all_in_word.false-raw) c.if-bytes-gt8.true
 
 pub returns : goal.returns
-returns-then-bytes-eq0 c = short_name _ c.if-bytes-eq0.false c.is_letter.ensures (not-false _ c.if-not-is_letter.false-raw) c.all_in_word.ensures (not-false _ c.if-not-all_in_word.false-raw) c.word_number.ensures c.is_no_keyword.ensures
+returns c = short_name _ c.if-bytes-eq0.false c.is_letter.ensures (not-false _ c.if-not-is_letter.false-raw) c.all_in_word.ensures (not-false _ c.if-not-all_in_word.false-raw) c.word_number.ensures c.is_no_keyword.ensures

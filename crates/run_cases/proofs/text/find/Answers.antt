@@ -13,4 +13,4 @@ pub loop-at-preserved : goal.loop-at-preserved
 loop-at-preserved c = (omega arith, omega arith, below_more _ _ c.loop-at.invariant.2 (λ h. c.if-text-at.false))
 
 pub returns : goal.returns
-returns-then-text-at c = record { from = c.loop-at.invariant.0; within = c.loop-at.invariant.1; before = c.loop-at.invariant.2; found = λ h. absurd (omega arith) }
+returns c = record { from = c.loop-at.invariant.0; within = c.loop-at.invariant.1; before = c.loop-at.invariant.2; found = λ h. absurd (omega arith) }

@@ -21,4 +21,4 @@ returns-then-b-lt103 c = rw (le-ltb _ 48 c.if-b-lt48.false, le-ltb _ 58 c.if-b-l
 
 pub returns : goal.returns
 unfolding hex_value
-returns-then-b-lt48 c = rw (le-ltb _ 48 c.if-b-lt48.false, le-ltb _ 58 c.if-b-lt58.false, le-ltb _ 97 c.if-b-lt97.false, le-ltb _ 103 c.if-b-lt103.false)
+returns c = rw (le-ltb _ 48 c.if-b-lt48.false, le-ltb _ 58 c.if-b-lt58.false, le-ltb _ 97 c.if-b-lt97.false, le-ltb _ 103 c.if-b-lt103.false)

@@ -14,4 +14,4 @@ pub returns-then-low-gt15 : goal.returns-then-low-gt15
 returns-then-low-gt15 c = second_no_digit _ _ _ _ c.hex_value-high.ensures c.if-high-gt15.false c.hex_value-low.ensures c.if-low-gt15.true
 
 pub returns : goal.returns
-returns-then-text-i-lt2 c = two_digits _ _ _ _ c.hex_value-high.ensures c.if-high-gt15.false c.hex_value-low.ensures c.if-low-gt15.false
+returns c = two_digits _ _ _ _ c.hex_value-high.ensures c.if-high-gt15.false c.hex_value-low.ensures c.if-low-gt15.false

@@ -25,4 +25,4 @@ pub shape_of-into : goal.shape_of-into
 shape_of-into c = reading_length _ _ _ _ _ c.loop-n.invariant
 
 pub returns : goal.returns
-returns-then-pair-gt255 c = reading_full _ _ _ _ _ c.loop-n.invariant c.loop-n-test.false
+returns c = reading_full _ _ _ _ _ c.loop-n.invariant c.loop-n-test.false

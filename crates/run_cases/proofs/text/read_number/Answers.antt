@@ -14,4 +14,4 @@ pub loop-i-preserved : goal.loop-i-preserved
 loop-i-preserved c = (rw c.with_digit-n.ensures (number_more _ _ _ _ _ c.loop-i-test.true c.hex_value-digit.ensures c.if-digit-gt9.false ∙ c.loop-i.invariant.0), omega (arith, c.with_digit-n.ensures))
 
 pub returns : goal.returns
-returns-then-digit-gt9 c = (number_ends _ _ _ _ c.loop-i-test.false ∙ c.loop-i.invariant.0, c.loop-i.invariant.1)
+returns c = (number_ends _ _ _ _ c.loop-i-test.false ∙ c.loop-i.invariant.0, c.loop-i.invariant.1)

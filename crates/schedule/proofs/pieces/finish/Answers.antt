@@ -6,4 +6,4 @@ pub returns-then-line-at : goal.returns-then-line-at
 returns-then-line-at c = finished_long _ _ c.if-line-at.true c.clear_rest.ensures
 
 pub returns : goal.returns
-returns-then-line-at c = finished_whole _ _ c.if-line-at.false c.clear_rest-2.ensures
+returns c = finished_whole _ _ c.if-line-at.false c.clear_rest-2.ensures

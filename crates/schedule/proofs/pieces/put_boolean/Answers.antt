@@ -8,4 +8,4 @@ returns-then-b c = rw c.if-b.true c.put_text.ensures
 
 pub returns : goal.returns
 unfolding boolean_text
-returns-then-b c = rw c.if-b.false c.put_text-2.ensures
+returns c = rw c.if-b.false c.put_text-2.ensures

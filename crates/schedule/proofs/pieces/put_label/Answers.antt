@@ -9,4 +9,4 @@ returns-then-first c = rw c.if-first.true c.put_number.ensures
 
 pub returns : goal.returns
 unfolding one_label_text
-returns-then-first c = rw c.if-first.false (then_piece _ _ _ _ c.put_text-comma.ensures c.put_number-2.ensures)
+returns c = rw c.if-first.false (then_piece _ _ _ _ c.put_text-comma.ensures c.put_number-2.ensures)

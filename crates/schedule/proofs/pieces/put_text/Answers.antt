@@ -9,4 +9,4 @@ pub returns-then-line-at-2 : goal.returns-then-line-at-2
 returns-then-line-at-2 c = piece_long _ _ _ c.copy_into.ensures c.if-line-at.false c.if-line-at-2.true
 
 pub returns : goal.returns
-returns-then-line-at c = piece_fits _ _ _ c.copy_into.ensures c.if-line-at.false c.if-line-at-2.false
+returns c = piece_fits _ _ _ c.copy_into.ensures c.if-line-at.false c.if-line-at-2.false

@@ -6,4 +6,4 @@ pub returns-then-strings-n : goal.returns-then-strings-n
 returns-then-strings-n c = no_string_lem _ _ _ _ c.if-strings-n.true
 
 pub returns : goal.returns
-returns-then-strings-n c = its_string _ _ _ _ c.if-strings-n.false c.two_at.ensures c.text_of.ensures
+returns c = its_string _ _ _ _ c.if-strings-n.false c.two_at.ensures c.text_of.ensures

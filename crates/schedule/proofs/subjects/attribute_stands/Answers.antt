@@ -12,4 +12,4 @@ pub returns-then-end_of-end : goal.returns-then-end_of-end
 returns-then-end_of-end c = other_end _ _ _ c.byte_at.ensures c.if-byte_at-ne65.false c.end_of-end.ensures c.if-e-end.false c.end_of.ensures c.if-end_of-end.true
 
 pub returns : goal.returns
-returns-then-byte_at-ne65 c = value_tested _ _ _ c.byte_at.ensures c.if-byte_at-ne65.false c.end_of-end.ensures c.if-e-end.false c.end_of.ensures c.if-end_of-end.false c.byte_at-2.ensures c.length_at.ensures c.value_right.ensures
+returns c = value_tested _ _ _ c.byte_at.ensures c.if-byte_at-ne65.false c.end_of-end.ensures c.if-e-end.false c.end_of.ensures c.if-end_of-end.false c.byte_at-2.ensures c.length_at.ensures c.value_right.ensures

@@ -9,4 +9,4 @@ pub returns-then-length_at-lt-BEFORE_ATTRIBUTES : goal.returns-then-length_at-lt
 returns-then-length_at-lt-BEFORE_ATTRIBUTES c = short_entry _ _ c.byte_at.ensures c.if-byte_at-ne64.false c.length_at.ensures c.if-length_at-lt-BEFORE_ATTRIBUTES.true
 
 pub returns : goal.returns
-returns-then-byte_at-ne64 c = entry_end _ _ c.byte_at.ensures c.if-byte_at-ne64.false c.length_at.ensures c.if-length_at-lt-BEFORE_ATTRIBUTES.false c.end_of.ensures
+returns c = entry_end _ _ c.byte_at.ensures c.if-byte_at-ne64.false c.length_at.ensures c.if-length_at-lt-BEFORE_ATTRIBUTES.false c.end_of.ensures

@@ -6,4 +6,4 @@ pub returns-then-q-e : goal.returns-then-q-e
 returns-then-q-e c = next_entry _ _ _ c.if-q-e.true
 
 pub returns : goal.returns
-returns-then-q-e c = next_attribute _ _ _ c.if-q-e.false
+returns c = next_attribute _ _ _ c.if-q-e.false

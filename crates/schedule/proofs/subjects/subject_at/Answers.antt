@@ -16,4 +16,4 @@ pub returns-then-entry_stands : goal.returns-then-entry_stands
 returns-then-entry_stands c = in_entry _ _ c.if-catalog-gt-LONGEST.false c.if-catalog-p.false c.entry_stands.ensures c.if-entry_stands.true c.end_of.ensures c.subject_in.ensures
 
 pub returns : goal.returns
-returns-then-catalog-gt-LONGEST c = broken_entry _ _ c.if-catalog-gt-LONGEST.false c.if-catalog-p.false c.entry_stands.ensures c.if-entry_stands.false
+returns c = broken_entry _ _ c.if-catalog-gt-LONGEST.false c.if-catalog-p.false c.entry_stands.ensures c.if-entry_stands.false

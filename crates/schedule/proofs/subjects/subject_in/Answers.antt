@@ -15,4 +15,4 @@ pub returns-then-attribute_stands : goal.returns-then-attribute_stands
 returns-then-attribute_stands c = an_attribute _ _ _ _ c.if-e-q.false c.if-q-p-2.false c.attribute_stands.ensures c.if-attribute_stands.true c.end_of.ensures c.next_in-then-attribute_stands.ensures
 
 pub returns : goal.returns
-returns-then-q-p c = broken_attribute _ _ _ _ c.if-e-q.false c.if-q-p-2.false c.attribute_stands.ensures c.if-attribute_stands.false
+returns c = broken_attribute _ _ _ _ c.if-e-q.false c.if-q-p-2.false c.attribute_stands.ensures c.if-attribute_stands.false

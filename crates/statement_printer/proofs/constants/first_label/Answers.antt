@@ -23,4 +23,4 @@ pub loop-q-preserved : goal.loop-q-preserved
 loop-q-preserved c = walk_goes _ _ _ _ c.loop-q-test.true c.byte_in.ensures c.is_constant.ensures c.if-is_constant.false c.next_place-q.ensures c.loop-q.invariant
 
 pub returns : goal.returns
-returns-then-is_constant c = sym (label_end _ _ _ _ c.loop-q-test.false) ∙ c.loop-q.invariant
+returns c = sym (label_end _ _ _ _ c.loop-q-test.false) ∙ c.loop-q.invariant

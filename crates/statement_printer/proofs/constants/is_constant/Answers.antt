@@ -16,4 +16,4 @@ pub returns-then-tag-lt16 : goal.returns-then-tag-lt16
 returns-then-tag-lt16 c = sym (below_constants _ c.if-tag-lt16.true)
 
 pub returns : goal.returns
-returns-then-tag-lt16 c = by_bound _ c.if-tag-lt16.false
+returns c = by_bound _ c.if-tag-lt16.false

@@ -9,4 +9,4 @@ pub returns-then-byte_at-eq27 : goal.returns-then-byte_at-eq27
 returns-then-byte_at-eq27 c = default_pattern_passes _ _ _ c.byte_at.ensures c.if-byte_at-eq27.true c.end_of-body.ensures c.end_of.ensures c.first_label-line.ensures c.write_mark.ensures
 
 pub returns : goal.returns
-returns-then-byte_at-eq27 c = constant_pattern_passes _ _ _ c.byte_at.ensures c.if-byte_at-eq27.false c.write_constant.ensures
+returns c = constant_pattern_passes _ _ _ c.byte_at.ensures c.if-byte_at-eq27.false c.write_constant.ensures

@@ -6,4 +6,4 @@ pub returns-then-tight : goal.returns-then-tight
 returns-then-tight c = none_closed _ c.if-tight.true
 
 pub returns : goal.returns
-returns-then-tight c = one_closed _ c.if-tight.false c.write_mark.ensures
+returns c = one_closed _ c.if-tight.false c.write_mark.ensures

@@ -6,4 +6,4 @@ pub returns-then-later : goal.returns-then-later
 returns-then-later c = one_comma _ c.if-later.true c.write_mark.ensures
 
 pub returns : goal.returns
-returns-then-later c = no_comma _ c.if-later.false
+returns c = no_comma _ c.if-later.false

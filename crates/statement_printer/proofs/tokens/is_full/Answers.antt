@@ -6,4 +6,4 @@ pub returns-then-pen-gt65535 : goal.returns-then-pen-gt65535
 returns-then-pen-gt65535 c = long_full _ c.if-pen-gt65535.true
 
 pub returns : goal.returns
-returns-then-pen-gt65535 c = brackets_full _ c.if-pen-gt65535.false
+returns c = brackets_full _ c.if-pen-gt65535.false

@@ -11,4 +11,4 @@ pub put_mark-requires : goal.put_mark-requires
 put_mark-requires c = (ready c.is_full.ensures c.if-is_full.false, c.requires.0, c.requires.1)
 
 pub returns : goal.returns
-returns-then-is_full c = writes (mark _) (omega (arith, c.requires.1)) c.is_full.ensures c.if-is_full.false c.put_mark.ensures
+returns c = writes (mark _) (omega (arith, c.requires.1)) c.is_full.ensures c.if-is_full.false c.put_mark.ensures

@@ -14,5 +14,5 @@ pub put_number-requires : goal.put_number-requires
 put_number-requires c = ready c.is_full.ensures c.if-is_full.false
 
 pub returns : goal.returns
-returns-then-is_full c =
+returns c =
     writes_as (number _) (omega arith) (ap number (to_z-of_z w64 c.args.value c.ranges.value)) c.is_full.ensures c.if-is_full.false c.put_number.ensures

@@ -9,4 +9,4 @@ pub put_string-requires : goal.put_string-requires
 put_string-requires c = (ready c.is_full.ensures c.if-is_full.false, string_short _ _ c.string_at.ensures c.requires.short)
 
 pub returns : goal.returns
-returns-then-is_full c = writes_holding c.args.kind c.string_at.ensures c.is_full.ensures c.if-is_full.false c.put_string.ensures
+returns c = writes_holding c.args.kind c.string_at.ensures c.is_full.ensures c.if-is_full.false c.put_string.ensures

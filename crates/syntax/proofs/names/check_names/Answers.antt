@@ -27,4 +27,4 @@ pub loop-p-preserved : goal.loop-p-preserved
 loop-p-preserved c = next_names _ _ _ _ c.loop-p-test.true c.byte_in.ensures (c.names_right.ensures _ c.line_of-line.ensures) (not-false _ c.if-not-names_right.false-raw) c.length_at.ensures (c.stride.ensures _ c.line_of-line.ensures) c.loop-p.invariant
 
 pub returns : goal.returns
-returns-then-not-names_right c = names_end _ _ _ _ c.loop-p-test.false c.loop-p.invariant
+returns c = names_end _ _ _ _ c.loop-p-test.false c.loop-p.invariant

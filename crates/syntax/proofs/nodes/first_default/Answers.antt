@@ -16,4 +16,4 @@ pub returns-then-is_default : goal.returns-then-is_default
 returns-then-is_default c = default_here_lem _ _ c.enum_told-in-Nothing-1.given.1 c.is_default.ensures c.if-is_default.true
 
 pub returns : goal.returns
-returns-in-At c = none_here _ _ c.enum_told-in-Nothing-1.given.1 c.is_default.ensures c.if-is_default.false
+returns c = none_here _ _ c.enum_told-in-Nothing-1.given.1 c.is_default.ensures c.if-is_default.false

@@ -10,4 +10,4 @@ pub overflow_add-p : goal.overflow_add-p
 overflow_add-p c = omega (arith, c.requires)
 
 pub returns : goal.returns
-returns-then-byte_at-ne48 c = node_default _ _ c.byte_at.ensures c.if-byte_at-ne48.false c.byte_at-2.ensures
+returns c = node_default _ _ c.byte_at.ensures c.if-byte_at-ne48.false c.byte_at-2.ensures

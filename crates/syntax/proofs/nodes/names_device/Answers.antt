@@ -19,4 +19,4 @@ unfolding two
 some_names-requires c = (c.requires.0, omega (arith, c.requires.1, c.end_of.ensures, c.shared_slice_known-1.given (c.args.p + 1), c.shared_slice_known-1.given (c.args.p + 1 + 1)))
 
 pub returns : goal.returns
-returns-then-byte_at-ne48 c = node_names _ _ c.byte_at.ensures _ c.if-byte_at-ne48.false c.end_of.ensures c.some_names.ensures
+returns c = node_names _ _ c.byte_at.ensures _ c.if-byte_at-ne48.false c.end_of.ensures c.some_names.ensures

@@ -28,4 +28,4 @@ pub loop-p-preserved : goal.loop-p-preserved
 loop-p-preserved c = looking_goes_on c.loop-p.invariant c.loop-p-test.true c.names_device.ensures c.if-names_device.false c.first_default-default.ensures c.end_of-p-in-loop-p.ensures
 
 pub returns : goal.returns
-returns-then-names_device c = looked_at_all c.loop-p.invariant c.loop-p-test.false
+returns c = looked_at_all c.loop-p.invariant c.loop-p-test.false

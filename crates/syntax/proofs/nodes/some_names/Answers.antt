@@ -25,4 +25,4 @@ pub loop-q-preserved : goal.loop-q-preserved
 loop-q-preserved c = other_name _ _ _ _ c.loop-q-test.true c.byte_at.ensures c.if-byte_at-ne49.false c.two_at-name.ensures c.string_at.ensures c.same_bytes.ensures c.if-same_bytes.false c.end_of-q.ensures c.loop-q.invariant
 
 pub returns : goal.returns
-returns-then-byte_at-ne49 c = no_name_left _ _ _ _ c.loop-q-test.false c.loop-q.invariant
+returns c = no_name_left _ _ _ _ c.loop-q-test.false c.loop-q.invariant

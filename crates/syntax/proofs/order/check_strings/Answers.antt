@@ -24,4 +24,4 @@ pub loop-q-preserved : goal.loop-q-preserved
 loop-q-preserved c = rises _ _ _ _ c.loop-q-test.true c.text_of.ensures c.text_of-in-loop-q.ensures c.comes_before.ensures (not-false _ c.if-not-comes_before.false-raw) c.end_of-q-in-loop-q.ensures c.loop-q.invariant
 
 pub returns : goal.returns
-returns-then-e-le3 c = last_string _ _ _ _ c.loop-q-test.false c.loop-q.invariant
+returns c = last_string _ _ _ _ c.loop-q-test.false c.loop-q.invariant

@@ -15,4 +15,4 @@ pub loop-i-preserved : goal.loop-i-preserved
 loop-i-preserved c = same _ _ _ c.loop-i-test.true c.if-x-i.false c.if-a-b.false c.if-b-a.false c.loop-i.invariant
 
 pub returns : goal.returns
-returns-then-x-i c = second_ends _ _ _ c.loop-i-test.false c.loop-i.invariant
+returns c = second_ends _ _ _ c.loop-i-test.false c.loop-i.invariant

@@ -67,4 +67,4 @@ returns-then-same_bytes-7 c = is_this _ _ _ c.same_bytes-7.ensures c.if-same_byt
 
 pub returns : goal.returns
 unfolding is_built_in_text built_in_types eight_types
-returns-then-same_bytes c = is_last _ _ c.same_bytes-8.ensures (is_later _ _ _ c.same_bytes-7.ensures c.if-same_bytes-7.false (is_later _ _ _ c.same_bytes-6.ensures c.if-same_bytes-6.false (is_later _ _ _ c.same_bytes-5.ensures c.if-same_bytes-5.false (is_later _ _ _ c.same_bytes-4.ensures c.if-same_bytes-4.false (is_later _ _ _ c.same_bytes-3.ensures c.if-same_bytes-3.false (is_later _ _ _ c.same_bytes-2.ensures c.if-same_bytes-2.false (is_later _ _ _ c.same_bytes.ensures c.if-same_bytes.false refl)))))))
+returns c = is_last _ _ c.same_bytes-8.ensures (is_later _ _ _ c.same_bytes-7.ensures c.if-same_bytes-7.false (is_later _ _ _ c.same_bytes-6.ensures c.if-same_bytes-6.false (is_later _ _ _ c.same_bytes-5.ensures c.if-same_bytes-5.false (is_later _ _ _ c.same_bytes-4.ensures c.if-same_bytes-4.false (is_later _ _ _ c.same_bytes-3.ensures c.if-same_bytes-3.false (is_later _ _ _ c.same_bytes-2.ensures c.if-same_bytes-2.false (is_later _ _ _ c.same_bytes.ensures c.if-same_bytes.false refl)))))))

@@ -16,4 +16,4 @@ pub loop-i-preserved : goal.loop-i-preserved
 loop-i-preserved c = same_byte _ _ _ c.loop-i-test.true (omega (arith, c.if-x-y.false, c.loop-i-test.true)) c.if-x-i.false c.loop-i.invariant
 
 pub returns : goal.returns
-returns-then-x-y c = both_end _ _ _ c.loop-i-test.false (omega (arith, c.if-x-y.false, c.loop-i-test.false)) c.loop-i.invariant
+returns c = both_end _ _ _ c.loop-i-test.false (omega (arith, c.if-x-y.false, c.loop-i-test.false)) c.loop-i.invariant

@@ -26,4 +26,4 @@ pub loop-q-preserved : goal.loop-q-preserved
 loop-q-preserved c = (number_later _ _ _ _ _ c.loop-q-test.true c.text_of.ensures c.same_bytes.ensures c.if-same_bytes.false c.end_of-q.ensures c.loop-q.invariant.0, omega (arith, c.end_of-q.ensures, c.loop-q.invariant.1))
 
 pub returns : goal.returns
-returns-then-same_bytes c = of_all_strings _ _ c.end_of-e.ensures (no_number _ _ _ _ _ c.loop-q-test.false c.loop-q.invariant.0)
+returns c = of_all_strings _ _ c.end_of-e.ensures (no_number _ _ _ _ _ c.loop-q-test.false c.loop-q.invariant.0)

@@ -13,4 +13,4 @@ pub returns-then-m-from : goal.returns-then-m-from
 returns-then-m-from c = text_left _ _ c.length_at-len.ensures c.if-m-from.true
 
 pub returns : goal.returns
-returns-then-m-p c = text_whole _ _ c.length_at-len.ensures
+returns c = text_whole _ _ c.length_at-len.ensures

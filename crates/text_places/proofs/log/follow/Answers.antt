@@ -24,4 +24,4 @@ loop-n-preserved c =
     (omega arith, l.invariant.1 ∙ before_entry m l.n (l.n - 1) l.at c.number_in-entry.result (omega arith) c.number_in-entry.ensures (omega arith))
 
 pub returns : goal.returns
-returns-then-from-at c = let l = c.loop-n in (sym (l.invariant.1 ∙ no_entry c.args.log.now l.n l.at (omega arith)), omega arith)
+returns c = let l = c.loop-n in (sym (l.invariant.1 ∙ no_entry c.args.log.now l.n l.at (omega arith)), omega arith)

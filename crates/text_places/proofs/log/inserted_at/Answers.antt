@@ -10,4 +10,4 @@ pub returns-then-is_operator : goal.returns-then-is_operator
 returns-then-is_operator c = before_operand _ _ _ _ _ (sym c.if-is_before_parts.false ∙ c.is_before_parts.ensures) (sym c.if-is_operator.true ∙ c.is_operator.ensures)
 
 pub returns : goal.returns
-returns-then-is_before_parts c = at_last _ _ _ _ _ (sym c.if-is_before_parts.false ∙ c.is_before_parts.ensures) (sym c.if-is_operator.false ∙ c.is_operator.ensures)
+returns c = at_last _ _ _ _ _ (sym c.if-is_before_parts.false ∙ c.is_before_parts.ensures) (sym c.if-is_operator.false ∙ c.is_operator.ensures)

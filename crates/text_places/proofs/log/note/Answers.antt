@@ -16,6 +16,6 @@ overflow_add-entry-2 c =
     omega (arith, low_offset _ _ _ _ _ _ p _ c.inserted_at-from.ensures, p.ready_behind.fill, p.small)
 
 pub returns : goal.returns
-returns-then-behind-before c =
+returns c =
     one_noted _ _ _ _ _ _ _ c.requires _ _ c.inserted_at-from.ensures
     (omega (arith, c.if-behind-before.false)) refl c.put_eight.ensures

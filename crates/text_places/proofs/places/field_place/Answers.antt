@@ -12,4 +12,4 @@ pub place_chosen-requires : goal.place_chosen-requires
 place_chosen-requires c = c.is_sound.ensures.0 (not-false _ c.if-not-is_sound.false-raw)
 
 pub returns : goal.returns
-returns-then-not-is_sound c = let p = c.place_chosen.ensures in record { low = p.low; right = λ e. p }
+returns c = let p = c.place_chosen.ensures in record { low = p.low; right = λ e. p }

@@ -13,7 +13,7 @@ returns-then-log-entries c =
     λ types noted. told_crowded types _ _ _ _ _ _ _ noted c.table_size-strings.ensures.0 bytes c.if-log-entries.true
 
 pub returns : goal.returns
-returns-then-field-strings c =
+returns c =
     let f = c.follow.ensures in
     let bytes : IsBytes c.args.text.now = record { below = λ i. omega (arith, c.shared_slice_known-1.given i) } in
     λ types noted. told_item types _ _ _ _ _ _ _ noted c.table_size-strings.ensures.0 _ bytes (omega arith) (omega arith) f.0 f.1

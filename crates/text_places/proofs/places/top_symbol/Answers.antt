@@ -7,4 +7,4 @@ pub returns-then-top-eq0 : goal.returns-then-top-eq0
 returns-then-top-eq0 c = no_top _ _ c.if-top-eq0.true
 
 pub returns : goal.returns
-returns-then-top-eq0 c = some_top _ _ (omega (arith, c.if-top-eq0.false))
+returns c = some_top _ _ (omega (arith, c.if-top-eq0.false))

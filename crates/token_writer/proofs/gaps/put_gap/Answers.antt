@@ -19,4 +19,4 @@ pub returns-then-no_space_before : goal.returns-then-no_space_before
 returns-then-no_space_before c = wrote_is (gap_before _ _ _ c.if-pen-line.false c.no_space_behind.ensures c.if-no_space_behind.false c.no_space_before.ensures c.if-no_space_before.true) (wrote_none _ _)
 
 pub returns : goal.returns
-returns-then-pen-line c = wrote_is (gap_space _ _ _ c.if-pen-line.false c.no_space_behind.ensures c.if-no_space_behind.false c.no_space_before.ensures c.if-no_space_before.false) c.put_run-2.ensures
+returns c = wrote_is (gap_space _ _ _ c.if-pen-line.false c.no_space_behind.ensures c.if-no_space_behind.false c.no_space_before.ensures c.if-no_space_before.false) c.put_run-2.ensures
