@@ -111,16 +111,14 @@ colon_let_go : (q m : ℕ) (w : List ℕ) (i j : ℕ) (r : List ℕ) (p l : ℕ)
     → lex r (behind_top_colon q m w i j) p l ≡ lexeme q m (top_variable w) ∷ lexeme i j (mark colon) ∷ lex r (between (operand_behind colon)) p l
 unfolding lex step_byte finish
 colon_let_go q m w i j [] p l h e = rw h
-colon_let_go q m w i j (d ∷ ds) p l h e = rw (lex, e, h) (go (begins (operand_behind colon) p l d))
+colon_let_go q m w i j (d ∷ ds) p l h e = rw (lex, e) (go (name_token w (top_variable w)) h (begins (operand_behind colon) p l d))
   where
-    x : Lexeme
-    x = lexeme q m (top_variable w)
-
     y : Lexeme
     y = lexeme i j (mark colon)
 
-    go : (r : Read) → ◌≡◌ {A = List Lexeme} (elim (with x (with y r)) as (λ r. List Lexeme) [ reads xs n ↦ xs ++ lex ds n (suc p) (line_behind d l) ]) (x ∷ y ∷ elim r as (λ r. List Lexeme) [ reads xs n ↦ xs ++ lex ds n (suc p) (line_behind d l) ])
-    go (reads xs n) = refl
+    go : (t : Token) → t ≡ top_variable w → (r : Read)
+        → ◌≡◌ {A = List Lexeme} (elim (with (lexeme q m t) (with y r)) as (λ r. List Lexeme) [ reads xs n ↦ xs ++ lex ds n (suc p) (line_behind d l) ]) (lexeme q m (top_variable w) ∷ y ∷ elim r as (λ r. List Lexeme) [ reads xs n ↦ xs ++ lex ds n (suc p) (line_behind d l) ])
+    go t h (reads xs n) = rw h
 
 -- what follows a top variable ends it, if it is not two colons
 top_ends : (q m : ℕ) (w r : List ℕ) (p l : ℕ) → name_token w (top_variable w) ≡ top_variable w → stops r ≡ true → two_colons r ≡ false → Gives r (in_top q m w) p l (lexeme q m (top_variable w)) r (operand_behind a_qualified)
