@@ -26,8 +26,8 @@ found_behind {t} {a} {b} {o} {r} s f = record {
   line_behind_bound = f.line_behind_bound;
   sized = f.sized;
   same_tokens = s.same_tokens o ∙ f.same_tokens;
-  at_end_lem = λ e. s.same_tokens o ∙ f.at_end e;
-  at_fault_lem = λ e. let g = f.at_fault e in record { rest = g.rest; begins = s.same_tokens o ∙ g.begins };
+  at_end = λ e. s.same_tokens o ∙ f.at_end e;
+  at_fault = λ e. let g = f.at_fault e in record { rest = g.rest; begins = s.same_tokens o ∙ g.begins };
   some_byte = f.some_byte;
   first = λ e g. s.same_tokens o ∙ f.first e g;
 }
@@ -70,8 +70,8 @@ module _ (t : List ℕ) (p l : ℕ) (o : Bool) (bound : l ≤ p) where
     line_behind_bound = bound;
     sized = nameless t (plain_token end_of_text p l p) refl refl;
     same_tokens = refl;
-    at_end_lem = λ f. e;
-    at_fault_lem = λ f. absurd (omega arith);
+    at_end = λ f. e;
+    at_fault = λ f. absurd (omega arith);
     some_byte = λ f g. absurd (f refl);
     first = λ f g. absurd (f refl);
   }
@@ -88,8 +88,8 @@ module _ (t : List ℕ) (p l : ℕ) (o : Bool) (bound : l ≤ p) where
     line_behind_bound = bound;
     sized = nameless t (plain_token malformed p l p) refl refl;
     same_tokens = refl;
-    at_end_lem = λ f. absurd (omega arith);
-    at_fault_lem = λ f. e;
+    at_end = λ f. absurd (omega arith);
+    at_fault = λ f. e;
     some_byte = λ f g. absurd (g refl);
     first = λ f g. absurd (g refl);
   }
@@ -109,8 +109,8 @@ module _ (t : List ℕ) (p l : ℕ) (o : Bool) (bound : l ≤ p) where
     line_behind_bound = behind;
     sized = sized;
     same_tokens = rw (start, line);
-    at_end_lem = λ f. absurd (no_end f);
-    at_fault_lem = λ f. absurd (no-fault f);
+    at_end = λ f. absurd (no_end f);
+    at_fault = λ f. absurd (no-fault f);
     some_byte = λ f g. omega arith;
     first = λ f g. e ∙ rw (start, line);
   }

@@ -75,8 +75,8 @@ pub record Found (t : List ℕ) (at line : ℕ) (o : Bool) (r : Token) : Type 0 
   pub line_behind_bound : r.line_behind ≤ r.end
   pub sized : Sized t r
   pub same_tokens : tokens_from t at line o ≡ tokens_from t r.start r.line o
-  pub at_end_lem : r.kind ≡ end_of_text → tokens_from t at line o ≡ lexeme r.start r.line (mark end_of_text) ∷ []
-  pub at_fault_lem : r.kind ≡ malformed → Begins (lexeme r.start r.line (mark malformed)) (tokens_from t at line o)
+  pub at_end : r.kind ≡ end_of_text → tokens_from t at line o ≡ lexeme r.start r.line (mark end_of_text) ∷ []
+  pub at_fault : r.kind ≡ malformed → Begins (lexeme r.start r.line (mark malformed)) (tokens_from t at line o)
   pub some_byte : (r.kind ≡ end_of_text → ⊥) → (r.kind ≡ malformed → ⊥) → r.start < r.end
   pub first : (r.kind ≡ end_of_text → ⊥) → (r.kind ≡ malformed → ⊥)
       → tokens_from t at line o ≡ lexeme r.start r.line (token_in t r) ∷ tokens_from t r.end r.line_behind (operand_behind r.kind)

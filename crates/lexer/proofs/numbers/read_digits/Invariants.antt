@@ -8,7 +8,7 @@ use Rattle.lexer.specs.Found.{lex_from}
 use Rattle.lexer.proofs.numbers.read_digits.Given as goal
 
 abbrev pub invariant-loop-i : goal.invariant-loop-i
-invariant-loop-i l = (l.at ≤ l.i) × (l.i ≤ length l.text) × ((p l : ℕ) (s : Bool) → lex_from l.text l.at l (in_number p l s l.first) ≡ lex_from l.text l.i l (in_number p l s l.n))
+invariant-loop-i l = (l.at ≤ l.i) × (l.i ≤ length l.text) × ((p k : ℕ) (s : Bool) → lex_from l.text l.at k (in_number p k s l.first) ≡ lex_from l.text l.i k (in_number p k s l.n))
 
 abbrev pub decreases-loop-i : goal.decreases-loop-i
 decreases-loop-i l = length l.text - l.i
