@@ -114,8 +114,8 @@ module _ (t : List ℕ) (p q : ℕ) where
 pub alike_on : (f g : ℕ) {t : List ℕ} {p q : ℕ} {whole : Order} → in_word f ≡ false → in_word g ≡ false → Alike t p q → order_of (rest_of t f p) (rest_of t g q) ≡ whole → order_of (rest_of t f (p + 1)) (rest_of t g (q + 1)) ≡ whole
 unfolding from_code
 alike_on f g {t} {p} {q} no-f no-g h inv =
-    let one : rest_of t f p ≡ get_or t p 0 ∷ rest_of t f (p + 1) = letter_on t f p no-f h.one h.in_word in
-    let other : rest_of t g q ≡ get_or t p 0 ∷ rest_of t g (q + 1) = letter_on t g q no-g h.other (ap in_word (sym h.same) ∙ h.in_word) ∙ ap (λ (n : ℕ). n ∷ rest_of t g (q + 1)) (sym h.same) in
+    let one : rest_of t f p ≡ get_or t p 0 ∷ rest_of t f (p + 1) = letter_on t f p no-f h.one h.in_word_lem in
+    let other : rest_of t g q ≡ get_or t p 0 ∷ rest_of t g (q + 1) = letter_on t g q no-g h.other (ap in_word (sym h.same) ∙ h.in_word_lem) ∙ ap (λ (n : ℕ). n ∷ rest_of t g (q + 1)) (sym h.same) in
     sym (same_first (rest_of t f (p + 1)) (rest_of t g (q + 1)) (suc (get_or t p 0)) (omega arith)) ∙ (rw (one, other) at inv)
 
 -- what is left at first are the whole strings

@@ -20,13 +20,13 @@ pub overflow_add-low : goal.overflow_add-low
 overflow_add-low c = omega (arith, c.loop-low.invariant.within, c.requires.small)
 
 pub loop-low-preserved-in-Before : goal.loop-low-preserved-in-Before
-loop-low-preserved-in-Before c = narrow_up _ _ _ _ _ c.requires.rising c.two_in-place.ensures c.loop-low.invariant (omega arith) (omega arith) (sym c.enum_told-1.given.1 ∙ c.compare.ensures)
+loop-low-preserved-in-Before c = narrow_up _ _ _ _ _ c.requires.rising c.two_in-place.ensures c.loop-low.invariant (omega arith) (omega arith) (sym c.in-Before.is ∙ c.compare.ensures)
 
 pub returns-in-Same : goal.returns-in-Same
-returns-in-Same c = found_here _ _ _ _ _ c.requires.rising c.two_in-place.ensures c.loop-low.invariant (omega arith) (omega arith) (sym c.enum_told-in-Same-1.given.1 ∙ c.compare.ensures)
+returns-in-Same c = found_here _ _ _ _ _ c.requires.rising c.two_in-place.ensures c.loop-low.invariant (omega arith) (omega arith) (sym c.in-Same.is ∙ c.compare.ensures)
 
 pub loop-low-preserved : goal.loop-low-preserved
-loop-low-preserved c = narrow_down _ _ _ _ _ c.requires.rising c.two_in-place.ensures c.loop-low.invariant (omega arith) (omega arith) (sym c.enum_told-in-After-1.given.1 ∙ c.compare.ensures)
+loop-low-preserved c = narrow_down _ _ _ _ _ c.requires.rising c.two_in-place.ensures c.loop-low.invariant (omega arith) (omega arith) (sym c.in-After.is ∙ c.compare.ensures)
 
 pub returns : goal.returns
 returns c = narrow_enough _ _ _ c.loop-low.invariant c.loop-low-test.false
