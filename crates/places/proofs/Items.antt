@@ -94,7 +94,7 @@ block_ends : {m : List ℕ} {d p q e : ℕ} → PartsStand m d p (three (One Blo
 block_ends s = let o = one_part s in record { before = o.before; block = o.part; ends = all_over o.after }
 
 -- the last field read is the block, whatever siblings come before it
-last_read : {m : List ℕ} {d q r e : ℕ} {k : Kind} → Siblings m d k q r → BlockEnds m d r e → (j : Field) → last_of j (read_each (read_field m d) (fields_in m q e)) ≡ read_field m d r
+last_read : {m : List ℕ} {d : ℕ} {k : Kind} {q r e : ℕ} → Siblings m d k q r → BlockEnds m d r e → (j : Field) → last_of j (read_each (read_field m d) (fields_in m q e)) ≡ read_field m d r
 unfolding last_of read_each
 last_read {m} {r = r} {e = e} ended b j = let over = b.ends in rw (field_first m r e b.before, no_fields m (end_of m r) e (omega arith)) refl
 last_read {m} {d} {q = q} {r = r} {e = e} (sibling l s i) b j = let before = b.before in rw (field_first m q e (omega arith)) (last_read i b (read_field m d q))

@@ -9,8 +9,5 @@ returns-in-Parts c = rw c.then-1.given.1 at c.takes.ensures ∙ c.loop-left.inva
 pub returns-in-Refuses : goal.returns-in-Refuses
 returns-in-Refuses c = rw c.enum_told-1.given.1 at c.takes.ensures ∙ c.loop-left.invariant
 
-pub loop-left-preserved : goal.loop-left-preserved
-loop-left-preserved c = rw c.enum_told-in-Passes-1.given.1 at c.takes.ensures ∙ c.loop-left.invariant
-
 pub returns : goal.returns
 returns c = none_left_over _ _ c.loop-left-test.false ∙ c.loop-left.invariant
