@@ -7,12 +7,12 @@ use Rattle.catalog.proofs.value_at.Goals as goal
 pub returns-in-66 : goal.returns-in-66
 returns-in-66 c =
     let a = c.args in
-    integer_read a.out.now a.at c.byte_at.ensures c.in-66.keys1 (to_z-of_z w64 c.signed_at.result (record { sfits = c.signed_at.type_inv })) c.signed_at.ensures
+    integer_read a.out.now a.at c.byte_at.ensures c.in-66.is (to_z-of_z w64 c.signed_at.result (record { sfits = c.signed_at.type_inv })) c.signed_at.ensures
 
 pub returns-in-67 : goal.returns-in-67
 returns-in-67 c =
     let a = c.args in
-    string_read a.out.now a.at c.byte_at.ensures c.in-67.keys2 c.two_at.ensures
+    string_read a.out.now a.at c.byte_at.ensures c.in-67.is c.two_at.ensures
 
 pub returns-in_default : goal.returns-in_default
 returns-in_default c =

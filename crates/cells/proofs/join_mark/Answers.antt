@@ -7,7 +7,7 @@ pub obtain-requires : goal.obtain-requires
 obtain-requires c = c.requires.0
 
 pub enum_known-i : goal.enum_known-i
-enum_known-i c = c.in-At.keys1
+enum_known-i c = c.in-At.is
 
 pub enum_told-1 : goal.enum_told-1
 enum_told-1 c = c.in_default.keys2

@@ -1,7 +1,6 @@
 -- `check_types`: what is left to check decides.
 use mathlib.Core.Path.{◌∙◌}
 use native.Mathlib.Omega.{arith}
-use borrow.Author.Tests.{not-true, not-false}
 use Rattle.type_list.proofs.Checking.{empty_list, not_empty, sixty_fifth, wrong_field, next_field, all_right}
 use Rattle.type_list.proofs.check_types.Goals as goal
 
@@ -27,7 +26,7 @@ pub is_right-requires : goal.is_right-requires
 is_right-requires c = c.loop-q-test.true
 
 pub returns-then-not-is_right : goal.returns-then-not-is_right
-returns-then-not-is_right c = c.faulty-then-not-is_right.ensures ∙ wrong_field _ _ _ c.loop-q-test.true _ c.is_right.ensures c.if-more-eq0.false c.loop-q.invariant (not-true _ c.if-not-is_right.true-raw)
+returns-then-not-is_right c = c.faulty-then-not-is_right.ensures ∙ wrong_field _ _ _ c.loop-q-test.true _ c.is_right.ensures c.if-more-eq0.false c.loop-q.invariant c.if-not-is_right.true
 
 pub overflow_add-start : goal.overflow_add-start
 overflow_add-start c = omega (arith, c.loop-q.invariant.early)
@@ -42,7 +41,7 @@ pub loop-q-smaller : goal.loop-q-smaller
 loop-q-smaller c = omega (arith, c.end_of-q.ensures, c.loop-q-test.true)
 
 pub loop-q-preserved : goal.loop-q-preserved
-loop-q-preserved c = next_field _ _ _ c.loop-q-test.true _ c.is_right.ensures c.if-more-eq0.false c.loop-q.invariant (not-false _ c.if-not-is_right.false-raw) c.end_of-q.ensures
+loop-q-preserved c = next_field _ _ _ c.loop-q-test.true _ c.is_right.ensures c.if-more-eq0.false c.loop-q.invariant c.if-not-is_right.false c.end_of-q.ensures
 
 pub returns : goal.returns
 returns c = all_right _ _ _ _ c.loop-q-test.false c.loop-q.invariant

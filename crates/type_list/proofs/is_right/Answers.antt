@@ -1,6 +1,5 @@
 -- `is_right`: each rule in turn.
 use native.Mathlib.Omega.{arith}
-use borrow.Author.Tests.{not-true, not-false}
 use Rattle.type_list.proofs.Checking.{no_header, other_tag, past_end, no_letters, too_long, other_byte, by_order}
 use Rattle.type_list.proofs.is_right.Goals as goal
 
@@ -26,7 +25,7 @@ pub returns-then-letters-gt-LONGEST : goal.returns-then-letters-gt-LONGEST
 returns-then-letters-gt-LONGEST c = too_long _ _ _ (omega (arith, c.if-left-lt-HEADER.false, c.requires)) c.byte_in.ensures c.if-byte_in-ne2.false c.length_at-letters.ensures (omega (arith, c.if-left-letters.false, c.if-left-lt-HEADER.false, c.requires)) c.if-letters-eq0.false c.if-letters-gt-LONGEST.true
 
 pub returns-then-not-is_lower_case : goal.returns-then-not-is_lower_case
-returns-then-not-is_lower_case c = other_byte _ _ _ (omega (arith, c.if-left-lt-HEADER.false, c.requires)) c.byte_in.ensures c.if-byte_in-ne2.false c.length_at-letters.ensures (omega (arith, c.if-left-letters.false, c.if-left-lt-HEADER.false, c.requires)) c.if-letters-eq0.false c.if-letters-gt-LONGEST.false c.text_of-name.ensures c.is_lower_case.ensures (not-true _ c.if-not-is_lower_case.true-raw)
+returns-then-not-is_lower_case c = other_byte _ _ _ (omega (arith, c.if-left-lt-HEADER.false, c.requires)) c.byte_in.ensures c.if-byte_in-ne2.false c.length_at-letters.ensures (omega (arith, c.if-left-letters.false, c.if-left-lt-HEADER.false, c.requires)) c.if-letters-eq0.false c.if-letters-gt-LONGEST.false c.text_of-name.ensures c.is_lower_case.ensures c.if-not-is_lower_case.true
 
 pub returns : goal.returns
-returns c = by_order _ _ _ (omega (arith, c.if-left-lt-HEADER.false, c.requires)) c.byte_in.ensures c.if-byte_in-ne2.false c.length_at-letters.ensures (omega (arith, c.if-left-letters.false, c.if-left-lt-HEADER.false, c.requires)) c.if-letters-eq0.false c.if-letters-gt-LONGEST.false c.text_of-name.ensures c.is_lower_case.ensures (not-false _ c.if-not-is_lower_case.false-raw) c.comes_before.ensures
+returns c = by_order _ _ _ (omega (arith, c.if-left-lt-HEADER.false, c.requires)) c.byte_in.ensures c.if-byte_in-ne2.false c.length_at-letters.ensures (omega (arith, c.if-left-letters.false, c.if-left-lt-HEADER.false, c.requires)) c.if-letters-eq0.false c.if-letters-gt-LONGEST.false c.text_of-name.ensures c.is_lower_case.ensures c.if-not-is_lower_case.false c.comes_before.ensures

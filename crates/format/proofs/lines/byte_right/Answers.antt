@@ -9,4 +9,4 @@ pub returns-in-2 : goal.returns-in-2
 returns-in-2 c = an_operator_lem _ _ c.in-2.is c.byte_at-in-2.ensures
 
 pub returns-in_default : goal.returns-in_default
-returns-in_default c = let h = c.in_default-own in let k = c.in_default in ?
+returns-in_default c = let k = c.in_default in ?

@@ -5,10 +5,10 @@ use Rattle.format.proofs.Steps.{nothing_needed, one_needed, names_needed, others
 use Rattle.format.proofs.order.may_end.Goals as goal
 
 pub returns-in-16 : goal.returns-in-16
-returns-in-16 c = one_needed _ (omega arith) (sym c.how_many.ensures ∙ c.in-16.keys1) ∙ c.loop-left.invariant.1
+returns-in-16 c = one_needed _ (omega arith) (sym c.how_many.ensures ∙ c.in-16.is) ∙ c.loop-left.invariant.1
 
 pub returns-in-64 : goal.returns-in-64
-returns-in-64 c = names_needed _ (omega arith) (sym c.how_many.ensures ∙ c.in-64.keys2) ∙ c.loop-left.invariant.1
+returns-in-64 c = names_needed _ (omega arith) (sym c.how_many.ensures ∙ c.in-64.is) ∙ c.loop-left.invariant.1
 
 pub loop-left-preserved : goal.loop-left-preserved
 loop-left-preserved c =

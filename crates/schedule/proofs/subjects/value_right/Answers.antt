@@ -3,13 +3,13 @@ use Rattle.schedule.proofs.Tests.{integer_size, string_size, boolean_size, no_va
 use Rattle.schedule.proofs.subjects.value_right.Goals as goal
 
 pub returns-in-66 : goal.returns-in-66
-returns-in-66 c = integer_size _ _ c.in-66.keys1
+returns-in-66 c = integer_size _ _ c.in-66.is
 
 pub returns-in-67 : goal.returns-in-67
-returns-in-67 c = string_size _ _ c.in-67.keys2
+returns-in-67 c = string_size _ _ c.in-67.is
 
 pub returns-in-68 : goal.returns-in-68
-returns-in-68 c = boolean_size _ _ c.in-68.keys3
+returns-in-68 c = boolean_size _ _ c.in-68.is
 
 pub returns-in_default : goal.returns-in_default
 returns-in_default c = no_value _ _ c.in_default.rest.0.0.1 c.in_default.rest.0.1 c.in_default.rest.1

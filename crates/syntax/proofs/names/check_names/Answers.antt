@@ -1,7 +1,6 @@
 -- `check_names`: what the fields from here on give is what they all give.
 use mathlib.Core.Path.{◌∙◌}
 use native.Mathlib.Omega.{arith}
-use borrow.Author.Tests.{not-true, not-false}
 use Rattle.syntax.proofs.Reading.{next_names, name_past, names_end}
 use Rattle.syntax.proofs.names.check_names.Goals as goal
 
@@ -12,7 +11,7 @@ pub names_right-requires : goal.names_right-requires
 names_right-requires c = omega (arith, c.loop-p-test.true)
 
 pub returns-then-not-names_right : goal.returns-then-not-names_right
-returns-then-not-names_right c = c.wrong_string.ensures ∙ name_past _ _ _ _ c.loop-p-test.true c.byte_in.ensures (c.names_right.ensures _ c.line_of-line.ensures) (not-true _ c.if-not-names_right.true-raw) c.loop-p.invariant
+returns-then-not-names_right c = c.wrong_string.ensures ∙ name_past _ _ _ _ c.loop-p-test.true c.byte_in.ensures (c.names_right.ensures _ c.line_of-line.ensures) c.if-not-names_right.true c.loop-p.invariant
 
 pub overflow_add-p : goal.overflow_add-p
 overflow_add-p c = omega (arith, c.loop-p-test.true)
@@ -24,7 +23,7 @@ pub loop-p-smaller : goal.loop-p-smaller
 loop-p-smaller c = omega (arith, c.loop-p-test.true)
 
 pub loop-p-preserved : goal.loop-p-preserved
-loop-p-preserved c = next_names _ _ _ _ c.loop-p-test.true c.byte_in.ensures (c.names_right.ensures _ c.line_of-line.ensures) (not-false _ c.if-not-names_right.false-raw) c.length_at.ensures (c.stride.ensures _ c.line_of-line.ensures) c.loop-p.invariant
+loop-p-preserved c = next_names _ _ _ _ c.loop-p-test.true c.byte_in.ensures (c.names_right.ensures _ c.line_of-line.ensures) c.if-not-names_right.false c.length_at.ensures (c.stride.ensures _ c.line_of-line.ensures) c.loop-p.invariant
 
 pub returns : goal.returns
 returns c = names_end _ _ _ _ c.loop-p-test.false c.loop-p.invariant

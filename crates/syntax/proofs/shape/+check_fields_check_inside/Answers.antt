@@ -2,7 +2,6 @@
 use Prim.Native.Nat.{◌+◌, ◌-◌, ◌*◌}
 use mathlib.Core.Path.{◌≡◌, refl, ap, ◌∙◌}
 use native.Mathlib.Omega.{arith}
-use borrow.Author.Tests.{not-true, not-false}
 use Rattle.rules.specs.Bytes.{fields_in}
 use Rattle.rules.specs.Check.{inside}
 use Rattle.format.specs.Numbers.{line_number, parts_from}
@@ -60,10 +59,10 @@ pub check_inside-bytes_right-requires : goal.check_inside-bytes_right-requires
 check_inside-bytes_right-requires t c = omega (arith, c.requires.1.0)
 
 pub check_inside-returns-then-not-bytes_right : goal.check_inside-returns-then-not-bytes_right
-check_inside-returns-then-not-bytes_right t c = c.malformed-then-not-bytes_right.ensures ∙ wrong_bytes _ _ _ c.if-levels-eq0.false c.requires.1.1.1 (c.head_size-size.ensures _ c.requires.1.1.0) c.if-len-size.false (c.bytes_right.ensures _ c.requires.1.1.0) (not-true _ c.if-not-bytes_right.true-raw)
+check_inside-returns-then-not-bytes_right t c = c.malformed-then-not-bytes_right.ensures ∙ wrong_bytes _ _ _ c.if-levels-eq0.false c.requires.1.1.1 (c.head_size-size.ensures _ c.requires.1.1.0) c.if-len-size.false (c.bytes_right.ensures _ c.requires.1.1.0) c.if-not-bytes_right.true
 
 pub check_inside-returns-then-not-has_fields : goal.check_inside-returns-then-not-has_fields
-check_inside-returns-then-not-has_fields t c = no_more _ _ _ c.if-levels-eq0.false c.requires.1.1.1 (c.head_size-size.ensures _ c.requires.1.1.0) c.if-len-size.false (c.bytes_right.ensures _ c.requires.1.1.0) (not-false _ c.if-not-bytes_right.false-raw) (c.has_fields.ensures _ c.requires.1.1.0) (not-true _ c.if-not-has_fields.true-raw)
+check_inside-returns-then-not-has_fields t c = no_more _ _ _ c.if-levels-eq0.false c.requires.1.1.1 (c.head_size-size.ensures _ c.requires.1.1.0) c.if-len-size.false (c.bytes_right.ensures _ c.requires.1.1.0) c.if-not-bytes_right.false (c.has_fields.ensures _ c.requires.1.1.0) c.if-not-has_fields.true
 
 pub check_inside-byte_in-requires : goal.check_inside-byte_in-requires
 check_inside-byte_in-requires t c = omega (arith, c.requires.1.0)
@@ -87,4 +86,4 @@ pub check_inside-check_fields-requires : goal.check_inside-check_fields-requires
 check_inside-check_fields-requires t c = (omega (arith, c.requires.0, c.if-levels-eq0.false), omega (arith, c.requires.1.0, c.requires.1.1.1))
 
 pub check_inside-returns : goal.check_inside-returns
-check_inside-returns t c = its_fields _ _ _ c.if-levels-eq0.false c.requires.1.1.1 (c.head_size-size.ensures _ c.requires.1.1.0) c.if-len-size.false (c.bytes_right.ensures _ c.requires.1.1.0) (not-false _ c.if-not-bytes_right.false-raw) (c.has_fields.ensures _ c.requires.1.1.0) _ (not-false _ c.if-not-has_fields.false-raw) c.byte_in.ensures c.parts_of-parts.ensures c.check_fields.ensures
+check_inside-returns t c = its_fields _ _ _ c.if-levels-eq0.false c.requires.1.1.1 (c.head_size-size.ensures _ c.requires.1.1.0) c.if-len-size.false (c.bytes_right.ensures _ c.requires.1.1.0) c.if-not-bytes_right.false (c.has_fields.ensures _ c.requires.1.1.0) _ c.if-not-has_fields.false c.byte_in.ensures c.parts_of-parts.ensures c.check_fields.ensures
