@@ -1,4 +1,5 @@
 -- `length_right`: by what follows the pieces.
+use native.Mathlib.Omega.{arith}
 use Rattle.format.proofs.Line.{any_length, text_length_lem, one_length}
 use Rattle.format.proofs.lines.length_right.Goals as goal
 
@@ -9,4 +10,4 @@ pub returns-in-32 : goal.returns-in-32
 returns-in-32 c t e = text_length_lem t e _ c.in-32.is
 
 pub returns-in_default : goal.returns-in_default
-returns-in_default c t e = one_length t e _ (c.head_size.ensures t e) c.in_default.rest.0.1 c.in_default.rest.1
+returns-in_default c t e = one_length t e _ (c.head_size.ensures t e) (λ e. absurd (omega arith)) (λ e. absurd (omega arith))

@@ -12,9 +12,7 @@ returns-in-64 c = names_needed _ (omega arith) (sym c.how_many.ensures ∙ c.in-
 
 pub loop-left-preserved : goal.loop-left-preserved
 loop-left-preserved c =
-    let e = c.how_many.ensures in
-    let n = c.in_default.rest in
-    (omega arith, others_decide _ (omega arith) (λ k. n.0.1 (e ∙ k)) (λ k. n.1 (e ∙ k)) ∙ c.loop-left.invariant.1)
+    (omega arith, others_decide _ (omega arith) (λ k. absurd (omega arith)) (λ k. absurd (omega arith)) ∙ c.loop-left.invariant.1)
 
 pub returns : goal.returns
 returns c = nothing_needed _ c.loop-left-test.false ∙ c.loop-left.invariant.1

@@ -23,4 +23,4 @@ pub returns-else-parts-lt-COUNT : goal.returns-else-parts-lt-COUNT
 returns-else-parts-lt-COUNT c = some_taken _ _ (omega arith) (c.allows.ensures _ c.requires) (sym c.how_many-many.ensures ∙ c.in-32.is) c.if-parts-lt-COUNT.false c.if-not-allows.false
 
 pub returns-in_default : goal.returns-in_default
-returns-in_default c = over_passed _ _ (omega arith) (λ k. c.if-many-eq-NAMES.false (c.how_many-many.ensures ∙ k)) (λ k. c.in_default.rest.0.0.1 (c.how_many-many.ensures ∙ k)) (λ k. c.in_default.rest.0.1 (c.how_many-many.ensures ∙ k)) (λ k. c.in_default.rest.1 (c.how_many-many.ensures ∙ k))
+returns-in_default c = over_passed _ _ (omega arith) (λ k. c.if-many-eq-NAMES.false (c.how_many-many.ensures ∙ k)) (λ k. absurd (omega arith)) (λ k. absurd (omega arith)) (λ k. absurd (omega arith))

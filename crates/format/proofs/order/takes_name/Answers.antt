@@ -10,4 +10,4 @@ pub returns-in-27 : goal.returns-in-27
 returns-in-27 c = default_taken _ _ (omega arith) c.requires c.in-27.is
 
 pub returns-in_default : goal.returns-in_default
-returns-in_default c = name_refused _ _ (omega arith) c.requires c.in_default.rest.0.1 c.in_default.rest.1
+returns-in_default c = name_refused _ _ (omega arith) c.requires (λ e. absurd (omega arith)) (λ e. absurd (omega arith))
