@@ -7,7 +7,7 @@ use Rattle.catalog_index.proofs.read.Goals as goal
 pub returns-in_default : goal.returns-in_default
 returns-in_default c = λ es w i.
     let a = c.args in
-    read_nothing a.out.now a.fill a.kind a.title c.requires.1.1 c.requires.1.0 es w (c.find_entry.ensures.0 es w i) a.name c.enum_told-1.given.1
+    read_nothing a.out.now a.fill a.kind a.title c.requires.1.1 c.requires.1.0 es w (c.find_entry.ensures.0 es w i) a.name c.in_default.is
 
 pub find_attribute-requires : goal.find_attribute-requires
 find_attribute-requires c =

@@ -4,7 +4,7 @@ use Rattle.cells.proofs.Ways.{ready_at, assign_full, assign_has, assign_done}
 use Rattle.cells.proofs.assign.Goals as goal
 
 pub returns-in_default : goal.returns-in_default
-returns-in_default c = assign_full _ _ _ _ c.obtain.ensures c.requires.1 _ c.enum_told-1.given.1
+returns-in_default c = assign_full _ _ _ _ c.obtain.ensures c.requires.1 _ c.in_default.is
 
 pub has_value-requires : goal.has_value-requires
 has_value-requires c =

@@ -31,4 +31,4 @@ returns-in-At-find_open c =
     (claims (open_at _ _ c.find_open.ensures c.j-1.given.1) (hint.0 ∙ claim.0), hint.1 ∙ claim.1)
 
 pub returns-in-Nothing-find_open : goal.returns-in-Nothing-find_open
-returns-in-Nothing-find_open c = (all_used _ _ _ c.find_open.ensures c.enum_told-in-Nothing-find_open-1.given.1, refl)
+returns-in-Nothing-find_open c = (all_used _ _ _ c.find_open.ensures c.in-Nothing-find_open.is, refl)

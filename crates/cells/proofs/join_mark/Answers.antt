@@ -14,7 +14,7 @@ enum_told-1 c = c.in_default.keys2
 
 pub returns-in_default : goal.returns-in_default
 returns-in_default c =
-    mark_full _ _ _ _ c.obtain.ensures c.requires.1 _ c.enum_told-1.given.1
+    mark_full _ _ _ _ c.obtain.ensures c.requires.1 _ c.in_default.is
 
 pub join_at-requires : goal.join_at-requires
 join_at-requires c =

@@ -9,4 +9,4 @@ returns-in-At c = (holds (sym c.find.ensures ∙ c.i-1.given.1), refl)
 pub returns-in-Nothing : goal.returns-in-Nothing
 returns-in-Nothing c =
     let claim-open = c.claim_open.ensures in
-    (lacks (sym c.find.ensures ∙ c.enum_told-1.given.1) claim-open.0, claim-open.1)
+    (lacks (sym c.find.ensures ∙ c.in-Nothing.is) claim-open.0, claim-open.1)

@@ -21,7 +21,7 @@ pub returns-in-NoAttributes : goal.returns-in-NoAttributes
 returns-in-NoAttributes c = resource_shown _ _ _ _ c.subject_at.ensures _ c.with_next-in-NoAttributes.ensures c.next-in-NoAttributes-1.given.1 c.resource_line-written.ensures
 
 pub returns-in-End : goal.returns-in-End
-returns-in-End c = end_shown _ _ _ _ c.subject_at.ensures _ c.clear_rest.ensures refl c.enum_told-1.given.1
+returns-in-End c = end_shown _ _ _ _ c.subject_at.ensures _ c.clear_rest.ensures refl c.in-End.is
 
 pub returns-in-NotACatalog : goal.returns-in-NotACatalog
-returns-in-NotACatalog c = unreadable_shown _ _ _ _ c.subject_at.ensures _ c.clear_rest-in-NotACatalog.ensures refl c.enum_told-in-NotACatalog-1.given.1
+returns-in-NotACatalog c = unreadable_shown _ _ _ _ c.subject_at.ensures _ c.clear_rest-in-NotACatalog.ensures refl c.in-NotACatalog.is

@@ -8,4 +8,4 @@ returns-in-Length c = rw c.written-1.given.1
 
 pub returns-in-TooLong : goal.returns-in-TooLong
 unfolding line_of
-returns-in-TooLong c = rw c.enum_told-1.given.1
+returns-in-TooLong c = rw c.in-TooLong.is

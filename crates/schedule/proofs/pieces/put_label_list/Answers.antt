@@ -18,4 +18,4 @@ shape_of-line-in-Nothing c = c.loop-n.invariant.0
 
 pub returns-in-Nothing : goal.returns-in-Nothing
 unfolding list_from
-returns-in-Nothing c = labels_done _ _ c.next.ensures _ _ c.enum_told-1.given.1 c.loop-n.invariant.1
+returns-in-Nothing c = labels_done _ _ c.next.ensures _ _ c.in-Nothing.is c.loop-n.invariant.1

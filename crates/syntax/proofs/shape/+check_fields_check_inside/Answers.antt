@@ -10,38 +10,23 @@ use Rattle.syntax.proofs.Walk.{within, too_deep, no_head, wrong_bytes, no_more, 
 use Prim.Native.Nat.{ℕ, ◌<◌}
 use Rattle.syntax.proofs.shape.+check_fields_check_inside.Goals as goal
 
-pub check_fields-byte_in-requires : goal.check_fields-byte_in-requires
-check_fields-byte_in-requires t c = omega (arith, c.requires.1, c.loop-q-test.true)
-
-pub check_fields-header_at-requires : goal.check_fields-header_at-requires
-check_fields-header_at-requires t c = (c.loop-q-test.true, (c.requires.1, c.line_of-line.ensures ∙ ap line_number c.byte_in.ensures))
-
 pub check_fields-returns-in_default : goal.check_fields-returns-in_default
-check_fields-returns-in_default t c = c.malformed.ensures ∙ (wrong_header _ _ _ _ _ _ c.loop-q-test.true c.header_at.ensures c.enum_told-1.given.1 ∙ c.loop-q.invariant)
-
-pub check_fields-overflow_add-q : goal.check_fields-overflow_add-q
-check_fields-overflow_add-q t c = let w = within _ _ _ _ c.header_at.ensures c.then-1.given.1 in omega (arith, c.requires.1)
+check_fields-returns-in_default t c = c.malformed.ensures ∙ (wrong_header _ _ _ _ _ _ c.loop-q-test.true c.header_at.ensures c.in_default.is ∙ c.loop-q.invariant)
 
 pub check_fields-two_in-len-requires : goal.check_fields-two_in-len-requires
-check_fields-two_in-len-requires t c = let w = within _ _ _ _ c.header_at.ensures c.then-1.given.1 in omega (arith, c.requires.1)
+check_fields-two_in-len-requires t c = let w = within _ _ _ _ c.header_at.ensures c.in-Parts.is in omega (arith, c.requires)
 
 pub check_fields-check_inside-found-requires : goal.check_fields-check_inside-found-requires
-check_fields-check_inside-found-requires t c = let w = within _ _ _ _ c.header_at.ensures c.then-1.given.1 in (omega (arith, c.requires.0), (omega (arith, c.requires.1), (c.line_of-line.ensures ∙ ap line_number c.byte_in.ensures, c.two_in-len.ensures)))
+check_fields-check_inside-found-requires t c = let w = within _ _ _ _ c.header_at.ensures c.in-Parts.is in (omega (arith, c.decreases), (omega (arith, c.requires), (c.line_of-line.ensures ∙ ap line_number c.byte_in.ensures, c.two_in-len.ensures)))
 
 pub check_fields-returns-in-Fault : goal.check_fields-returns-in-Fault
-check_fields-returns-in-Fault t c = fault_inside _ _ _ _ _ _ c.loop-q-test.true c.header_at.ensures c.then-1.given.1 c.check_inside-found.ensures c.enum_told-in-Fault-1.given.1 ∙ c.loop-q.invariant
-
-pub check_fields-overflow_add-q-in-loop-q : goal.check_fields-overflow_add-q-in-loop-q
-check_fields-overflow_add-q-in-loop-q t c = omega (arith, c.requires.1, c.loop-q-test.true)
-
-pub check_fields-overflow_add-q-in-loop-q-2 : goal.check_fields-overflow_add-q-in-loop-q-2
-check_fields-overflow_add-q-in-loop-q-2 t c = let w = within _ _ _ _ c.header_at.ensures c.then-1.given.1 in omega (arith, c.requires.1, c.two_in-len.ensures)
+check_fields-returns-in-Fault t c = fault_inside _ _ _ _ _ _ c.loop-q-test.true c.header_at.ensures c.in-Parts.is c.check_inside-found.ensures c.in-Fault.is ∙ c.loop-q.invariant
 
 pub check_fields-loop-q-smaller : goal.check_fields-loop-q-smaller
 check_fields-loop-q-smaller t c = omega (arith, c.loop-q-test.true)
 
 pub check_fields-loop-q-preserved : goal.check_fields-loop-q-preserved
-check_fields-loop-q-preserved t c = next_field _ _ _ _ _ _ c.loop-q-test.true c.header_at.ensures c.then-1.given.1 c.check_inside-found.ensures c.two_in-len.ensures c.enum_told-in-Sound-1.given.1 c.loop-q.invariant
+check_fields-loop-q-preserved t c = next_field _ _ _ _ _ _ c.loop-q-test.true c.header_at.ensures c.in-Parts.is c.check_inside-found.ensures c.two_in-len.ensures c.in-Sound.is c.loop-q.invariant
 
 pub check_fields-returns-then-may_end : goal.check_fields-returns-then-may_end
 check_fields-returns-then-may_end t c = all_there _ _ _ _ _ _ c.loop-q-test.false c.may_end.ensures c.if-may_end.true ∙ c.loop-q.invariant
@@ -53,37 +38,28 @@ pub check_inside-returns-then-levels-eq0 : goal.check_inside-returns-then-levels
 check_inside-returns-then-levels-eq0 t c = c.too_deep.ensures ∙ too_deep _ _ _ c.if-levels-eq0.true
 
 pub check_inside-returns-then-len-size : goal.check_inside-returns-then-len-size
-check_inside-returns-then-len-size t c = c.malformed.ensures ∙ no_head _ _ _ c.if-levels-eq0.false c.requires.1.1.1 (c.head_size-size.ensures _ c.requires.1.1.0) c.if-len-size.true
+check_inside-returns-then-len-size t c = c.malformed.ensures ∙ no_head _ _ _ c.if-levels-eq0.false c.requires.1.1 (c.head_size-size.ensures _ c.requires.1.0) c.if-len-size.true
 
 pub check_inside-bytes_right-requires : goal.check_inside-bytes_right-requires
-check_inside-bytes_right-requires t c = omega (arith, c.requires.1.0)
+check_inside-bytes_right-requires t c = omega (arith, c.requires.0)
 
 pub check_inside-returns-then-not-bytes_right : goal.check_inside-returns-then-not-bytes_right
-check_inside-returns-then-not-bytes_right t c = c.malformed-then-not-bytes_right.ensures ∙ wrong_bytes _ _ _ c.if-levels-eq0.false c.requires.1.1.1 (c.head_size-size.ensures _ c.requires.1.1.0) c.if-len-size.false (c.bytes_right.ensures _ c.requires.1.1.0) c.if-not-bytes_right.true
+check_inside-returns-then-not-bytes_right t c = c.malformed-then-not-bytes_right.ensures ∙ wrong_bytes _ _ _ c.if-levels-eq0.false c.requires.1.1 (c.head_size-size.ensures _ c.requires.1.0) c.if-len-size.false (c.bytes_right.ensures _ c.requires.1.0) c.if-not-bytes_right.true
 
 pub check_inside-returns-then-not-has_fields : goal.check_inside-returns-then-not-has_fields
-check_inside-returns-then-not-has_fields t c = no_more _ _ _ c.if-levels-eq0.false c.requires.1.1.1 (c.head_size-size.ensures _ c.requires.1.1.0) c.if-len-size.false (c.bytes_right.ensures _ c.requires.1.1.0) c.if-not-bytes_right.false (c.has_fields.ensures _ c.requires.1.1.0) c.if-not-has_fields.true
+check_inside-returns-then-not-has_fields t c = no_more _ _ _ c.if-levels-eq0.false c.requires.1.1 (c.head_size-size.ensures _ c.requires.1.0) c.if-len-size.false (c.bytes_right.ensures _ c.requires.1.0) c.if-not-bytes_right.false (c.has_fields.ensures _ c.requires.1.0) c.if-not-has_fields.true
 
 pub check_inside-byte_in-requires : goal.check_inside-byte_in-requires
-check_inside-byte_in-requires t c = omega (arith, c.requires.1.0)
+check_inside-byte_in-requires t c = omega (arith, c.requires.0)
 
 pub check_inside-overflow_add-from : goal.check_inside-overflow_add-from
-check_inside-overflow_add-from t c = omega (arith, c.requires.1.0)
-
-pub check_inside-overflow_add-from-2 : goal.check_inside-overflow_add-from-2
-check_inside-overflow_add-from-2 t c = omega (arith, c.requires.1.0, c.requires.1.1.1, c.if-len-size.false)
+check_inside-overflow_add-from t c = omega (arith, c.requires.0)
 
 pub check_inside-overflow_add-end : goal.check_inside-overflow_add-end
-check_inside-overflow_add-end t c = omega (arith, c.requires.1.0)
-
-pub check_inside-overflow_add-end-2 : goal.check_inside-overflow_add-end-2
-check_inside-overflow_add-end-2 t c = omega (arith, c.requires.1.0, c.requires.1.1.1)
+check_inside-overflow_add-end t c = omega (arith, c.requires.0)
 
 pub check_inside-overflow_sub-levels : goal.check_inside-overflow_sub-levels
 check_inside-overflow_sub-levels t c = omega (arith, c.if-levels-eq0.false)
 
-pub check_inside-check_fields-requires : goal.check_inside-check_fields-requires
-check_inside-check_fields-requires t c = (omega (arith, c.requires.0, c.if-levels-eq0.false), omega (arith, c.requires.1.0, c.requires.1.1.1))
-
 pub check_inside-returns : goal.check_inside-returns
-check_inside-returns t c = its_fields _ _ _ c.if-levels-eq0.false c.requires.1.1.1 (c.head_size-size.ensures _ c.requires.1.1.0) c.if-len-size.false (c.bytes_right.ensures _ c.requires.1.1.0) c.if-not-bytes_right.false (c.has_fields.ensures _ c.requires.1.1.0) _ c.if-not-has_fields.false c.byte_in.ensures c.parts_of-parts.ensures c.check_fields.ensures
+check_inside-returns t c = its_fields _ _ _ c.if-levels-eq0.false c.requires.1.1 (c.head_size-size.ensures _ c.requires.1.0) c.if-len-size.false (c.bytes_right.ensures _ c.requires.1.0) c.if-not-bytes_right.false (c.has_fields.ensures _ c.requires.1.0) _ c.if-not-has_fields.false c.byte_in.ensures c.parts_of-parts.ensures c.check_fields.ensures
