@@ -1,6 +1,7 @@
 -- `value_at`: by the tag. A signed number that goes into a variant is the one that was read.
 use mir.ValLaws.{to_z-of_z}
 use mir.Syntax.{w64}
+use native.Mathlib.Omega.{arith}
 use Rattle.catalog.proofs.Entries.{integer_read, string_read, boolean_read}
 use Rattle.catalog.proofs.value_at.Goals as goal
 
@@ -17,4 +18,4 @@ returns-in-67 c =
 pub returns-in_default : goal.returns-in_default
 returns-in_default c =
     let a = c.args in
-    boolean_read a.out.now a.at c.byte_at.ensures c.in_default.rest.0.1 c.in_default.rest.1 c.byte_at-in_default.ensures
+    boolean_read a.out.now a.at c.byte_at.ensures (λ e. absurd (omega arith)) (λ e. absurd (omega arith)) c.byte_at-in_default.ensures
