@@ -1,0 +1,23 @@
+-- `items_row`: a class, a node, a define, or a statement.
+use mathlib.Core.Path.{sym, ap, ◌∙◌}
+use borrow.Author.Tests.{ne_eqb}
+use native.Mathlib.Omega.{arith}
+use Rattle.notation.specs.Grammar.{items, row_of}
+use Rattle.parse_table.specs.Codes.{action_of, actions_from, actions_in, symbol_of, symbols_onto, symbols_in}
+use Rattle.parse_table.proofs.statements.items_row.Goals as goal
+
+pub returns-in-32 : goal.returns-in-32
+unfolding row_of actions_in actions_from action_of symbols_in symbols_onto symbol_of
+returns-in-32 c = c.taken.ensures ∙ sym (ap (row_of items) c.in-32.is)
+
+pub returns-in-34 : goal.returns-in-34
+unfolding row_of actions_in actions_from action_of symbols_in symbols_onto symbol_of
+returns-in-34 c = c.taken-in-34.ensures ∙ sym (ap (row_of items) c.in-34.is)
+
+pub returns-in-35 : goal.returns-in-35
+unfolding row_of actions_in actions_from action_of symbols_in symbols_onto symbol_of
+returns-in-35 c = c.taken-in-35.ensures ∙ sym (ap (row_of items) c.in-35.is)
+
+pub returns-in_default : goal.returns-in_default
+unfolding row_of actions_in actions_from action_of symbols_in symbols_onto symbol_of
+returns-in_default c = c.statement_row.ensures ∙ sym (rw (ne_eqb c.args.kind 32 (λ e. absurd (omega arith)), ne_eqb c.args.kind 34 (λ e. absurd (omega arith)), ne_eqb c.args.kind 35 (λ e. absurd (omega arith))))
