@@ -1,6 +1,5 @@
 -- `skip`: the tokens from the loop's place on are those from the first place on.
 use mathlib.Core.Path.{refl, sym, ◌∙◌}
-use borrow.Author.Tests.{not-true, not-false}
 use native.Mathlib.Omega.{arith}
 use lib.ListN.{get_or}
 use Rattle.lexer.proofs.Scanning.{line_bound, line_rises}
@@ -12,10 +11,10 @@ loop-at-init c = (omega arith, omega arith, omega arith, omega arith, λ o. refl
 pub returns-then-not-is_gap : goal.returns-then-not-is_gap
 returns-then-not-is_gap c =
     let inv = c.loop-at.invariant in
-    record { low = inv.0; high = inv.1; line_low = inv.2; line_bound = inv.3; same_tokens = inv.4; stops = λ h. sym c.is_gap.ensures ∙ not-true _ c.if-not-is_gap.true-raw }
+    record { low = inv.0; high = inv.1; line_low = inv.2; line_bound = inv.3; same_tokens = inv.4; stops = λ h. sym c.is_gap.ensures ∙ c.if-not-is_gap.true }
 
 pub gap_end-at-requires : goal.gap_end-at-requires
-gap_end-at-requires c = (omega arith, refl, sym c.is_gap.ensures ∙ not-false _ c.if-not-is_gap.false-raw)
+gap_end-at-requires c = (omega arith, refl, sym c.is_gap.ensures ∙ c.if-not-is_gap.false)
 
 pub loop-at-smaller : goal.loop-at-smaller
 loop-at-smaller c = let run = c.gap_end-at.ensures in omega (arith, run.low, run.high)

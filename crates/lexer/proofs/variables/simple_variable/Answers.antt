@@ -2,7 +2,6 @@
 use Prim.Native.Nat.{◌+◌}
 use mathlib.Core.Path.{sym, ◌∙◌}
 use native.Mathlib.Omega.{arith}
-use borrow.Author.Tests.{not-true, not-false}
 use Rattle.lexer.proofs.Ends.{with_letter}
 use Rattle.lexer.proofs.FoundNames.{variable_faulty, variable_found}
 use Rattle.lexer.proofs.variables.simple_variable.Goals as goal
@@ -15,10 +14,10 @@ pub returns-then-not-is_name : goal.returns-then-not-is_name
 returns-then-not-is_name c =
     let a = c.args in
     let e = c.word_end-end in
-    λ o. rw c.plain.ensures (variable_faulty a.text.now a.start a.line o e.result c.requires.2 c.requires.3 e.ensures c.requires.1 (sym c.is_name.ensures ∙ not-true _ c.if-not-is_name.true-raw))
+    λ o. rw c.plain.ensures (variable_faulty a.text.now a.start a.line o e.result c.requires.2 c.requires.3 e.ensures c.requires.1 (sym c.is_name.ensures ∙ c.if-not-is_name.true))
 
 pub returns : goal.returns
 returns c =
     let a = c.args in
     let e = c.word_end-end in
-    λ o. rw c.plain-2.ensures (variable_found a.text.now a.start a.line o e.result c.requires.2 c.requires.3 e.ensures c.requires.1 (sym c.is_name.ensures ∙ not-false _ c.if-not-is_name.false-raw))
+    λ o. rw c.plain-2.ensures (variable_found a.text.now a.start a.line o e.result c.requires.2 c.requires.3 e.ensures c.requires.1 (sym c.is_name.ensures ∙ c.if-not-is_name.false))

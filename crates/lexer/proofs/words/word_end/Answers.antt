@@ -3,7 +3,6 @@ use Prim.Native.Nat.{ℕ}
 use mathlib.Core.Path.{◌≡◌, sym, ◌∙◌}
 use mathlib.Core.Bool.{true}
 use native.Mathlib.Omega.{arith}
-use borrow.Author.Tests.{not-true, not-false}
 use lib.ListN.{get_or}
 use Rattle.notation.specs.Lexing.{in_word}
 use Rattle.lexer.proofs.Scanning.{inside_more}
@@ -17,13 +16,13 @@ loop-i-init c = (omega arith, omega arith, λ j low high. absurd (omega arith))
 pub returns-then-not-in_word : goal.returns-then-not-in_word
 returns-then-not-in_word c =
     let inv = c.loop-i.invariant in
-    record { low = inv.0; high = inv.1; inside = inv.2; stops = λ h. sym c.in_word.ensures ∙ not-true _ c.if-not-in_word.true-raw }
+    record { low = inv.0; high = inv.1; inside = inv.2; stops = λ h. sym c.in_word.ensures ∙ c.if-not-in_word.true }
 
 -- src/lib.rt:41:5
 pub loop-i-preserved : goal.loop-i-preserved
 loop-i-preserved c =
     let a = c.args in
-    (omega arith, omega arith, inside_more (λ (j : ℕ). in_word (get_or a.text.now j 0) ≡ true) a.at c.loop-i.i c.loop-i.invariant.2 (sym c.in_word.ensures ∙ not-false _ c.if-not-in_word.false-raw))
+    (omega arith, omega arith, inside_more (λ (j : ℕ). in_word (get_or a.text.now j 0) ≡ true) a.at c.loop-i.i c.loop-i.invariant.2 (sym c.in_word.ensures ∙ c.if-not-in_word.false))
 
 -- src/lib.rt:36:1
 pub returns : goal.returns

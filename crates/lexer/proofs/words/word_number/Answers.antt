@@ -25,14 +25,14 @@ pub overflow_add-n : goal.overflow_add-n
 overflow_add-n c =
     let l = c.loop-i in
     let a = c.args in
-    omega (arith, c.shared_slice_known-in-loop-i-1.given (l.i - 1), room l.n (8 - (a.end - l.i)) l.invariant.2 (omega arith))
+    omega (arith, c.type_inv.text (l.i - 1), room l.n (8 - (a.end - l.i)) l.invariant.2 (omega arith))
 
 pub loop-i-preserved : goal.loop-i-preserved
 loop-i-preserved c =
     let l = c.loop-i in
     let a = c.args in
     let k : 8 - (a.end - l.i) - 1 ≡ 8 - (a.end - (l.i - 1)) = omega arith in
-    let fits = one_more l.n c.wide.result (8 - (a.end - l.i)) l.invariant.2 (omega arith) (omega arith) (omega (arith, c.shared_slice_known-in-loop-i-1.given (l.i - 1))) in
+    let fits = one_more l.n c.wide.result (8 - (a.end - l.i)) l.invariant.2 (omega arith) (omega arith) (omega (arith, c.type_inv.text (l.i - 1))) in
     (omega arith, omega arith, rw k at fits, rw (c.wide.ensures, l.invariant.3) (little_more a.text.now l.i a.end (omega arith) l.invariant.1 (omega arith)))
 
 pub returns : goal.returns

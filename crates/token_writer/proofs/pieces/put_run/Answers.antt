@@ -1,7 +1,6 @@
 -- `put_run`: what is left to store at the loop's head makes the whole.
 use mathlib.Core.Path.{sym, ◌∙◌}
 use native.Mathlib.Omega.{arith}
-use borrow.Author.Tests.{ltb-false}
 use Rattle.wire.proofs.Laws.{same_over_length, over_past}
 use Rattle.token_writer.proofs.Writing.{run_step, run_done, run_start, run_wrote}
 use Rattle.token_writer.proofs.pieces.put_run.Goals as goal
@@ -19,7 +18,7 @@ pub shape_of-out-else-p-out : goal.shape_of-out-else-p-out
 shape_of-out-else-p-out c = same_over_length _ _ _ _ _ _ c.loop-p.invariant
 
 pub returns-else-p-out : goal.returns-else-p-out
-returns-else-p-out c = let l = c.loop-p in run_wrote _ _ _ _ _ (sym (over_past l.out l.p _ (ltb-false _ _ c.if-p-out.false-raw)) ∙ l.invariant)
+returns-else-p-out c = let l = c.loop-p in run_wrote _ _ _ _ _ (sym (over_past l.out l.p _ c.if-p-out.false) ∙ l.invariant)
 
 pub shape_of-out-after-loop-p : goal.shape_of-out-after-loop-p
 shape_of-out-after-loop-p c = same_over_length _ _ _ _ _ _ c.loop-p.invariant
