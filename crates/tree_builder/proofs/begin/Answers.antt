@@ -4,18 +4,13 @@ use Rattle.notation.specs.Building.{act}
 use Rattle.notation.specs.Tokens.{place_of}
 use Rattle.tree_builder.specs.Shows.{DoesAt, Answers}
 use native.Mathlib.Omega.{arith}
-use borrow.Author.Rules.{rules}
 use Rattle.tree_builder.proofs.begin.Goals as goal
-
-opened-requires c κs = search rules
 
 pub returns-then-s-ge32 : goal.returns-then-s-ge32
 unfolding DoesAt Answers act
 returns-then-s-ge32 c =
     let a = c.args in
     λ types table f x p shows. begin_refused table a.s a.frames.now a.out.now (place_of x) a.tag f (omega (arith, c.if-s-ge32.true)) shows
-
-pub opened-requires : goal.opened-requires
 
 pub returns : goal.returns
 unfolding DoesAt Answers act

@@ -1,12 +1,7 @@
 -- `instead`: a header and the name, where the string constant stood.
 use Rattle.tree_builder.proofs.Lifting.{word_made}
 use native.Mathlib.Omega.{arith}
-use borrow.Author.Rules.{rules}
 use Rattle.tree_builder.proofs.instead.Goals as goal
-
-opened-requires c κs = search rules
-
-pub opened-requires : goal.opened-requires
 
 pub returns : goal.returns
 returns c =
