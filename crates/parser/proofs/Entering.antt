@@ -46,12 +46,14 @@ tail_rises s [] up = no_string
 tail_rises s (u ∷ table) (next_string e up) = up
 
 first_before : (s u : List ℕ) (table : List (List ℕ)) → Rising (u ∷ table) → Among s table → ascends u s ≡ true
+first_before s u [] up i = elim i [ ]
 first_before s u (v ∷ table) (next_string e up) at_first = e
 first_before s u (v ∷ table) (next_string e up) (later i) = before_both u v s e (first_before s v table up i)
 
 -- entering it changes nothing
 pub known_again : (s : List ℕ) (table : List (List ℕ)) → Among s table → Rising table → entered s table ≡ table
 unfolding entered
+known_again s [] i up = elim i [ ]
 known_again s (u ∷ table) at_first up = rw (not_itself s)
 known_again s (u ∷ table) (later i) up =
     let before = first_before s u table up i in

@@ -74,19 +74,19 @@ out_plain ends = plain_close
 
 plain_suits : (types : Types) (t : Token) (ns : Names) (ds : List Action) (table : List (List ℕ)) (x : Lexeme) → Plain ds → SuitsAll types t ns ds table x
 unfolding SuitsAll Suits
-plain_suits types t ns [] table x plain_none = tt
-plain_suits types t ns (close ∷ []) table x plain_close = (tt, tt)
-plain_suits types t ns (void u ∷ []) table x plain_void = (tt, tt)
+plain_suits types t ns _ table x plain_none = tt
+plain_suits types t ns _ table x plain_close = (tt, tt)
+plain_suits types t ns _ table x plain_void = (tt, tt)
 
 plain_short : (n : ℕ) (ds : List Action) → Plain ds → filled n ds ≤ n + 12
-plain_short n [] plain_none = omega arith
-plain_short n (close ∷ []) plain_close = omega arith
-plain_short n (void u ∷ []) plain_void = omega arith
+plain_short n _ plain_none = omega arith
+plain_short n _ plain_close = omega arith
+plain_short n _ plain_void = omega arith
 
 plain_once : (ds : List Action) → Plain ds → no_instead ds ≡ true
-plain_once [] plain_none = refl
-plain_once (close ∷ []) plain_close = refl
-plain_once (void u ∷ []) plain_void = refl
+plain_once _ plain_none = refl
+plain_once _ plain_close = refl
+plain_once _ plain_void = refl
 
 -- what the table answers of the symbol k
 module _ (types : Types) (k : Symbol) (r : LeftOut) (told : left_out_in r ≡ left_out k) (s : Building) (m out : List ℕ) where

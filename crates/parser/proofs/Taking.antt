@@ -116,7 +116,7 @@ module _ (types : Types) (st m out : List ℕ) (s : Building) (top : ℕ) (t : T
   stacked = on_top st top q.some_top
 
   found : row_of top_symbol t.kind ≡ some (row (actions_in w.actions) (symbols_in w.symbols))
-  found = row_taken w q.row_of q.taken
+  found = row_taken w q.row_of_lem q.taken
 
   fit : row_fits top_symbol t.kind (row (actions_in w.actions) (symbols_in w.symbols)) ≡ true
   fit = row_fits_lem top_symbol t.kind (row (actions_in w.actions) (symbols_in w.symbols)) found

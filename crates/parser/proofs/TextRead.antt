@@ -223,14 +223,14 @@ module _ (types : Types) (t : List ℕ) (S₀ : List (List ℕ)) (out m st tb : 
 
       stuck_here : step types (symbols_of st p) w.token f ≡ stuck → read_text (run types xs (symbols_of st p) f) (crowded_at xs S) ≡ refused OutsideNotation place
       stuck_here e =
-          let faulty : run types xs (symbols_of st p) f ≡ fault place = ap (λ (ys : List Lexeme). run types ys (symbols_of st p) f) w.first ∙ run_stuck types w.token w.rest (symbols_of st p) f e ∙ ap fault w.place_of in
+          let faulty : run types xs (symbols_of st p) f ≡ fault place = ap (λ (ys : List Lexeme). run types ys (symbols_of st p) f) w.first ∙ run_stuck types w.token w.rest (symbols_of st p) f e ∙ ap fault w.place_of_lem in
           ap (λ (e : Ended). read_text e (crowded_at xs S)) faulty ∙ fault_first place (crowded_at xs S) (λ q i. crowd_behind place q behind S i)
 
       go : Barred types (symbols_of st p) w.token f S → read_text (run types xs (symbols_of st p) f) (crowded_at xs S) ≡ refused OutsideNotation place
       go (is_malformed e) = stuck_here (fault_stuck types w.token g.to_end f e)
       go (is_stuck e) = stuck_here e
       go (is_crowded over) =
-          let full : crowded_at xs S ≡ some place = ap (λ (ys : List Lexeme). crowded_at ys S) w.first ∙ crowded_here w.token w.rest S over ∙ ap some w.place_of in
+          let full : crowded_at xs S ≡ some place = ap (λ (ys : List Lexeme). crowded_at ys S) w.first ∙ crowded_here w.token w.rest S over ∙ ap some w.place_of_lem in
           ap (read_text (run types xs (symbols_of st p) f)) full ∙ crowd_first (run types xs (symbols_of st p) f) place (λ q i. fault_behind types place q (tokens_end t p.at p.line p.operand) behind (symbols_of st p) g.to_end f i)
 
   -- ---- The first token left is taken
@@ -308,7 +308,7 @@ module _ (types : Types) (t : List ℕ) (S₀ : List (List ℕ)) (out m st tb : 
             within = w.within;
             line_bound = w.line_bound;
           };
-          to_end = step_to_end types w.token k' w.tree g.to_end f (λ i. no_tokens (tokens_end t next.at next.line next.operand) (sym e ∙ w.at_end i)) w.stepped;
+          to_end = step_to_end types w.token k' w.tree g.to_end f (λ i. no_tokens (tokens_end t next.at next.line next.operand) (sym e ∙ w.at_end_lem i)) w.stepped;
           filled = filled;
           same_run = run_next ∙ ap (λ (ys : List Lexeme). run types ys k' w.tree) e;
           same_crowd = crowd_next ∙ ap (λ (ys : List Lexeme). crowded_at ys U) e;

@@ -69,7 +69,7 @@ module _ (t m₀ : List ℕ) (count : ℕ) (r : found.Token) (h : Spelled t m₀
           rising = k.rising;
           crowded = λ o. omega (arith, strings_counted t m n.count, ap length same);
           table = λ l. sym same;
-          carried = λ l. as_meant n S (carry S (subst (λ (v : List ℕ). n.name ≡ number_in S v) e k.name_number));
+          carried = λ l. as_meant n S (carry S (subst (λ (v : List ℕ). n.name ≡ number_in S v) e k.name_number_lem));
         }
 
     -- of two strings, which begin at a and b
@@ -84,7 +84,7 @@ module _ (t m₀ : List ℕ) (count : ℕ) (r : found.Token) (h : Spelled t m₀
           rising = k.rising;
           crowded = λ o. subst (λ (ss : List (List ℕ)). 1024 < length ss) same (k.crowded o);
           table = λ l. k.table l ∙ same;
-          carried = λ l. as_meant n S (carry S (subst (λ (u : List ℕ). n.class ≡ number_in S u) e (k.class_number l)) (subst (λ (u : List ℕ). n.name ≡ number_in S u) f (k.name_number l)));
+          carried = λ l. as_meant n S (carry S (subst (λ (u : List ℕ). n.class ≡ number_in S u) e (k.class_number l)) (subst (λ (u : List ℕ). n.name ≡ number_in S u) f (k.name_number_lem l)));
         }
 
   -- ---- By kind

@@ -33,7 +33,7 @@ pub finish-requires : goal.finish-requires
 finish-requires c = (c.requires.0, (c.index_types-listed.ensures, measured_so _ _ _ _ _ _ c.read_pass-first.ensures _ _ _ c.first-in-Whole-1.given.1 c.if-text-gt65535.false (search rules) c.if-late-ne0.false))
 
 pub returns-in-Fault : goal.returns-in-Fault
-returns-in-Fault c = converts _ _ (not_read _ _ _ _ c.requires.0 c.requires.1 c.if-text-gt65535.false (fault_first _ _ _ _ _ _ c.read_pass-first.ensures _ c.first-1.given.1)) (search rules) refl c.refuse-in-Fault.ensures
+returns-in-Fault c = converts _ _ (not_read _ _ _ _ c.requires.0 c.requires.1 c.if-text-gt65535.false (fault_first _ _ _ _ _ _ c.read_pass-first.ensures _ c.in-Fault.is)) (search rules) refl c.refuse-in-Fault.ensures
 
 pub returns-else-late-ne0 : goal.returns-else-late-ne0
 returns-else-late-ne0 c = converts_from _ _ (search rules) refl c.finish.ensures

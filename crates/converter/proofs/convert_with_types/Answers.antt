@@ -20,4 +20,4 @@ unfolding check_types
 returns-in-Fault c = converts _ _ (fault_of_types _ _ _ _ c.if-work-lt65536.false c.check_types-v.ensures c.v-1.given.1) refl refl c.refuse-in-Fault.ensures
 
 pub returns-in-Sound : goal.returns-in-Sound
-returns-in-Sound c = rw (lent_chosen _ (sym c.check_types-v.ensures ∙ c.enum_told-1.given.1)) at c.convert_chosen.ensures
+returns-in-Sound c = rw (lent_chosen _ (sym c.check_types-v.ensures ∙ c.in-Sound.is)) at c.convert_chosen.ensures

@@ -9,7 +9,7 @@ pub returns-then-actions-eq0 : goal.returns-then-actions-eq0
 returns-then-actions-eq0 t c = (λ types. none_done types _ _ _ _ _ _ c.if-actions-eq0.true, none_read _ _ _ c.if-actions-eq0.true)
 
 pub do_action-first-requires : goal.do_action-first-requires
-do_action-first-requires t c = (able_first c.requires.1.types _ _ _ _ _ _ c.if-actions-eq0.false (omega arith) c.requires.1.stands, omega arith)
+do_action-first-requires t c = (able_first c.requires.types _ _ _ _ _ _ c.if-actions-eq0.false (omega arith) c.requires.stands, omega arith)
 
 pub returns-then-actions-lt256 : goal.returns-then-actions-lt256
 returns-then-actions-lt256 t c = (λ types. only_done _ _ _ c.if-actions-eq0.false (omega arith) (omega arith) types _ _ _ _ _ _ (c.do_action-first.ensures.0 types), only_reads _ _ _ c.if-actions-eq0.false (omega arith) (omega arith) _ c.do_action-first.ensures.1)
@@ -18,14 +18,14 @@ pub do_actions-requires : goal.do_actions-requires
 do_actions-requires t c =
     let p = c.requires in
     let n = c.if-actions-eq0.false in
-    (omega (arith, p.0, n), record { types = p.1.types; stands = stands_next p.1.types _ _ _ _ _ _ n (omega arith) p.1.stands _ _ _ _ c.first-1.given.1 (c.do_action-first.ensures.0 p.1.types) (search rules) })
+    (omega arith, record { types = p.types; stands = stands_next p.types _ _ _ _ _ _ n (omega arith) p.stands _ _ _ _ c.in-Did.is (c.do_action-first.ensures.0 p.types) (search rules) })
 
 pub returns-in-Did : goal.returns-in-Did
 returns-in-Did t c =
     let n = c.if-actions-eq0.false in
     let small = c.ranges.actions in
-    let first = c.first-1.given.1 in
+    let first = c.in-Did.is in
     (λ types. then_others types _ _ _ _ _ _ n (omega (arith, small)) _ _ _ _ _ _ _ first (c.do_action-first.ensures.0 types) (c.do_actions.ensures.0 types), then_reads _ _ _ n (omega (arith, small)) _ _ _ first c.do_action-first.ensures.1 c.do_actions.ensures.1)
 
 pub returns-in-No : goal.returns-in-No
-returns-in-No t c = (λ types. first_stopped types _ _ _ _ _ _ c.if-actions-eq0.false (omega arith) _ _ _ c.enum_told-1.given.1 (c.do_action-first.ensures.0 types), stopped_reads _ _ _ c.if-actions-eq0.false (omega arith))
+returns-in-No t c = (λ types. first_stopped types _ _ _ _ _ _ c.if-actions-eq0.false (omega arith) _ _ _ c.in-No.is (c.do_action-first.ensures.0 types), stopped_reads _ _ _ c.if-actions-eq0.false (omega arith))

@@ -11,17 +11,17 @@ pub returns-in-1 : goal.returns-in-1
 unfolding DoesAt
 returns-in-1 c =
     let value = c.args.token.value in
-    let same : to_z w64 (of_z w64 value) ≡ value = to_z-of_z w64 value (record { sfits = c.struct_told-1.given.1.1.1.1.1.1.0.1 }) in
-    (λ m types table f x k shows. c.add_integer.ensures m types table f x (rw same (k.integer c.in-1.keys1)) shows, λ e. absurd (omega (arith, c.in-1.keys1, e)))
+    let same : to_z w64 (of_z w64 value) ≡ value = to_z-of_z w64 value (record { sfits = omega arith }) in
+    (λ m types table f x k shows. c.add_integer.ensures m types table f x (rw same (k.integer c.in-1.is)) shows, λ e. absurd (omega (arith, c.in-1.is, e)))
 
 pub returns-in-26 : goal.returns-in-26
 unfolding DoesAt
-returns-in-26 c = (λ m types table f x k shows. c.add_boolean.ensures m types table f x (k.true_word c.in-26.keys2) shows, λ e. absurd (omega (arith, c.in-26.keys2, e)))
+returns-in-26 c = (λ m types table f x k shows. c.add_boolean.ensures m types table f x (k.true_word_lem c.in-26.is) shows, λ e. absurd (omega (arith, c.in-26.is, e)))
 
 pub returns-in-27 : goal.returns-in-27
 unfolding DoesAt
-returns-in-27 c = (λ m types table f x k shows. c.add_boolean-in-27.ensures m types table f x (k.false_word c.in-27.keys3) shows, λ e. absurd (omega (arith, c.in-27.keys3, e)))
+returns-in-27 c = (λ m types table f x k shows. c.add_boolean-in-27.ensures m types table f x (k.false_word_lem c.in-27.is) shows, λ e. absurd (omega (arith, c.in-27.is, e)))
 
 pub returns-in_default : goal.returns-in_default
 unfolding DoesAt
-returns-in_default c = (λ m types table f x k shows. c.add_string.ensures.0 m types table f x (k.string c.in_default.rest.0.0.1 c.in_default.rest.0.1 c.in_default.rest.1) shows, λ e. c.add_string.ensures.1)
+returns-in_default c = (λ m types table f x k shows. c.add_string.ensures.0 m types table f x (k.string (λ e. absurd (omega arith)) (λ e. absurd (omega arith)) (λ e. absurd (omega arith))) shows, λ e. c.add_string.ensures.1)

@@ -10,7 +10,7 @@ pub push-above-requires : goal.push-above-requires
 push-above-requires c = let p = c.requires in row_room p.0.types _ _ _ _ _ _ _ _ p.1 p.0.steppable
 
 pub returns-in-Did : goal.returns-in-Did
-returns-in-Did c = let d = c.do_actions.ensures in λ types. row_onward types _ _ _ _ _ _ _ _ c.requires.1 _ _ _ _ _ _ c.next-1.given.1 (d.0 types) d.1 c.push-above.ensures
+returns-in-Did c = let d = c.do_actions.ensures in λ types. row_onward types _ _ _ _ _ _ _ _ c.requires.1 _ _ _ _ _ _ c.in-Did.is (d.0 types) d.1 c.push-above.ensures
 
 pub returns-in-No : goal.returns-in-No
-returns-in-No c = λ types. row_stuck types _ _ _ _ _ _ _ _ c.requires.1 _ _ _ _ c.enum_told-1.given.1 (c.do_actions.ensures.0 types)
+returns-in-No c = λ types. row_stuck types _ _ _ _ _ _ _ _ c.requires.1 _ _ _ _ c.in-No.is (c.do_actions.ensures.0 types)

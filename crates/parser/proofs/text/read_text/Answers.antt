@@ -9,19 +9,19 @@ pub begin-pass-requires : goal.begin-pass-requires
 begin-pass-requires c = c.requires.1.room
 
 pub loop-next-init : goal.loop-next-init
-loop-next-init c = record { going = going_begun _ _ _ _ _ _ _ _ _ c.requires.1 c.begin-pass.ensures; bytes = record { below = λ i. omega (arith, c.shared_slice_known-3-1.given i) }; out_size = refl; frames_size = refl; stack_size = refl; table_size = refl }
+loop-next-init c = record { going = going_begun _ _ _ _ _ _ _ _ _ c.requires.1 c.begin-pass.ensures; bytes = record { below = λ i. omega (arith, c.type_inv.text i) }; out_size = refl; frames_size = refl; stack_size = refl; table_size = refl }
 
 pub read_token-requires : goal.read_token-requires
 read_token-requires c = (c.requires.0, c.loop-next.invariant.going.ready)
 
 pub loop-next-smaller : goal.loop-next-smaller
-loop-next-smaller c = forward _ _ _ _ _ _ _ _ _ _ _ _ c.loop-next.invariant _ _ _ _ _ c.read_token.ensures _ c.next-1.given.1
+loop-next-smaller c = forward _ _ _ _ _ _ _ _ _ _ _ _ c.loop-next.invariant _ _ _ _ _ c.read_token.ensures _ c.in-On.is
 
 pub loop-next-preserved : goal.loop-next-preserved
-loop-next-preserved c = along_next _ _ _ _ _ _ _ _ _ _ _ _ c.loop-next.invariant _ _ _ _ _ c.read_token.ensures _ c.next-1.given.1 (search rules) (search rules) (search rules) (search rules)
+loop-next-preserved c = along_next _ _ _ _ _ _ _ _ _ _ _ _ c.loop-next.invariant _ _ _ _ _ c.read_token.ensures _ c.in-On.is (search rules) (search rules) (search rules) (search rules)
 
 pub returns-in-Done : goal.returns-in-Done
-returns-in-Done c = whole_read _ _ _ _ _ _ _ _ _ _ _ _ c.loop-next.invariant _ _ _ _ _ c.read_token.ensures _ c.last-1.given.1
+returns-in-Done c = whole_read _ _ _ _ _ _ _ _ _ _ _ _ c.loop-next.invariant _ _ _ _ _ c.read_token.ensures _ c.in-Done.is
 
 pub returns-in-Fault : goal.returns-in-Fault
-returns-in-Fault c = refused_read _ _ _ _ _ _ _ _ _ _ _ _ c.loop-next.invariant _ _ _ _ _ c.read_token.ensures _ c.place-1.given.1
+returns-in-Fault c = refused_read _ _ _ _ _ _ _ _ _ _ _ _ c.loop-next.invariant _ _ _ _ _ c.read_token.ensures _ c.in-Fault.is

@@ -8,7 +8,7 @@ pub returns-then-types-eq0 : goal.returns-then-types-eq0
 returns-then-types-eq0 c = (λ e. none_sound _ c.if-types-eq0.true, λ e. refl)
 
 pub returns-in-Sound : goal.returns-in-Sound
-returns-in-Sound c = (λ e. chosen_sound _ (sym c.check_types-v.ensures ∙ c.enum_told-1.given.1), λ e. refl)
+returns-in-Sound c = (λ e. chosen_sound _ (sym c.check_types-v.ensures ∙ c.in-Sound.is), λ e. refl)
 
 pub returns-in-Fault : goal.returns-in-Fault
 returns-in-Fault c = (λ e. false_not_true e, λ e. fault_not_sound _ c.if-types-eq0.false (sym c.check_types-v.ensures ∙ c.enum_told-in-Fault-1.given.1) e)

@@ -51,7 +51,7 @@ pub shape_of-log-in-Done : goal.shape_of-log-in-Done
 shape_of-log-in-Done c = search (rules, c.loop-next.invariant.size)
 
 pub returns-in-Done : goal.returns-in-Done
-returns-in-Done c = whole_noted _ _ _ _ _ _ _ _ _ _ _ _ _ _ c.loop-next.invariant _ c.next_token-token.ensures _ c.top_symbol-symbol.ensures _ _ _ _ _ c.read_token.ensures _ c.last-1.given.1 c.note-all.ensures
+returns-in-Done c = whole_noted _ _ _ _ _ _ _ _ _ _ _ _ _ _ c.loop-next.invariant _ c.next_token-token.ensures _ c.top_symbol-symbol.ensures _ _ _ _ _ c.read_token.ensures _ c.in-Done.is c.note-all.ensures
 
 pub returns-in-Fault : goal.returns-in-Fault
-returns-in-Fault c = none_noted _ _ _ _ _ _ _ _ _ _ _ _ _ _ c.loop-next.invariant _ c.next_token-token.ensures _ c.top_symbol-symbol.ensures _ _ _ _ _ c.read_token.ensures _ c.place-1.given.1 _
+returns-in-Fault c = none_noted _ _ _ _ _ _ _ _ _ _ _ _ _ _ c.loop-next.invariant _ c.next_token-token.ensures _ c.top_symbol-symbol.ensures _ _ _ _ _ c.read_token.ensures _ c.in-Fault.is _

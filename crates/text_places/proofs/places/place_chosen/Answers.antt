@@ -15,4 +15,4 @@ pub returns-in-Whole : goal.returns-in-Whole
 returns-in-Whole c = same_room _ _ _ (search rules) (c.IsPlace-in.ensures _ (whole_told _ _ c.count-1.given.1 c.note_text.ensures))
 
 pub returns-in-Refused : goal.returns-in-Refused
-returns-in-Refused c = refused_told _ _ _ _ c.enum_told-1.given.1 c.note_text.ensures
+returns-in-Refused c = refused_told _ _ _ _ c.in-Refused.is c.note_text.ensures
