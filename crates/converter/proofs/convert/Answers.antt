@@ -8,10 +8,6 @@ use Rattle.converter.proofs.convert.Goals as goal
 pub returns-then-work-lt65536 : goal.returns-then-work-lt65536
 returns-then-work-lt65536 c = converts _ _ (short_memory _ _ _ _ c.if-work-lt65536.true) refl refl c.refuse.ensures
 
--- NO GOAL
--- slice-aggregate-convert-chosen : tie.Need-slice-aggregate-convert-chosen
--- slice-aggregate-convert-chosen c = refl
-
 pub convert_chosen-requires : goal.convert_chosen-requires
 unfolding chosen check_types
 convert_chosen-requires c = (c.if-work-lt65536.false, refl)

@@ -26,7 +26,7 @@ returns-then-out-size c =
 
 pub write_manifest-requires : goal.write_manifest-requires
 write_manifest-requires c =
-    (c.requires.1.0, fitting _ c.requires.1.1 c.table_size-before.ensures.0 _ _ c.requires.1.0.sound (record { below = λ i. omega (arith, c.shared_slice_known-3-1.given i) }) refl c.if-size-gt65535.false c.if-out-size.false)
+    (c.requires.1.0, fitting _ c.requires.1.1 c.table_size-before.ensures.0 _ _ c.requires.1.0.sound (record { below = λ i. omega (arith, c.type_inv.text i) }) refl c.if-size-gt65535.false c.if-out-size.false)
 
 pub returns : goal.returns
 returns c =
