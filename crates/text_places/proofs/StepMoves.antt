@@ -153,9 +153,9 @@ module _ (types : Types) (x : Lexeme) where
             still (inr b) = inr (below (eqb (sort s) 0) (eqb (sort s) 3 || eqb (sort s) 4) (ap (λ (a : ℕ). eqb a 0) m ∙ no_sign) b)
 
         go : (n : ℕ) → sort s ≡ n → (ds : List Action) → Left n ds → acts types ds x j ≡ some i → Outcome most f g
-        go n m [] (left_alone no_sign no_one) q = passed n m no_sign (ap tree_marks (sym (same_result j i q)))
-        go n m (close ∷ []) left_closed q = passed 4 m refl (closed_same types x j i q)
-        go n m (void t ∷ []) left_empty q =
+        go n m _ (left_alone no_sign no_one) q = passed n m no_sign (ap tree_marks (sym (same_result j i q)))
+        go n m _ left_closed q = passed 4 m refl (closed_same types x j i q)
+        go n m _ (left_empty {t}) q =
             others (plain_below 3 k refl (subst (λ (a : ℕ). next a k ≡ true) m stacked.0)) stacked.2
             (record { come = appended_both h.come (acts_grown types x (void t ∷ []) j i false refl (λ z. false_not_true z) q); guard = λ o. inr (stacked.1 (ap (λ (a : ℕ). eqb a 3) m)) })
 
@@ -199,9 +199,9 @@ unfolding size_of
 left_grows types x n ds f i l e = let a = acts_grown types x ds f i false (left_appends ds l) (λ z. false_not_true z) e in omega (arith, ap length a.after, length-append (tree_marks f) a.come)
   where
     left_appends : {n : ℕ} (ds : List Action) → Left n ds → appends false ds ≡ true
-    left_appends [] (left_alone a b) = refl
-    left_appends (close ∷ []) left_closed = refl
-    left_appends (void t ∷ []) left_empty = refl
+    left_appends _ (left_alone a b) = refl
+    left_appends _ left_closed = refl
+    left_appends _ left_empty = refl
 
 pub start_sound : Sound manifest start
 unfolding is_operator
@@ -221,13 +221,13 @@ module _ (types : Types) (x : Lexeme) (k' : List Symbol) (g : Build) where
 
       takes : (s : Symbol) (k : List Symbol) (f : Build) (ds : List Action) (ss : List Symbol) → row_of s (kind (token_of x)) ≡ some (row ds ss) → acts types ds x f ≡ some g → Sound (s ∷ k) f → (a : Bool) → eqb (sort s) 1 ≡ a → (b : Bool) → eqb (sort s) 2 ≡ b → Moved (pick b 1 0) (pick a (body_of f) (pick (is_operator (kind (token_of x))) (start_of g) (size_of f))) (place_of x) (tree_marks f) (tree_marks g)
       takes s k f ds ss r e h true i b j = inserted ((sole_done types x ds f g e).before ((row_told types x s ds ss r).before i))
-      takes s k f ds ss r e h false i true j = shortened ((sole_done types x ds f g e).instead_of ((row_told types x s ds ss r).instead_of i j) (h.word j))
+      takes s k f ds ss r e h false i true j = shortened ((sole_done types x ds f g e).instead_of_lem ((row_told types x s ds ss r).instead_of_lem i j) (h.word j))
       takes s k f ds ss r e h false i false j = rest_taken types x 0 g s k f f ds ss r e i j (nothing f (s ∷ k))
 
       not_left : {A : Type 0} (n : ℕ) (ds : List Action) → Left n ds → eqb n 1 ≡ true → A
-      not_left n [] (left_alone no_sign no_one) i = false_not_true (sym no_one ∙ i)
-      not_left n (close ∷ []) left_closed i = false_not_true i
-      not_left n (void t ∷ []) left_empty i = false_not_true i
+      not_left n _ (left_alone no_sign no_one) i = false_not_true (sym no_one ∙ i)
+      not_left n _ left_closed i = false_not_true i
+      not_left n _ left_empty i = false_not_true i
 
       leaves : (s : Symbol) (k : List Symbol) (f : Build) (ds : List Action) (i : Build) → left_out s ≡ some ds → acts types ds x f ≡ some i → step types k x i ≡ to k' g → Sound (s ∷ k) f → (a : Bool) → eqb (sort s) 1 ≡ a → Moved (pick (eqb (sort s) 2) 1 0) (pick a (body_of f) (pick (is_operator (kind (token_of x))) (start_of g) (size_of f))) (place_of x) (tree_marks f) (tree_marks g)
       leaves s k f ds i l e q h true j = not_left (sort s) ds (out_left s ds l) j

@@ -11,4 +11,4 @@ pub returns-in-Sound : goal.returns-in-Sound
 returns-in-Sound c = (λ e. chosen_sound _ (sym c.check_types-v.ensures ∙ c.in-Sound.is), λ e. refl)
 
 pub returns-in-Fault : goal.returns-in-Fault
-returns-in-Fault c = (λ e. false_not_true e, λ e. fault_not_sound _ c.if-types-eq0.false (sym c.check_types-v.ensures ∙ c.enum_told-in-Fault-1.given.1) e)
+returns-in-Fault c = (λ e. false_not_true e, λ e. fault_not_sound _ c.if-types-eq0.false (sym c.check_types-v.ensures ∙ c.in-Fault.is) e)

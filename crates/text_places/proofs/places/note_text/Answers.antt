@@ -11,7 +11,7 @@ begin-pass-requires c = c.requires.1.room
 
 pub loop-next-init : goal.loop-next-init
 loop-next-init c =
-    let bytes : IsBytes c.args.text.now = record { below = λ i. omega (arith, c.shared_slice_known-3-1.given i) } in
+    let bytes : IsBytes c.args.text.now = record { below = λ i. omega (arith, c.type_inv.text i) } in
     noting_begun _ _ _ _ _ _ _ _ _ bytes c.requires.1 c.begin-pass.ensures
 
 pub top_symbol-symbol-requires : goal.top_symbol-symbol-requires
@@ -24,16 +24,16 @@ pub read_token-requires : goal.read_token-requires
 read_token-requires c = (c.requires.0, c.loop-next.invariant.along.going.ready)
 
 pub note-entries-requires : goal.note-entries-requires
-note-entries-requires c = next_notable _ _ _ _ _ _ _ _ _ _ _ _ _ _ c.loop-next.invariant _ c.next_token-token.ensures _ c.top_symbol-symbol.ensures _ _ _ _ _ c.read_token.ensures _ c.next-1.given.1
+note-entries-requires c = next_notable _ _ _ _ _ _ _ _ _ _ _ _ _ _ c.loop-next.invariant _ c.next_token-token.ensures _ c.top_symbol-symbol.ensures _ _ _ _ _ c.read_token.ensures _ c.in-On.is
 
 pub loop-next-smaller : goal.loop-next-smaller
-loop-next-smaller c = forward _ _ _ _ _ _ _ _ _ _ _ _ c.loop-next.invariant.along _ _ _ _ _ c.read_token.ensures _ c.next-1.given.1
+loop-next-smaller c = forward _ _ _ _ _ _ _ _ _ _ _ _ c.loop-next.invariant.along _ _ _ _ _ c.read_token.ensures _ c.in-On.is
 
 pub loop-next-preserved : goal.loop-next-preserved
-loop-next-preserved c = next_noting _ _ _ _ _ _ _ _ _ _ _ _ _ _ c.loop-next.invariant _ c.next_token-token.ensures _ c.top_symbol-symbol.ensures _ _ _ _ _ c.read_token.ensures _ c.next-1.given.1 (search rules) (search rules) (search rules) (search rules) c.note-entries.ensures
+loop-next-preserved c = next_noting _ _ _ _ _ _ _ _ _ _ _ _ _ _ c.loop-next.invariant _ c.next_token-token.ensures _ c.top_symbol-symbol.ensures _ _ _ _ _ c.read_token.ensures _ c.in-On.is (search rules) (search rules) (search rules) (search rules) c.note-entries.ensures
 
 pub note-all-requires : goal.note-all-requires
-note-all-requires c = last_notable _ _ _ _ _ _ _ _ _ _ _ _ _ _ c.loop-next.invariant _ c.next_token-token.ensures _ c.top_symbol-symbol.ensures _ _ _ _ _ c.read_token.ensures _ c.last-1.given.1
+note-all-requires c = last_notable _ _ _ _ _ _ _ _ _ _ _ _ _ _ c.loop-next.invariant _ c.next_token-token.ensures _ c.top_symbol-symbol.ensures _ _ _ _ _ c.read_token.ensures _ c.in-Done.is
 
 pub shape_of-out-in-Done : goal.shape_of-out-in-Done
 shape_of-out-in-Done c = search (rules, c.loop-next.invariant.along.out_size)

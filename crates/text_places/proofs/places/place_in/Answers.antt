@@ -9,11 +9,11 @@ returns-then-field-strings c = λ types noted. told_string types _ _ _ _ _ _ _ n
 
 pub returns-then-log-entries : goal.returns-then-log-entries
 returns-then-log-entries c =
-    let bytes : IsBytes c.args.text.now = record { below = λ i. omega (arith, c.shared_slice_known-1.given i) } in
+    let bytes : IsBytes c.args.text.now = record { below = λ i. omega (arith, c.type_inv.text i) } in
     λ types noted. told_crowded types _ _ _ _ _ _ _ noted c.table_size-strings.ensures.0 bytes c.if-log-entries.true
 
 pub returns : goal.returns
 returns c =
     let f = c.follow.ensures in
-    let bytes : IsBytes c.args.text.now = record { below = λ i. omega (arith, c.shared_slice_known-1.given i) } in
+    let bytes : IsBytes c.args.text.now = record { below = λ i. omega (arith, c.type_inv.text i) } in
     λ types noted. told_item types _ _ _ _ _ _ _ noted c.table_size-strings.ensures.0 _ bytes (omega arith) (omega arith) f.0 f.1
