@@ -27,7 +27,7 @@ loop-i-preserved c =
     let inv = c.loop-i.invariant.1 in
     let free-at = c.free_at in
     let stores = free-at.ensures in
-    (omega arith, (free-at.auto.0 ∙ inv.0, (freed_more _ _ _ inv.1.0 stores.0, stores.1 ∙ inv.1.1)))
+    (omega arith, (free-at.auto.work ∙ inv.0, (freed_more _ _ _ inv.1.0 stores.0, stores.1 ∙ inv.1.1)))
 
 pub shape_of-work : goal.shape_of-work
 shape_of-work c = c.loop-i.invariant.1.0

@@ -4,7 +4,7 @@ use Rattle.cells.specs.Slots.{holds, lacks}
 use Rattle.cells.proofs.obtain.Goals as goal
 
 pub returns-in-At : goal.returns-in-At
-returns-in-At c = (holds (sym c.find.ensures ∙ c.i-1.given.1), refl)
+returns-in-At c = (holds (sym c.find.ensures ∙ c.in-At.is), refl)
 
 pub returns-in-Nothing : goal.returns-in-Nothing
 returns-in-Nothing c =
