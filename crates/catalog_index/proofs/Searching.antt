@@ -195,6 +195,7 @@ module _ (m : List ℕ) (fill n p : ℕ) (small : fill ≤ 65535) (e : Entry) (e
 
   among_written : (es : List Entry) (q : ℕ) → Within e p es q → Listed FitsEntry catalog_bytes m q fill es → (ts : List Posting) → ((v : Place) → last_in bucket attribute_test v ts ≡ v) → last_in bucket attribute_test Nothing (gather entry_bytes post_entry es q ts) ≡ attribute_place n e p
   unfolding gather attribute_place
+  among_written [] q x3 l ts clean = elim x3 [ ]
   among_written (_ ∷ es) q first l ts clean =
       let after = p + length (entry_bytes e) in
       among entry_bytes FitsEntry catalog_bytes m fill (next m) post_entry bucket attribute_test (λ x. false) es after (others entry_bytes FitsEntry catalog_bytes m fill (next m) p e es l) (λ x i o v ss. other_entry x o (λ j a b c d. omega (arith, o.from)) v ss) Nothing (post_entry p e ts)

@@ -2,7 +2,6 @@
 use Prim.Native.Nat.{ℕ}
 use mathlib.Core.Path.{ap}
 use mathlib.Core.Bool.{Bool}
-use mathlib.Core.Logic.{⊎_elim}
 use native.Mathlib.Omega.{arith}
 use Rattle.cells.specs.Layout.{most_records}
 use Rattle.catalog.specs.Finding.{Below}
@@ -11,6 +10,7 @@ use Rattle.catalog_index.specs.Chains.{follow, last_with}
 use Rattle.catalog_index.specs.Index.{places_of, links_of, chain_in, sought_at}
 use Rattle.catalog_index.proofs.Chains.{taken, passed_over, below_place, below_same, walk_on, walk_ends, walk_breaks}
 use Rattle.catalog_index.proofs.find.Goals as goal
+use Rattle.catalog_index.proofs.find.Goals.{then-is_sought, else-is_sought}
 
 pub loop-r-init : goal.loop-r-init
 unfolding chain_in Below
@@ -51,8 +51,8 @@ loop-r-preserved c =
       omega (arith, l.invariant.0),
       (
         walk_on f (places_of a.work.now) (links_of a.work.now) l.found l.below l.r l.invariant.1.0 c.if-is_sought.found c.loop-r-test.true c.if-below-r.false c.two_in-p.ensures c.two_in-r-in-loop-r.ensures
-            (⊎_elim (λ way. taken f l.found c.is_sought.ensures way.0.taken way.1) (λ way. passed_over f l.found c.is_sought.ensures way.0.left way.1) c.if-is_sought.branch),
-        ⊎_elim (λ way. below_place way.1 (omega arith)) (λ way. below_same 65536 way.1 l.invariant.1.1) c.if-is_sought.branch,
+            (elim c.if-is_sought.branch [ then-is_sought w ↦ taken f l.found c.is_sought.ensures w.if-is_sought.true w.found-is | else-is_sought w ↦ passed_over f l.found c.is_sought.ensures w.if-is_sought.false w.found-is ]),
+        elim c.if-is_sought.branch [ then-is_sought w ↦ below_place w.found-is (omega arith) | else-is_sought w ↦ below_same 65536 w.found-is l.invariant.1.1 ],
       ),
     )
 

@@ -5,7 +5,7 @@ use Rattle.catalog_index.proofs.has_entry.Goals as goal
 pub returns-in-At : goal.returns-in-At
 returns-in-At c = λ es w i.
     let a = c.args in
-    has_one a.out.now a.fill a.kind a.title c.requires.1.1 c.requires.1.0 es w (c.find_entry.ensures.0 es w i) c.enum_told-1.given.0.0 c.in-At.is
+    has_one a.out.now a.fill a.kind a.title c.requires.1.1 c.requires.1.0 es w (c.find_entry.ensures.0 es w i) _ c.in-At.is
 
 pub returns-in-Nothing : goal.returns-in-Nothing
 returns-in-Nothing c = λ es w i.

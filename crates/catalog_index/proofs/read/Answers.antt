@@ -11,18 +11,18 @@ returns-in_default c = λ es w i.
 
 pub find_attribute-requires : goal.find_attribute-requires
 find_attribute-requires c =
-    let low = below_at c.find_entry.ensures.1 c.entry-1.given.1 in
+    let low = below_at c.find_entry.ensures.1 c.in-At.is in
     (c.requires.0, (c.requires.1.0, (c.requires.1.1, omega (arith, low))))
 
 pub returns-in_default-find_attribute : goal.returns-in_default-find_attribute
 returns-in_default-find_attribute c = λ es w i.
     let a = c.args in
-    read_missing a.out.now a.fill a.kind a.title c.requires.1.1 c.requires.1.0 es w (c.find_entry.ensures.0 es w i) a.name c.entry-1.given.0.0 c.entry-1.given.1 (λ e place is. c.find_attribute.ensures.0 es a.kind a.title e w i place is) c.enum_told-in_default-find_attribute-1.given.1
+    read_missing a.out.now a.fill a.kind a.title c.requires.1.1 c.requires.1.0 es w (c.find_entry.ensures.0 es w i) a.name c.in-At.entry c.in-At.is (λ e place is. c.find_attribute.ensures.0 es a.kind a.title e w i place is) c.in_default-find_attribute.is
 
 pub read_attribute-requires : goal.read_attribute-requires
-read_attribute-requires c = omega (arith, below_at c.find_attribute.ensures.1 c.at-1.given.1)
+read_attribute-requires c = omega (arith, below_at c.find_attribute.ensures.1 c.in-At-find_attribute.is)
 
 pub returns : goal.returns
 returns c = λ es w i.
     let a = c.args in
-    read_content a.out.now a.fill a.kind a.title c.requires.1.1 c.requires.1.0 es w (c.find_entry.ensures.0 es w i) a.name c.entry-1.given.0.0 c.entry-1.given.1 (λ e place is. c.find_attribute.ensures.0 es a.kind a.title e w i place is) c.at-1.given.0.0 c.at-1.given.1 c.read_attribute.ensures
+    read_content a.out.now a.fill a.kind a.title c.requires.1.1 c.requires.1.0 es w (c.find_entry.ensures.0 es w i) a.name c.in-At.entry c.in-At.is (λ e place is. c.find_attribute.ensures.0 es a.kind a.title e w i place is) c.in-At-find_attribute.at c.in-At-find_attribute.is c.read_attribute.ensures
