@@ -4,7 +4,7 @@ use Rattle.schedule.proofs.with_next.Goals as goal
 
 pub returns-in-Length : goal.returns-in-Length
 unfolding line_of
-returns-in-Length c = rw c.written-1.given.1
+returns-in-Length c = rw c.in-Length.is
 
 pub returns-in-TooLong : goal.returns-in-TooLong
 unfolding line_of

@@ -8,10 +8,10 @@ pub loop-n-init : goal.loop-n-init
 loop-n-init c = (refl, refl)
 
 pub loop-n-smaller : goal.loop-n-smaller
-loop-n-smaller c = omega (arith, label_from _ _ c.next.ensures _ c.n-1.given.1)
+loop-n-smaller c = omega (arith, label_from _ _ c.next.ensures _ c.in-At.is)
 
 pub loop-n-preserved : goal.loop-n-preserved
-loop-n-preserved c = (c.put_label-end.auto.0 ∙ c.loop-n.invariant.0, label_put _ _ c.next.ensures _ c.n-1.given.1 _ _ c.put_label-end.ensures c.loop-n.invariant.1)
+loop-n-preserved c = (c.put_label-end.auto.line ∙ c.loop-n.invariant.0, label_put _ _ c.next.ensures _ c.in-At.is _ _ c.put_label-end.ensures c.loop-n.invariant.1)
 
 pub shape_of-line-in-Nothing : goal.shape_of-line-in-Nothing
 shape_of-line-in-Nothing c = c.loop-n.invariant.0

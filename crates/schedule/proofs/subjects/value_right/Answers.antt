@@ -1,4 +1,5 @@
 -- `value_right`: by the tag.
+use native.Mathlib.Omega.{arith}
 use Rattle.schedule.proofs.Tests.{integer_size, string_size, boolean_size, no_value}
 use Rattle.schedule.proofs.subjects.value_right.Goals as goal
 
@@ -12,4 +13,4 @@ pub returns-in-68 : goal.returns-in-68
 returns-in-68 c = boolean_size _ _ c.in-68.is
 
 pub returns-in_default : goal.returns-in_default
-returns-in_default c = no_value _ _ c.in_default.rest.0.0.1 c.in_default.rest.0.1 c.in_default.rest.1
+returns-in_default c = no_value _ _ (λ e. absurd (omega arith)) (λ e. absurd (omega arith)) (λ e. absurd (omega arith))
