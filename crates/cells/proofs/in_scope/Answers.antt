@@ -7,7 +7,7 @@ use Rattle.cells.proofs.in_scope.Goals as goal
 
 pub returns-then-work-low : goal.returns-then-work-low
 returns-then-work-low c =
-    low_not_of_scope _ _ c.requires.0 _ c.if-work-low.true (omega (arith, c.shared_slice_known-2-1.given (key_at c.args.i + 1)))
+    low_not_of_scope _ _ c.requires.0 _ c.if-work-low.true (omega (arith, c.type_inv.work (key_at c.args.i + 1)))
 
 pub returns-then-work-i-ne-USED : goal.returns-then-work-i-ne-USED
 returns-then-work-i-ne-USED c = not_used _ _ c.requires.0 _ c.if-work-i-ne-USED.true

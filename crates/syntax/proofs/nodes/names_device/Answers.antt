@@ -16,7 +16,7 @@ end_of-requires c = omega (arith, c.requires.1)
 
 pub some_names-requires : goal.some_names-requires
 unfolding two
-some_names-requires c = (c.requires.0, omega (arith, c.requires.1, c.end_of.ensures, c.shared_slice_known-1.given (c.args.p + 1), c.shared_slice_known-1.given (c.args.p + 1 + 1)))
+some_names-requires c = (c.requires.0, omega (arith, c.requires.1, c.end_of.ensures, c.type_inv.m (c.args.p + 1), c.type_inv.m (c.args.p + 1 + 1)))
 
 pub returns : goal.returns
 returns c = node_names _ _ c.byte_at.ensures _ c.if-byte_at-ne48.false c.end_of.ensures c.some_names.ensures

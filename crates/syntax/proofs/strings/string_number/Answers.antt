@@ -13,11 +13,11 @@ returns-then-same_bytes c = of_all_strings _ _ c.end_of-e.ensures (number_here _
 
 pub overflow_add-n : goal.overflow_add-n
 unfolding two
-overflow_add-n c = omega (arith, c.shared_slice_known-1.given 1, c.shared_slice_known-1.given 2, c.end_of-e.ensures, c.loop-q.invariant.1, c.loop-q-test.true)
+overflow_add-n c = omega (arith, c.type_inv.m 1, c.type_inv.m 2, c.end_of-e.ensures, c.loop-q.invariant.1, c.loop-q-test.true)
 
 pub end_of-q-requires : goal.end_of-q-requires
 unfolding two
-end_of-q-requires c = omega (arith, c.shared_slice_known-1.given 1, c.shared_slice_known-1.given 2, c.end_of-e.ensures, c.loop-q-test.true)
+end_of-q-requires c = omega (arith, c.type_inv.m 1, c.type_inv.m 2, c.end_of-e.ensures, c.loop-q-test.true)
 
 pub loop-q-smaller : goal.loop-q-smaller
 loop-q-smaller c = omega (arith, c.end_of-q.ensures, c.loop-q-test.true)
