@@ -9,4 +9,4 @@ returns-in-At c = search rules
 
 pub returns-in-Nothing : goal.returns-in-Nothing
 unfolding kept
-returns-in-Nothing c = rw c.enum_told-in-Nothing-1.given.1
+returns-in-Nothing c = rw c.in-Nothing.is
