@@ -19,18 +19,12 @@ overflow_add-q c = omega (arith, c.loop-q-test.true, c.requires.0.0.place)
 pub evaluate-e-requires : goal.evaluate-e-requires
 evaluate-e-requires c = (expression_sized c.loop-q.invariant.0 c.loop-q-test.true c.requires.0.0, refl)
 
-pub enum_known-refusal : goal.enum_known-refusal
-enum_known-refusal c = c.in-Refused.keys1
-
 pub shape_of-table-in-Refused : goal.shape_of-table-in-Refused
 shape_of-table-in-Refused c = c.loop-q.invariant.1.1
 
 pub returns-in-Refused : goal.returns-in-Refused
 unfolding no_labels
-returns-in-Refused c = evaluating_stops c.loop-q.invariant.0 c.loop-q-test.true (λ s. fresh_refusal refl (c.evaluate-e.ensures.1 s) c.value_of.ensures c.refusal-1.given.1) refl
-
-pub enum_known-value : goal.enum_known-value
-enum_known-value c = c.in-Value.keys2
+returns-in-Refused c = evaluating_stops c.loop-q.invariant.0 c.loop-q-test.true (λ s. fresh_refusal refl (c.evaluate-e.ensures.1 s) c.value_of.ensures c.in-Refused.is) refl
 
 pub overflow_add-q-in-Value : goal.overflow_add-q-in-Value
 overflow_add-q-in-Value c = omega (arith, c.loop-q-test.true, c.requires.0.0.place)
@@ -49,7 +43,7 @@ unfolding no_labels
 loop-q-preserved c =
     let inv = c.loop-q.invariant in
     let more = c.loop-q-test.true in
-    (evaluating_on inv.0 more (λ s. fresh_value refl (c.evaluate-e.ensures.1 s) c.value_of.ensures c.value-1.given.1 c.in_words-labels.ensures) _ refl c.two_at.ensures c.add_given.ensures c.end_of-q.ensures, (rw c.end_of-q.ensures (each_after _ more inv.1.0), omega (arith, inv.1.1)))
+    (evaluating_on inv.0 more (λ s. fresh_value refl (c.evaluate-e.ensures.1 s) c.value_of.ensures c.in-Value.is c.in_words-labels.ensures) _ refl c.two_at.ensures c.add_given.ensures c.end_of-q.ensures, (rw c.end_of-q.ensures (each_after _ more inv.1.0), omega (arith, inv.1.1)))
 
 pub shape_of-table : goal.shape_of-table
 shape_of-table c = c.loop-q.invariant.1.1

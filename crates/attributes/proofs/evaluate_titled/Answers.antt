@@ -15,22 +15,16 @@ overflow_sub-depth c = omega (arith, deep c.requires.0.0.1 c.requires.0.1)
 pub evaluate-t-requires : goal.evaluate-t-requires
 evaluate-t-requires c = let pre = c.requires.0 in (resized pre.0.0 (title_near pre.0.1 pre.1 pre.0.0.manifest), refl)
 
-pub enum_known-refusal : goal.enum_known-refusal
-enum_known-refusal c = c.in-Refused.keys1
-
 pub returns-in-Refused : goal.returns-in-Refused
 unfolding no_labels
-returns-in-Refused c = let pre = c.requires.0 in title_stops pre.0.1 pre.1 _ _ _ _ (λ s. fresh_refusal refl (c.evaluate-t.ensures.1 s) c.value_of.ensures c.refusal-1.given.1) refl
-
-pub enum_known-value : goal.enum_known-value
-enum_known-value c = c.in-Value.keys2
+returns-in-Refused c = let pre = c.requires.0 in title_stops pre.0.1 pre.1 _ _ _ _ (λ s. fresh_refusal refl (c.evaluate-t.ensures.1 s) c.value_of.ensures c.in-Refused.is) refl
 
 pub at-requires : goal.at-requires
 at-requires c = let pre = c.requires.0 in omega (arith, title_near pre.0.1 pre.1 pre.0.0.manifest)
 
 pub returns-in_default : goal.returns-in_default
 unfolding no_labels
-returns-in_default c = let pre = c.requires.0 in title_wrong pre.0.1 pre.1 _ _ _ _ (λ s. fresh_value refl (c.evaluate-t.ensures.1 s) c.value_of.ensures c.value-1.given.1 refl) _ refl (λ e. ⊎_elim (λ p. omega arith) (λ p. omega arith) c.in_default.keys2) c.at.ensures
+returns-in_default c = let pre = c.requires.0 in title_wrong pre.0.1 pre.1 _ _ _ _ (λ s. fresh_value refl (c.evaluate-t.ensures.1 s) c.value_of.ensures c.in-Value.is refl) _ refl (λ e. ⊎_elim (λ p. omega arith) (λ p. omega arith) c.in_default.keys2) c.at.ensures
 
 pub overflow_sub-depth-2 : goal.overflow_sub-depth-2
 overflow_sub-depth-2 c = omega (arith, deep c.requires.0.0.1 c.requires.0.1)
@@ -41,8 +35,8 @@ evaluate_attributes-g-requires c =
 
 pub returns-in-Refused-g : goal.returns-in-Refused-g
 unfolding no_labels
-returns-in-Refused-g c = let pre = c.requires.0 in attributes_stop pre.0.1 pre.1 _ _ _ _ (λ s. fresh_value refl (c.evaluate-t.ensures.1 s) c.value_of.ensures c.value-1.given.1 refl) _ refl c.enum_told-1.given.1 c.end_of-first.ensures c.end_of-end.ensures c.evaluate_attributes-g.ensures c.g-1.given.1
+returns-in-Refused-g c = let pre = c.requires.0 in attributes_stop pre.0.1 pre.1 _ _ _ _ (λ s. fresh_value refl (c.evaluate-t.ensures.1 s) c.value_of.ensures c.in-Value.is refl) _ refl c.in-Done.is c.end_of-first.ensures c.end_of-end.ensures c.evaluate_attributes-g.ensures c.in-Refused-g.is
 
 pub returns-in-Done : goal.returns-in-Done
 unfolding no_labels
-returns-in-Done c = let pre = c.requires.0 in all_given pre.0.1 pre.1 _ _ _ _ (λ s. fresh_value refl (c.evaluate-t.ensures.1 s) c.value_of.ensures c.value-1.given.1 c.in_words-labels.ensures) _ refl c.enum_told-1.given.1 c.end_of-first.ensures c.end_of-end.ensures c.evaluate_attributes-g.ensures c.enum_told-in-Done-1.given.1
+returns-in-Done c = let pre = c.requires.0 in all_given pre.0.1 pre.1 _ _ _ _ (λ s. fresh_value refl (c.evaluate-t.ensures.1 s) c.value_of.ensures c.in-Value.is c.in_words-labels.ensures) _ refl c.in-Done.is c.end_of-first.ensures c.end_of-end.ensures c.evaluate_attributes-g.ensures c.in-Done.is

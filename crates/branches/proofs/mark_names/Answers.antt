@@ -26,9 +26,6 @@ bounds-names-i c = omega (arith, c.loop-i-test.true)
 pub mark_word-stored-requires : goal.mark_word-stored-requires
 mark_word-stored-requires c = (omega (arith, c.requires.0, c.loop-i.invariant.size), omega (arith, c.loop-i-test.true))
 
-pub enum_told-1 : goal.enum_told-1
-enum_told-1 c = c.in-Done.keys1
-
 pub shape_of-work-in_default : goal.shape_of-work-in_default
 shape_of-work-in_default c = c.mark_word-stored.auto.0 ∙ c.loop-i.invariant.size
 
@@ -42,7 +39,7 @@ pub loop-i-smaller : goal.loop-i-smaller
 loop-i-smaller c = omega (arith, c.loop-i-test.true)
 
 pub loop-i-preserved : goal.loop-i-preserved
-loop-i-preserved c = goes_on c.loop-i.invariant _ _ (word_then _ _) c.mark_word-stored.ensures c.enum_told-1.given.1 c.mark_word-stored.auto.0
+loop-i-preserved c = goes_on c.loop-i.invariant _ _ (word_then _ _) c.mark_word-stored.ensures c.in-Done.is c.mark_word-stored.auto.0
 
 pub shape_of-work : goal.shape_of-work
 shape_of-work c = c.loop-i.invariant.size

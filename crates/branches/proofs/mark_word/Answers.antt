@@ -23,9 +23,6 @@ overflow_add-name c = omega (arith, first_small _ _ c.loop-rest.invariant.1.1 c.
 pub join_mark-stored-requires : goal.join_mark-stored-requires
 join_mark-stored-requires c = (omega (arith, c.requires.0, c.loop-rest.invariant.0.size), first_small _ _ c.loop-rest.invariant.1.1 c.loop-rest-test.true c.loop-rest.invariant.1.0)
 
-pub enum_told-1 : goal.enum_told-1
-enum_told-1 c = c.in-Done.keys1
-
 pub shape_of-work-in_default : goal.shape_of-work-in_default
 shape_of-work-in_default c = c.join_mark-stored.auto.0 ∙ c.loop-rest.invariant.0.size
 
@@ -45,7 +42,7 @@ pub loop-rest-smaller : goal.loop-rest-smaller
 loop-rest-smaller c = falls c.loop-rest.rest c.loop-rest-test.true
 
 pub loop-rest-preserved : goal.loop-rest-preserved
-loop-rest-preserved c = (goes_on c.loop-rest.invariant.0 _ _ (first_then _ _ c.loop-rest.invariant.1.1 c.loop-rest-test.true) (one_mark (first_small _ _ c.loop-rest.invariant.1.1 c.loop-rest-test.true c.loop-rest.invariant.1.0) c.join_mark-stored.ensures) c.enum_told-1.given.1 c.join_mark-stored.auto.0, (after_small _ _ c.loop-rest.invariant.1.1 c.loop-rest-test.true c.loop-rest.invariant.1.0, omega (arith, falls c.loop-rest.rest c.loop-rest-test.true, c.loop-rest.invariant.1.1)))
+loop-rest-preserved c = (goes_on c.loop-rest.invariant.0 _ _ (first_then _ _ c.loop-rest.invariant.1.1 c.loop-rest-test.true) (one_mark (first_small _ _ c.loop-rest.invariant.1.1 c.loop-rest-test.true c.loop-rest.invariant.1.0) c.join_mark-stored.ensures) c.in-Done.is c.join_mark-stored.auto.0, (after_small _ _ c.loop-rest.invariant.1.1 c.loop-rest-test.true c.loop-rest.invariant.1.0, omega (arith, falls c.loop-rest.rest c.loop-rest-test.true, c.loop-rest.invariant.1.1)))
 
 pub shape_of-work : goal.shape_of-work
 shape_of-work c = c.loop-rest.invariant.0.size

@@ -1,37 +1,15 @@
 -- The cycle of `marks_read` and what it calls for expressions with parts: the measures and the answers of each member stand in the files below.
-use Prim.Native.Nat.{ℕ}
+use Prim.Native.Nat.{ℕ, ◌+◌, ◌*◌, ◌<◌}
 use mathlib.Core.Path.{refl}
 use native.Mathlib.Omega.{arith}
 use Rattle.labels.specs.Sets.{no_labels}
 use Rattle.evaluator.proofs.Expressions.{resized}
-use Rattle.provenance.proofs.Selectors.{chooses_none, chooses_one}
-use Prim.Native.Nat.{ℕ, ◌+◌, ◌*◌, ◌<◌}
+use Rattle.provenance.proofs.Selectors.{chooses_none, chooses_one, scrutinee_refused, arm_read}
 use Rattle.provenance.proofs.Leaves.{no_level, marks_constant, marks_operation, marks_negation, marks_attribute, marks_selector}
 use Rattle.provenance.proofs.Expressions.{right_skipped, right_read}
 use Rattle.evaluator.proofs.Fresh.{fresh_refusal, fresh_value}
 use Rattle.evaluator.proofs.Selectors.{selector_deep}
-use Rattle.provenance.proofs.Selectors.{scrutinee_refused, arm_read}
 use Rattle.provenance.proofs.+chosen_marks_marks_read_operation_marks_selector_marks.Goals as goal
-mod Falls
-mod ChosenMarks
-mod MarksRead
-mod OperationMarks
-mod SelectorMarks
-use Rattle.provenance.proofs.+chosen_marks_marks_read_operation_marks_selector_marks.{statement}
-use Rattle.provenance.proofs.+chosen_marks_marks_read_operation_marks_selector_marks.Tie.{close}
-use Rattle.provenance.proofs.chosen_marks.Reads as chosen-marks
-use Rattle.provenance.proofs.+chosen_marks_marks_read_operation_marks_selector_marks.Lts-chosen_marks as chosen-marks-lts
-use Rattle.provenance.proofs.marks_read.Reads as marks-read
-use Rattle.provenance.proofs.+chosen_marks_marks_read_operation_marks_selector_marks.Lts-marks_read as marks-read-lts
-use Rattle.provenance.proofs.operation_marks.Reads as operation-marks
-use Rattle.provenance.proofs.+chosen_marks_marks_read_operation_marks_selector_marks.Lts-operation_marks as operation-marks-lts
-use Rattle.provenance.proofs.selector_marks.Reads as selector-marks
-use Rattle.provenance.proofs.+chosen_marks_marks_read_operation_marks_selector_marks.Lts-selector_marks as selector-marks-lts
-use Falls.{μ-chosen-marks, chosen-marks-at, chosen-marks-calls, μ-marks-read, marks-read-at, marks-read-calls, μ-operation-marks, operation-marks-at, operation-marks-calls, μ-selector-marks, selector-marks-at, selector-marks-calls}
-use ChosenMarks as chosen-marks-answers
-use MarksRead as marks-read-answers
-use OperationMarks as operation-marks-answers
-use SelectorMarks as selector-marks-answers
 
 pub chosen_marks-try_patterns-at-requires : goal.chosen_marks-try_patterns-at-requires
 chosen_marks-try_patterns-at-requires t c = (c.requires.1.place, refl)
@@ -41,10 +19,10 @@ chosen_marks-marks_read-requires t c = (omega (arith, c.requires.0), resized c.r
 
 pub chosen_marks-returns-in-Nothing : goal.chosen_marks-returns-in-Nothing
 unfolding no_labels
-chosen_marks-returns-in-Nothing t c = λ d e s. chooses_none _ _ _ _ _ d _ _ _ c.try_patterns-at.ensures c.enum_told-1.given.1
+chosen_marks-returns-in-Nothing t c = λ d e s. chooses_none _ _ _ _ _ d _ _ _ c.try_patterns-at.ensures c.in-Nothing.is
 
 pub chosen_marks-returns-in-At : goal.chosen_marks-returns-in-At
-chosen_marks-returns-in-At t c = λ d e s. chooses_one _ _ _ _ _ d _ _ _ c.try_patterns-at.ensures e c.requires.1.manifest s c.at-1.given.1 c.place.ensures c.marks_read.ensures
+chosen_marks-returns-in-At t c = λ d e s. chooses_one _ _ _ _ _ d _ _ _ c.try_patterns-at.ensures e c.requires.1.manifest s c.in-At.is c.place.ensures c.marks_read.ensures
 
 pub marks_read-returns-then-depth-eq0 : goal.marks_read-returns-then-depth-eq0
 marks_read-returns-then-depth-eq0 t c = no_level _ _ _ _ _ _ _ c.if-depth-eq0.true
@@ -147,8 +125,8 @@ selector_marks-chosen_marks-chosen-requires t c = (omega (arith, c.requires.0, c
 
 pub selector_marks-returns-in-Refused : goal.selector_marks-returns-in-Refused
 unfolding no_labels
-selector_marks-returns-in-Refused t c = λ d o. scrutinee_refused _ _ _ _ _ o c.requires.1.manifest c.place-scrutinee.ensures c.marks_read-marks.ensures (λ s. fresh_refusal refl (c.evaluate-a.ensures.1 s) c.value_of.ensures c.enum_told-1.given.1) refl
+selector_marks-returns-in-Refused t c = λ d o. scrutinee_refused _ _ _ _ _ o c.requires.1.manifest c.place-scrutinee.ensures c.marks_read-marks.ensures (λ s. fresh_refusal refl (c.evaluate-a.ensures.1 s) c.value_of.ensures c.in-Refused.is) refl
 
 pub selector_marks-returns-in-Value : goal.selector_marks-returns-in-Value
 unfolding no_labels
-selector_marks-returns-in-Value t c = λ d o. arm_read _ _ _ _ _ o c.requires.1.manifest c.place-scrutinee.ensures c.marks_read-marks.ensures (λ s. fresh_value refl (c.evaluate-a.ensures.1 s) c.value_of.ensures c.value-1.given.1 refl) _ c.if-below-eq0.false refl c.end_of-first.ensures c.end_of.ensures c.place-end.ensures c.chosen_marks-chosen.ensures c.union.ensures
+selector_marks-returns-in-Value t c = λ d o. arm_read _ _ _ _ _ o c.requires.1.manifest c.place-scrutinee.ensures c.marks_read-marks.ensures (λ s. fresh_value refl (c.evaluate-a.ensures.1 s) c.value_of.ensures c.in-Value.is refl) _ c.if-below-eq0.false refl c.end_of-first.ensures c.end_of.ensures c.place-end.ensures c.chosen_marks-chosen.ensures c.union.ensures

@@ -9,19 +9,13 @@ use Rattle.provenance.proofs.attribute_part.Goals as goal
 pub evaluate-e-requires : goal.evaluate-e-requires
 evaluate-e-requires c = (resized c.requires c.place-at.ensures.0, refl)
 
-pub enum_told-1 : goal.enum_told-1
-enum_told-1 c = c.in-Refused.keys1
-
-pub enum_told-in-Value : goal.enum_told-in-Value
-enum_told-in-Value c = c.in-Value.keys2
-
 pub marks_read-marks-requires : goal.marks_read-marks-requires
 marks_read-marks-requires c = resized c.requires c.place-at.ensures.0
 
 pub returns-in-Refused : goal.returns-in-Refused
 unfolding no_labels
-returns-in-Refused c = part_refused _ _ _ _ _ _ _ _ c.requires.manifest c.place-at.ensures (λ s. fresh_refusal refl (c.evaluate-e.ensures.1 s) c.value_of.ensures c.enum_told-1.given.1) 6 refl
+returns-in-Refused c = part_refused _ _ _ _ _ _ _ _ c.requires.manifest c.place-at.ensures (λ s. fresh_refusal refl (c.evaluate-e.ensures.1 s) c.value_of.ensures c.in-Refused.is) 6 refl
 
 pub returns-in-Value : goal.returns-in-Value
 unfolding no_labels
-returns-in-Value c = part_found _ _ _ _ _ _ _ _ c.requires.manifest c.place-at.ensures (λ s. fresh_value refl (c.evaluate-e.ensures.1 s) c.value_of.ensures c.enum_told-in-Value-1.given.1 c.in_words-value.ensures) _ refl c.marks_read-marks.ensures c.asked_label-label.ensures c.trail.ensures c.part_held.ensures
+returns-in-Value c = part_found _ _ _ _ _ _ _ _ c.requires.manifest c.place-at.ensures (λ s. fresh_value refl (c.evaluate-e.ensures.1 s) c.value_of.ensures c.in-Value.is c.in_words-value.ensures) _ refl c.marks_read-marks.ensures c.asked_label-label.ensures c.trail.ensures c.part_held.ensures

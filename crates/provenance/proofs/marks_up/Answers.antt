@@ -31,32 +31,20 @@ loop-left-init c = marks_begin _ _ _ _ _ _
 pub slot_for-requires : goal.slot_for-requires
 slot_for-requires c = c.requires
 
-pub enum_known-i : goal.enum_known-i
-enum_known-i c = c.in-At.keys1
-
 pub mark_at-requires : goal.mark_at-requires
-mark_at-requires c = (in_slots _ _ _ _ _ c.slot_for.ensures c.i-1.given.1, c.requires)
+mark_at-requires c = (in_slots _ _ _ _ _ c.slot_for.ensures c.in-At.is, c.requires)
 
 pub has_value-requires : goal.has_value-requires
 has_value-requires c = mark_at-requires c.before.before κs
 
 pub returns-then-has_value : goal.returns-then-has_value
-returns-then-has_value c = marks_here_lem _ _ _ _ _ _ c.loop-left.invariant c.loop-left-test.true c.slot_for.ensures _ c.i-1.given.1 c.mark_at.ensures c.union-joined.ensures c.has_value.ensures c.if-has_value.true
-
-pub enum_told-1 : goal.enum_told-1
-enum_told-1 c = c.in-Nothing.keys2
+returns-then-has_value c = marks_here_lem _ _ _ _ _ _ c.loop-left.invariant c.loop-left-test.true c.slot_for.ensures _ c.in-At.is c.mark_at.ensures c.union-joined.ensures c.has_value.ensures c.if-has_value.true
 
 pub parent_of-requires : goal.parent_of-requires
 parent_of-requires c = c.requires
 
-pub enum_known-q : goal.enum_known-q
-enum_known-q c = c.in-At-parent_of.keys1
-
-pub enum_told-in_default : goal.enum_told-in_default
-enum_told-in_default c = c.in_default.keys2
-
 pub returns-in_default : goal.returns-in_default
-returns-in_default c = marks_end _ _ _ _ _ _ _ (passed c.before.before.before) c.parent_of.ensures c.enum_told-in_default-1.given.1
+returns-in_default c = marks_end _ _ _ _ _ _ _ (passed c.before.before.before) c.parent_of.ensures c.in-Nothing.is
 
 pub overflow_sub-left : goal.overflow_sub-left
 overflow_sub-left c = omega (arith, c.loop-left-test.true)
@@ -65,7 +53,7 @@ pub loop-left-smaller : goal.loop-left-smaller
 loop-left-smaller c = omega (arith, c.loop-left-test.true)
 
 pub loop-left-preserved : goal.loop-left-preserved
-loop-left-preserved c = marks_on _ _ _ _ _ _ _ (passed c.before.before.before.before) c.parent_of.ensures c.q-1.given.1
+loop-left-preserved c = marks_on _ _ _ _ _ _ _ (passed c.before.before.before.before) c.parent_of.ensures c.in-At.is
 
 pub returns : goal.returns
 returns c = marks_out _ _ _ _ _ _ _ c.loop-left.invariant (omega (arith, c.loop-left-test.false))

@@ -11,7 +11,7 @@ pub returns-then-asked-kind : goal.returns-then-asked-kind
 returns-then-asked-kind c = type_other _ _ _ _ _ _ _ c.word-asked.ensures c.two_at-kind.ensures c.if-asked-kind.true
 
 pub returns-in-Kept : goal.returns-in-Kept
-returns-in-Kept c = note_kept _ _ _ _ _ _ _ c.word-asked.ensures c.two_at-kind.ensures c.if-asked-kind.false c.resource_note-note.ensures c.enum_told-1.given.1
+returns-in-Kept c = note_kept _ _ _ _ _ _ _ c.word-asked.ensures c.two_at-kind.ensures c.if-asked-kind.false c.resource_note-note.ensures c.in-Kept.is
 
 pub returns-in-Part : goal.returns-in-Part
-returns-in-Part c = note_made _ _ _ _ _ _ _ c.word-asked.ensures c.two_at-kind.ensures c.if-asked-kind.false c.resource_note-note.ensures c.note-1.given.1 refl c.set_word.ensures
+returns-in-Part c = note_made _ _ _ _ _ _ _ c.word-asked.ensures c.two_at-kind.ensures c.if-asked-kind.false c.resource_note-note.ensures c.in-Part.is refl c.set_word.ensures

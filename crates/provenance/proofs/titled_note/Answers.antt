@@ -12,16 +12,16 @@ returns-in_default c = title_unlike _ _ _ _ _ _ _ _ (λ e. ⊎_elim (λ p. omega
 
 pub returns-then-title-word : goal.returns-then-title-word
 unfolding asked_of
-returns-then-title-word c = title_other _ _ _ _ _ _ _ _ c.value-1.given.1 c.word.ensures c.if-title-word.true
+returns-then-title-word c = title_other _ _ _ _ _ _ _ _ c.in-String.is c.word.ensures c.if-title-word.true
 
 pub attribute_part-requires : goal.attribute_part-requires
 unfolding Below
-attribute_part-requires c = resized c.requires (omega (arith, subst (Below c.place-end.result) c.found-1.given.1 c.find_named-found.ensures.1, c.place-end.ensures.0))
+attribute_part-requires c = resized c.requires (omega (arith, subst (Below c.place-end.result) c.in-At.is c.find_named-found.ensures.1, c.place-end.ensures.0))
 
 pub returns-in-Nothing : goal.returns-in-Nothing
 unfolding asked_of
-returns-in-Nothing c = no_attribute _ _ _ _ _ _ _ _ c.value-1.given.1 c.word.ensures c.if-title-word.false c.end_of-first.ensures c.end_of.ensures c.place-end.ensures c.word-name.ensures c.find_named-found.ensures.0 c.enum_told-1.given.1 refl
+returns-in-Nothing c = no_attribute _ _ _ _ _ _ _ _ c.in-String.is c.word.ensures c.if-title-word.false c.end_of-first.ensures c.end_of.ensures c.place-end.ensures c.word-name.ensures c.find_named-found.ensures.0 c.in-Nothing.is refl
 
 pub returns-in-At : goal.returns-in-At
 unfolding asked_of
-returns-in-At c = attribute_noted _ _ _ _ _ _ _ _ c.value-1.given.1 c.word.ensures c.if-title-word.false c.end_of-first.ensures c.end_of.ensures c.place-end.ensures c.word-name.ensures c.find_named-found.ensures.0 c.found-1.given.1 c.attribute_part.ensures
+returns-in-At c = attribute_noted _ _ _ _ _ _ _ _ c.in-String.is c.word.ensures c.if-title-word.false c.end_of-first.ensures c.end_of.ensures c.place-end.ensures c.word-name.ensures c.find_named-found.ensures.0 c.in-At.is c.attribute_part.ensures

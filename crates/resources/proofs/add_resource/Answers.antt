@@ -15,16 +15,10 @@ returns-then-depth-lt2 c = resource_flat _ _ _ _ _ _ _ _ _ c.if-depth-lt2.true (
 pub evaluate-t-requires : goal.evaluate-t-requires
 evaluate-t-requires c = (resized c.requires.0 c.place.ensures.0, refl)
 
-pub enum_known-refusal : goal.enum_known-refusal
-enum_known-refusal c = c.in-Refused.keys1
-
-pub enum_known-value : goal.enum_known-value
-enum_known-value c = c.in-Value.keys2
-
 pub returns-in-Refused : goal.returns-in-Refused
 unfolding no_labels
-returns-in-Refused c = resource_stops _ _ _ _ _ _ _ _ _ {b = c.args.depth - 1} (omega (arith, c.if-depth-lt2.false)) c.requires.0.manifest c.place.ensures (λ s. fresh_refusal refl (c.evaluate-t.ensures.1 s) c.value_of.ensures c.refusal-1.given.1) refl
+returns-in-Refused c = resource_stops _ _ _ _ _ _ _ _ _ {b = c.args.depth - 1} (omega (arith, c.if-depth-lt2.false)) c.requires.0.manifest c.place.ensures (λ s. fresh_refusal refl (c.evaluate-t.ensures.1 s) c.value_of.ensures c.in-Refused.is) refl
 
 pub returns-in-Value : goal.returns-in-Value
 unfolding no_labels
-returns-in-Value c = resource_goes_on _ _ _ _ _ _ _ _ _ {b = c.args.depth - 1} (omega (arith, c.if-depth-lt2.false)) c.requires.0.manifest c.place.ensures (λ s. fresh_value refl (c.evaluate-t.ensures.1 s) c.value_of.ensures c.value-1.given.1 c.in_words-labels.ensures) _ {inner = c.args.depth - 2} refl (omega (arith, c.if-depth-lt2.false)) c.add_titled.ensures
+returns-in-Value c = resource_goes_on _ _ _ _ _ _ _ _ _ {b = c.args.depth - 1} (omega (arith, c.if-depth-lt2.false)) c.requires.0.manifest c.place.ensures (λ s. fresh_value refl (c.evaluate-t.ensures.1 s) c.value_of.ensures c.in-Value.is c.in_words-labels.ensures) _ {inner = c.args.depth - 2} refl (omega (arith, c.if-depth-lt2.false)) c.add_titled.ensures

@@ -11,22 +11,22 @@ pub returns-in_default : goal.returns-in_default
 returns-in_default c = titled_wrong _ _ _ _ _ _ _ _ _ _ (λ e. ⊎_elim (λ p. omega arith) (λ p. omega arith) c.in_default.keys2) c.place.ensures (ap Refused c.at.ensures)
 
 pub returns-in_default-g : goal.returns-in_default-g
-returns-in_default-g c = titled_stops _ _ _ _ _ _ _ _ _ _ c.value-1.given.1 c.path_and_trail-outer.ensures c.union-own.ensures c.end_of.ensures c.end_of-2.ensures c.place-2.ensures c.gather-g.ensures c.enum_told-1.given.1
+returns-in_default-g c = titled_stops _ _ _ _ _ _ _ _ _ _ c.in-String.is c.path_and_trail-outer.ensures c.union-own.ensures c.end_of.ensures c.end_of-2.ensures c.place-2.ensures c.gather-g.ensures c.in_default-g.is
 
 pub at-requires-then-not-built_in : goal.at-requires-then-not-built_in
 at-requires-then-not-built_in c = c.requires.0.place
 
 pub returns-then-not-built_in : goal.returns-then-not-built_in
 returns-then-not-built_in c =
-    titled_goes_on _ _ _ _ _ _ _ _ _ _ c.value-1.given.1 c.path_and_trail-outer.ensures c.union-own.ensures c.end_of.ensures c.end_of-2.ensures c.place-2.ensures c.gather-g.ensures c.g-1.given.1 (check_unknown _ _ _ _ _ _ _ _ _ _ _ _ c.if-not-built_in.true-raw (ap Refused c.at-then-not-built_in.ensures))
+    titled_goes_on _ _ _ _ _ _ _ _ _ _ c.in-String.is c.path_and_trail-outer.ensures c.union-own.ensures c.end_of.ensures c.end_of-2.ensures c.place-2.ensures c.gather-g.ensures c.in-Done.is (check_unknown _ _ _ _ _ _ _ _ _ _ _ _ c.if-not-built_in.true-raw (ap Refused c.at-then-not-built_in.ensures))
 
 pub check-requires : goal.check-requires
 check-requires c =
     let a = c.args in
-    let kept = gathered_kept a.m.now a.work.now a.out.now a.fill a.room a.here a.inner a.p a.x a.built_in c.value-1.given.1 c.path_and_trail-outer.ensures c.union-own.ensures c.end_of.ensures c.end_of-2.ensures c.place-2.ensures c.gather-g.ensures in
-    let least = gathered_least a.m.now a.work.now a.out.now a.fill a.room a.here a.inner a.p a.x a.built_in c.value-1.given.1 c.path_and_trail-outer.ensures c.union-own.ensures c.end_of.ensures c.end_of-2.ensures c.place-2.ensures c.gather-g.ensures c.g-1.given.1 in
+    let kept = gathered_kept a.m.now a.work.now a.out.now a.fill a.room a.here a.inner a.p a.x a.built_in c.in-String.is c.path_and_trail-outer.ensures c.union-own.ensures c.end_of.ensures c.end_of-2.ensures c.place-2.ensures c.gather-g.ensures in
+    let least = gathered_least a.m.now a.work.now a.out.now a.fill a.room a.here a.inner a.p a.x a.built_in c.in-String.is c.path_and_trail-outer.ensures c.union-own.ensures c.end_of.ensures c.end_of-2.ensures c.place-2.ensures c.gather-g.ensures c.in-Done.is in
     (c.requires.0.memory, (omega (arith, kept.long, c.requires.0.filled), (c.requires.0.short, (least, (c.requires.1.0, (omega (arith, kept.long, c.requires.1.1), (c.requires.0.place, c.place-2.ensures.0)))))))
 
 pub returns : goal.returns
 returns c =
-    titled_goes_on _ _ _ _ _ _ _ _ _ _ c.value-1.given.1 c.path_and_trail-outer.ensures c.union-own.ensures c.end_of.ensures c.end_of-2.ensures c.place-2.ensures c.gather-g.ensures c.g-1.given.1 (check_built _ _ _ _ _ _ _ _ _ _ _ _ c.if-not-built_in.false-raw c.check.ensures)
+    titled_goes_on _ _ _ _ _ _ _ _ _ _ c.in-String.is c.path_and_trail-outer.ensures c.union-own.ensures c.end_of.ensures c.end_of-2.ensures c.place-2.ensures c.gather-g.ensures c.in-Done.is (check_built _ _ _ _ _ _ _ _ _ _ _ _ c.if-not-built_in.false-raw c.check.ensures)

@@ -22,7 +22,7 @@ shape_of-out-in-TooLong c = search rules
 pub returns-in-TooLong : goal.returns-in-TooLong
 returns-in-TooLong c =
     let a = c.args in
-    (lent_kept a.out.now a.fill a.size a.room a.p a.kind a.title a.own c.requires.0 c.requires.1.1.1.1.0 c.finish_entry-f.ensures (shape_of-out-in-TooLong c), (within_refused _ _ (ap Refused c.at-in-TooLong.ensures), finish_full a.out.now a.fill a.size a.room a.p a.kind a.title a.own c.requires.0 c.requires.1.1.1.1.0 c.finish_entry-f.ensures (shape_of-out-in-TooLong c) c.enum_told-1.given.1 (ap Refused c.at-in-TooLong.ensures)))
+    (lent_kept a.out.now a.fill a.size a.room a.p a.kind a.title a.own c.requires.0 c.requires.1.1.1.1.0 c.finish_entry-f.ensures (shape_of-out-in-TooLong c), (within_refused _ _ (ap Refused c.at-in-TooLong.ensures), finish_full a.out.now a.fill a.size a.room a.p a.kind a.title a.own c.requires.0 c.requires.1.1.1.1.0 c.finish_entry-f.ensures (shape_of-out-in-TooLong c) c.in-TooLong.is (ap Refused c.at-in-TooLong.ensures)))
 
 pub shape_of-out-in-Fits : goal.shape_of-out-in-Fits
 shape_of-out-in-Fits c = search rules
@@ -30,4 +30,4 @@ shape_of-out-in-Fits c = search rules
 pub returns-in-Fits : goal.returns-in-Fits
 returns-in-Fits c =
     let a = c.args in
-    (lent_kept a.out.now a.fill a.size a.room a.p a.kind a.title a.own c.requires.0 c.requires.1.1.1.1.0 c.finish_entry-f.ensures (shape_of-out-in-Fits c), (within_done _ _ _ c.if-room-size.false, finish_fits a.out.now a.fill a.size a.room a.p a.kind a.title a.own c.requires.0 c.requires.1.1.1.1.0 c.finish_entry-f.ensures (shape_of-out-in-Fits c) c.enum_told-in-Fits-1.given.1 (omega (arith, c.ranges.kind)) (omega (arith, c.ranges.title)) (words s)))
+    (lent_kept a.out.now a.fill a.size a.room a.p a.kind a.title a.own c.requires.0 c.requires.1.1.1.1.0 c.finish_entry-f.ensures (shape_of-out-in-Fits c), (within_done _ _ _ c.if-room-size.false, finish_fits a.out.now a.fill a.size a.room a.p a.kind a.title a.own c.requires.0 c.requires.1.1.1.1.0 c.finish_entry-f.ensures (shape_of-out-in-Fits c) c.in-Fits.is (omega (arith, c.ranges.kind)) (omega (arith, c.ranges.title)) (words s)))

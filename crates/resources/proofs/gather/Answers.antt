@@ -14,7 +14,7 @@ pub shape_of-out-in_default : goal.shape_of-out-in_default
 shape_of-out-in_default c = added_kept c.add_attribute-step.ensures ∙ (c.loop-q.invariant.0 _ refl).kept.long
 
 pub returns-in_default : goal.returns-in_default
-returns-in_default c = λ d e. gathering_stops (c.loop-q.invariant.0 d e) _ e c.loop-q-test.true c.add_attribute-step.ensures c.enum_told-1.given.1
+returns-in_default c = λ d e. gathering_stops (c.loop-q.invariant.0 d e) _ e c.loop-q-test.true c.add_attribute-step.ensures c.in_default.is
 
 pub end_of-q-requires : goal.end_of-q-requires
 end_of-q-requires c = omega (arith, c.loop-q-test.true, c.requires.place)
@@ -23,7 +23,7 @@ pub loop-q-smaller : goal.loop-q-smaller
 loop-q-smaller c = omega (arith, c.loop-q-test.true, c.end_of-q.ensures)
 
 pub loop-q-preserved : goal.loop-q-preserved
-loop-q-preserved c = (λ d e. gathering_on (c.loop-q.invariant.0 d e) _ e c.loop-q-test.true c.add_attribute-step.ensures c.step-1.given.1 c.end_of-q.ensures, omega (arith, added_most c.add_attribute-step.ensures c.step-1.given.1, c.loop-q.invariant.1, c.end_of-q.ensures))
+loop-q-preserved c = (λ d e. gathering_on (c.loop-q.invariant.0 d e) _ e c.loop-q-test.true c.add_attribute-step.ensures c.in-Done.is c.end_of-q.ensures, omega (arith, added_most c.add_attribute-step.ensures c.in-Done.is, c.loop-q.invariant.1, c.end_of-q.ensures))
 
 pub shape_of-out : goal.shape_of-out
 shape_of-out c = (c.loop-q.invariant.0 _ refl).kept.long

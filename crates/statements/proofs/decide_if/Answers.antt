@@ -7,7 +7,7 @@ pub returns-in_default : goal.returns-in_default
 returns-in_default c = if_unlike _ _ _ _ _ _ _ _ (λ e. ⊎_elim (λ p. omega arith) (λ p. omega arith) c.in_default.keys2) c.at.ensures
 
 pub returns-in-Refused : goal.returns-in-Refused
-returns-in-Refused c = if_stopped _ _ _ _ _ _ _ _ _ c.value-1.given.1 c.condition_set-set.ensures (if_after _ c.requires.0.stands c.requires.1 c.enter_condition-entered.ensures) _ c.entered-1.given.1
+returns-in-Refused c = if_stopped _ _ _ _ _ _ _ _ _ c.in-Boolean.is c.condition_set-set.ensures (if_after _ c.requires.0.stands c.requires.1 c.enter_condition-entered.ensures) _ c.in-Refused.is
 
 pub returns-in-Done : goal.returns-in-Done
-returns-in-Done c = if_entered _ _ _ _ _ _ _ _ _ c.value-1.given.1 c.condition_set-set.ensures (if_after _ c.requires.0.stands c.requires.1 c.enter_condition-entered.ensures) c.enum_told-1.given.1
+returns-in-Done c = if_entered _ _ _ _ _ _ _ _ _ c.in-Boolean.is c.condition_set-set.ensures (if_after _ c.requires.0.stands c.requires.1 c.enter_condition-entered.ensures) c.in-Done.is

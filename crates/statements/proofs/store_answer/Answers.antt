@@ -4,10 +4,10 @@ use Rattle.statements.proofs.store_answer.Lts as lts
 use Rattle.statements.proofs.store_answer.Goals as goal
 
 pub returns-in-Done : goal.returns-in-Done
-returns-in-Done c = ran_done _ c.enum_told-1.given.1
+returns-in-Done c = ran_done _ c.in-Done.is
 
 pub returns-in-HasValue : goal.returns-in-HasValue
-returns-in-HasValue c = ran_again _ c.enum_told-in-HasValue-1.given.1 c.at.ensures
+returns-in-HasValue c = ran_again _ c.in-HasValue.is c.at.ensures
 
 pub returns-in-NoRoom : goal.returns-in-NoRoom
-returns-in-NoRoom c = ran_full _ c.enum_told-in-NoRoom-1.given.1 c.at-in-NoRoom.ensures
+returns-in-NoRoom c = ran_full _ c.in-NoRoom.is c.at-in-NoRoom.ensures

@@ -15,19 +15,13 @@ overflow_sub-depth c = omega (arith, has_level c.requires.0.1.stands)
 pub evaluate-e-requires : goal.evaluate-e-requires
 evaluate-e-requires c = let pre = c.requires in (resized pre.0.0 (condition_place pre.0.1.stands pre.0.0.manifest), refl)
 
-pub enum_known-refusal : goal.enum_known-refusal
-enum_known-refusal c = c.in-Refused.keys1
-
-pub enum_known-value : goal.enum_known-value
-enum_known-value c = c.in-Value.keys2
-
 pub try_case-requires : goal.try_case-requires
 try_case-requires c = ((c.requires.0.1, c.requires.1), c.evaluate-e.ensures.0.size)
 
 pub returns-in-Refused : goal.returns-in-Refused
 unfolding no_labels
-returns-in-Refused c = let pre = c.requires in test_refused _ pre.0.1.stands pre.1 (λ s. fresh_refusal refl (c.evaluate-e.ensures.1 s) c.value_of.ensures c.refusal-1.given.1) _ refl
+returns-in-Refused c = let pre = c.requires in test_refused _ pre.0.1.stands pre.1 (λ s. fresh_refusal refl (c.evaluate-e.ensures.1 s) c.value_of.ensures c.in-Refused.is) _ refl
 
 pub returns-in-Value : goal.returns-in-Value
 unfolding no_labels
-returns-in-Value c = let pre = c.requires in test_decided _ pre.0.1.stands pre.1 (λ s. fresh_value refl (c.evaluate-e.ensures.1 s) c.value_of.ensures c.value-1.given.1 refl) _ _ refl c.try_case.ensures
+returns-in-Value c = let pre = c.requires in test_decided _ pre.0.1.stands pre.1 (λ s. fresh_value refl (c.evaluate-e.ensures.1 s) c.value_of.ensures c.in-Value.is refl) _ _ refl c.try_case.ensures

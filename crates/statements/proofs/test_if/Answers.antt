@@ -14,16 +14,10 @@ overflow_sub-depth c = omega (arith, has_level c.requires.0.1.stands)
 pub evaluate-e-requires : goal.evaluate-e-requires
 evaluate-e-requires c = let pre = c.requires in (resized pre.0.0 (condition_place pre.0.1.stands pre.0.0.manifest), refl)
 
-pub enum_known-refusal : goal.enum_known-refusal
-enum_known-refusal c = c.in-Refused.keys1
-
-pub enum_known-value : goal.enum_known-value
-enum_known-value c = c.in-Value.keys2
-
 pub returns-in-Refused : goal.returns-in-Refused
 unfolding no_labels
-returns-in-Refused c = let pre = c.requires in test_refused _ pre.0.1.stands pre.1 (λ s. fresh_refusal refl (c.evaluate-e.ensures.1 s) c.value_of.ensures c.refusal-1.given.1) _ refl
+returns-in-Refused c = let pre = c.requires in test_refused _ pre.0.1.stands pre.1 (λ s. fresh_refusal refl (c.evaluate-e.ensures.1 s) c.value_of.ensures c.in-Refused.is) _ refl
 
 pub returns-in-Value : goal.returns-in-Value
 unfolding no_labels
-returns-in-Value c = let pre = c.requires in test_decided _ pre.0.1.stands pre.1 (λ s. fresh_value refl (c.evaluate-e.ensures.1 s) c.value_of.ensures c.value-1.given.1 c.in_words-labels.ensures) _ _ refl c.decide_if.ensures
+returns-in-Value c = let pre = c.requires in test_decided _ pre.0.1.stands pre.1 (λ s. fresh_value refl (c.evaluate-e.ensures.1 s) c.value_of.ensures c.in-Value.is c.in_words-labels.ensures) _ _ refl c.decide_if.ensures
