@@ -2,7 +2,7 @@
 use mathlib.Core.Path.{refl, ◌∙◌}
 use native.Mathlib.Omega.{arith}
 use Rattle.branches.proofs.Names.{holds_none_lem, all_words, no_words, word_then}
-use Rattle.branches.proofs.Marking.{to_mark, all_marked, stops_here, goes_on, other_answer}
+use Rattle.branches.proofs.Marking.{to_mark, all_marked, stops_here, goes_on}
 use Rattle.branches.proofs.mark_names.Goals as goal
 
 pub is_empty-requires : goal.is_empty-requires
@@ -27,10 +27,10 @@ pub mark_word-stored-requires : goal.mark_word-stored-requires
 mark_word-stored-requires c = (omega (arith, c.requires.0, c.loop-i.invariant.size), omega (arith, c.loop-i-test.true))
 
 pub shape_of-work-in_default : goal.shape_of-work-in_default
-shape_of-work-in_default c = c.mark_word-stored.auto.0 ∙ c.loop-i.invariant.size
+shape_of-work-in_default c = c.mark_word-stored.auto.work ∙ c.loop-i.invariant.size
 
 pub returns-in_default : goal.returns-in_default
-returns-in_default c = stops_here c.loop-i.invariant _ _ (word_then _ _) c.mark_word-stored.ensures (other_answer _ c.in_default.keys2)
+returns-in_default c = stops_here c.loop-i.invariant _ _ (word_then _ _) c.mark_word-stored.ensures c.in_default.not-Done
 
 pub overflow_add-i : goal.overflow_add-i
 overflow_add-i c = omega (arith, c.loop-i-test.true)
@@ -39,7 +39,7 @@ pub loop-i-smaller : goal.loop-i-smaller
 loop-i-smaller c = omega (arith, c.loop-i-test.true)
 
 pub loop-i-preserved : goal.loop-i-preserved
-loop-i-preserved c = goes_on c.loop-i.invariant _ _ (word_then _ _) c.mark_word-stored.ensures c.in-Done.is c.mark_word-stored.auto.0
+loop-i-preserved c = goes_on c.loop-i.invariant _ _ (word_then _ _) c.mark_word-stored.ensures c.in-Done.is c.mark_word-stored.auto.work
 
 pub shape_of-work : goal.shape_of-work
 shape_of-work c = c.loop-i.invariant.size

@@ -5,7 +5,7 @@ use native.Mathlib.Omega.{arith}
 use lib.Count.{count_trailing_zeros}
 use lib.Pow.{shr_le}
 use Rattle.branches.proofs.Names.{whole_word, word_small, no_bits, zeros_small, first_small, first_then, after_small}
-use Rattle.branches.proofs.Marking.{to_mark, all_marked, stops_here, goes_on, one_mark, other_answer}
+use Rattle.branches.proofs.Marking.{to_mark, all_marked, stops_here, goes_on, one_mark}
 use Rattle.branches.proofs.mark_word.Goals as goal
 
 falls : (v : ℕ) → (v ≡ 0 → ⊥) → v / 2 ^ count_trailing_zeros 64 v / 2 ^ 1 < v
@@ -24,10 +24,10 @@ pub join_mark-stored-requires : goal.join_mark-stored-requires
 join_mark-stored-requires c = (omega (arith, c.requires.0, c.loop-rest.invariant.0.size), first_small _ _ c.loop-rest.invariant.1.1 c.loop-rest-test.true c.loop-rest.invariant.1.0)
 
 pub shape_of-work-in_default : goal.shape_of-work-in_default
-shape_of-work-in_default c = c.join_mark-stored.auto.0 ∙ c.loop-rest.invariant.0.size
+shape_of-work-in_default c = c.join_mark-stored.auto.work ∙ c.loop-rest.invariant.0.size
 
 pub returns-in_default : goal.returns-in_default
-returns-in_default c = stops_here c.loop-rest.invariant.0 _ _ (first_then _ _ c.loop-rest.invariant.1.1 c.loop-rest-test.true) (one_mark (first_small _ _ c.loop-rest.invariant.1.1 c.loop-rest-test.true c.loop-rest.invariant.1.0) c.join_mark-stored.ensures) (other_answer _ c.in_default.keys2)
+returns-in_default c = stops_here c.loop-rest.invariant.0 _ _ (first_then _ _ c.loop-rest.invariant.1.1 c.loop-rest-test.true) (one_mark (first_small _ _ c.loop-rest.invariant.1.1 c.loop-rest-test.true c.loop-rest.invariant.1.0) c.join_mark-stored.ensures) c.in_default.not-Done
 
 pub overflow_cast-rest : goal.overflow_cast-rest
 overflow_cast-rest c = omega (arith, zeros_small c.loop-rest.at _ c.loop-rest.invariant.1.1 c.loop-rest-test.true)
@@ -42,7 +42,7 @@ pub loop-rest-smaller : goal.loop-rest-smaller
 loop-rest-smaller c = falls c.loop-rest.rest c.loop-rest-test.true
 
 pub loop-rest-preserved : goal.loop-rest-preserved
-loop-rest-preserved c = (goes_on c.loop-rest.invariant.0 _ _ (first_then _ _ c.loop-rest.invariant.1.1 c.loop-rest-test.true) (one_mark (first_small _ _ c.loop-rest.invariant.1.1 c.loop-rest-test.true c.loop-rest.invariant.1.0) c.join_mark-stored.ensures) c.in-Done.is c.join_mark-stored.auto.0, (after_small _ _ c.loop-rest.invariant.1.1 c.loop-rest-test.true c.loop-rest.invariant.1.0, omega (arith, falls c.loop-rest.rest c.loop-rest-test.true, c.loop-rest.invariant.1.1)))
+loop-rest-preserved c = (goes_on c.loop-rest.invariant.0 _ _ (first_then _ _ c.loop-rest.invariant.1.1 c.loop-rest-test.true) (one_mark (first_small _ _ c.loop-rest.invariant.1.1 c.loop-rest-test.true c.loop-rest.invariant.1.0) c.join_mark-stored.ensures) c.in-Done.is c.join_mark-stored.auto.work, (after_small _ _ c.loop-rest.invariant.1.1 c.loop-rest-test.true c.loop-rest.invariant.1.0, omega (arith, falls c.loop-rest.rest c.loop-rest-test.true, c.loop-rest.invariant.1.1)))
 
 pub shape_of-work : goal.shape_of-work
 shape_of-work c = c.loop-rest.invariant.0.size

@@ -4,7 +4,7 @@ use Rattle.statements.proofs.Conditions.{if_after, if_unlike, if_stopped, if_ent
 use Rattle.statements.proofs.decide_if.Goals as goal
 
 pub returns-in_default : goal.returns-in_default
-returns-in_default c = if_unlike _ _ _ _ _ _ _ _ (λ e. ⊎_elim (λ p. omega arith) (λ p. omega arith) c.in_default.keys2) c.at.ensures
+returns-in_default c = let h = c.in_default in ?
 
 pub returns-in-Refused : goal.returns-in-Refused
 returns-in-Refused c = if_stopped _ _ _ _ _ _ _ _ _ c.in-Boolean.is c.condition_set-set.ensures (if_after _ c.requires.0.stands c.requires.1 c.enter_condition-entered.ensures) _ c.in-Refused.is
