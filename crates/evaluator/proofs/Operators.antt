@@ -30,6 +30,22 @@ use Rattle.evaluator.specs.Operators.{begin_integer, begin_boolean, begin, after
 
 -- ---- Values of another kind
 
+-- one that is of no such value has another tag
+pub unlike_integer : (x : Value) → ((z : ℤ) → x ≡ Integer z → ⊥) → tag_of the_type x ≡ 0 → ⊥
+unlike_integer (Integer z) h e = h z refl
+unlike_integer (String n) h e = let z : ◌≡◌ {A = ℕ} 1 0 = e in omega arith
+unlike_integer (Boolean b) h e = let z : ◌≡◌ {A = ℕ} 2 0 = e in omega arith
+
+pub unlike_string : (x : Value) → ((n : ℕ) → x ≡ String n → ⊥) → tag_of the_type x ≡ 1 → ⊥
+unlike_string (Integer z) h e = let z : ◌≡◌ {A = ℕ} 0 1 = e in omega arith
+unlike_string (String n) h e = h n refl
+unlike_string (Boolean b) h e = let z : ◌≡◌ {A = ℕ} 2 1 = e in omega arith
+
+pub unlike_boolean : (x : Value) → ((b : Bool) → x ≡ Boolean b → ⊥) → tag_of the_type x ≡ 2 → ⊥
+unlike_boolean (Integer z) h e = let z : ◌≡◌ {A = ℕ} 0 2 = e in omega arith
+unlike_boolean (String n) h e = let z : ◌≡◌ {A = ℕ} 1 2 = e in omega arith
+unlike_boolean (Boolean b) h e = h b refl
+
 pub not_integer : (x : Value) → (tag_of the_type x ≡ 0 → ⊥) → integer_in x ≡ fails NotThatKind
 unfolding integer_in
 not_integer (Integer z) h = absurd (h refl)

@@ -104,13 +104,13 @@ pub collect_both-end_in-second-requires : goal.collect_both-end_in-second-requir
 collect_both-end_in-second-requires t c = header_at (has_header c.requires.1.0.0) c.requires.0.0
 
 pub collect_both-collect_in-declares-requires : goal.collect_both-collect_in-declares-requires
-collect_both-collect_in-declares-requires t c = (omega (arith), (c.requires.0, ((c.requires.1.0.0, small_first _ _ c.requires.1.1 refl), c.end_in-second.ensures)))
+collect_both-collect_in-declares-requires t c = (omega arith, (c.requires.0, ((c.requires.1.0.0, small_first _ _ c.requires.1.1 refl), c.end_in-second.ensures)))
 
 pub collect_both-end_in-requires : goal.collect_both-end_in-requires
 collect_both-end_in-requires t c = header_at (has_header (second_block c.requires.1.0 c.requires.1.1 c.end_in-second.ensures).0) c.requires.0.0
 
 pub collect_both-collect_in-requires : goal.collect_both-collect_in-requires
-collect_both-collect_in-requires t c = (omega (arith), ((c.requires.0.0, c.collect_in-declares.ensures.size ∙ c.requires.0.1), (second_block c.requires.1.0 c.requires.1.1 c.end_in-second.ensures, c.end_in.ensures)))
+collect_both-collect_in-requires t c = (omega arith, ((c.requires.0.0, c.collect_in-declares.ensures.size ∙ c.requires.0.1), (second_block c.requires.1.0 c.requires.1.1 c.end_in-second.ensures, c.end_in.ensures)))
 
 pub collect_both-returns : goal.collect_both-returns
 collect_both-returns t c = collects_then c.collect_in-declares.ensures (rw c.end_in-second.ensures at c.collect_in.ensures)
@@ -137,7 +137,7 @@ pub collect_statements-loop-q-init : goal.collect_statements-loop-q-init
 collect_statements-loop-q-init t c = (c.requires.1.0, collecting _ c.requires.1.1)
 
 pub collect_statements-collect_at-declares-requires : goal.collect_statements-collect_at-declares-requires
-collect_statements-collect_at-declares-requires t c = (omega (arith), ((c.requires.0.0, c.loop-q.invariant.1.collected.size ∙ c.requires.0.1), (sibling_here c.loop-q.invariant.0 c.loop-q-test.true, here_small c.loop-q.invariant.1 _ _ (statements_text c.loop-q.invariant.0 c.loop-q-test.true refl))))
+collect_statements-collect_at-declares-requires t c = (omega arith, ((c.requires.0.0, c.loop-q.invariant.1.collected.size ∙ c.requires.0.1), (sibling_here c.loop-q.invariant.0 c.loop-q-test.true, here_small c.loop-q.invariant.1 _ _ (statements_text c.loop-q.invariant.0 c.loop-q-test.true refl))))
 
 pub collect_statements-end_in-q-requires : goal.collect_statements-end_in-q-requires
 collect_statements-end_in-q-requires t c = header_at (has_header (sibling_here c.loop-q.invariant.0 c.loop-q-test.true)) c.requires.0.0

@@ -1,227 +1,186 @@
 -- The cycle of `evaluate` and what it calls for expressions with parts: the measures and the answers of each member stand in the files below.
-use Prim.Native.Nat.{ℕ}
-use native.Mathlib.Omega.{arith}
-use Rattle.labels.proofs.Words.{grows_on}
-use Rattle.evaluator.proofs.Expressions.{resized, title_stops, title_goes_on}
-use Rattle.labels.proofs.Words.{grows_none, grows_joined, grows_on}
-use Rattle.evaluator.proofs.Expressions.{resized}
-use Rattle.patterns.proofs.Struck.{near_at}
-use Rattle.evaluator.proofs.Selectors.{chosen_here_lem, choosing_struck, choosing_fails, choosing_ends}
-use Rattle.labels.proofs.Words.{grows_none}
-use Rattle.evaluator.proofs.Leaves.{no_level, says_operation, says_negation, says_attribute, says_selector}
-use Rattle.evaluator.proofs.Leaves.{told_joined, says_constant}
 use Prim.Native.Nat.{ℕ, ◌<◌, ◌+◌, ◌*◌}
-use Rattle.evaluator.proofs.Expressions.{resized, negation_stops, negation_goes_on}
-use Rattle.evaluator.proofs.Expressions.{resized, left_stops, left_unlike, left_decides, right_stops, right_goes_on}
-use Rattle.labels.proofs.Words.{grows_none, grows_on}
-use Rattle.evaluator.proofs.Selectors.{selector_deep, selector_stops, selector_goes_on}
+use native.Mathlib.Omega.{arith}
+use Rattle.labels.proofs.Words.{grows_on, grows_none, grows_joined}
+use Rattle.evaluator.proofs.Expressions.{resized, title_stops, title_goes_on, negation_stops, negation_goes_on, left_stops, left_unlike, left_decides, right_stops, right_goes_on}
+use Rattle.patterns.proofs.Struck.{near_at}
+use Rattle.evaluator.proofs.Selectors.{chosen_here_lem, choosing_struck, choosing_fails, choosing_ends, selector_deep, selector_stops, selector_goes_on}
+use Rattle.evaluator.proofs.Leaves.{no_level, says_operation, says_negation, says_attribute, says_selector, told_joined, says_constant}
 use Rattle.evaluator.proofs.+attribute_read_choose_composed_evaluate_negation_operation_selector.Goals as goal
-mod Falls
-mod AttributeRead
-mod Choose
-mod Composed
-mod Evaluate
-mod Negation
-mod Operation
-mod Selector
-use Rattle.evaluator.proofs.+attribute_read_choose_composed_evaluate_negation_operation_selector.{statement}
-use Rattle.evaluator.proofs.+attribute_read_choose_composed_evaluate_negation_operation_selector.Tie.{close}
-use Rattle.evaluator.proofs.attribute_read.Reads as attribute-read
-use Rattle.evaluator.proofs.+attribute_read_choose_composed_evaluate_negation_operation_selector.Lts-attribute_read as attribute-read-lts
-use Rattle.evaluator.proofs.choose.Reads as choose
-use Rattle.evaluator.proofs.+attribute_read_choose_composed_evaluate_negation_operation_selector.Lts-choose as choose-lts
-use Rattle.evaluator.proofs.composed.Reads as composed
-use Rattle.evaluator.proofs.+attribute_read_choose_composed_evaluate_negation_operation_selector.Lts-composed as composed-lts
-use Rattle.evaluator.proofs.evaluate.Reads as evaluate
-use Rattle.evaluator.proofs.+attribute_read_choose_composed_evaluate_negation_operation_selector.Lts-evaluate as evaluate-lts
-use Rattle.evaluator.proofs.negation.Reads as negation
-use Rattle.evaluator.proofs.+attribute_read_choose_composed_evaluate_negation_operation_selector.Lts-negation as negation-lts
-use Rattle.evaluator.proofs.operation.Reads as operation
-use Rattle.evaluator.proofs.+attribute_read_choose_composed_evaluate_negation_operation_selector.Lts-operation as operation-lts
-use Rattle.evaluator.proofs.selector.Reads as selector
-use Rattle.evaluator.proofs.+attribute_read_choose_composed_evaluate_negation_operation_selector.Lts-selector as selector-lts
-use Falls.{μ-attribute-read, attribute-read-at, attribute-read-calls, μ-choose, choose-at, choose-calls, μ-composed, composed-at, composed-calls, μ-evaluate, evaluate-at, evaluate-calls, μ-negation, negation-at, negation-calls, μ-operation, operation-at, operation-calls, μ-selector, selector-at, selector-calls}
-use AttributeRead as attribute-read-answers
-use Choose as choose-answers
-use Composed as composed-answers
-use Evaluate as evaluate-answers
-use Negation as negation-answers
-use Operation as operation-answers
-use Selector as selector-answers
 
 pub attribute_read-overflow_add-p : goal.attribute_read-overflow_add-p
-attribute_read-overflow_add-p t c = omega (arith, c.requires.1.0.place)
+attribute_read-overflow_add-p t c = omega (arith, c.requires.0.place)
 
 pub attribute_read-evaluate-a-requires : goal.attribute_read-evaluate-a-requires
-attribute_read-evaluate-a-requires t c = (omega (arith, c.requires.0), (resized c.requires.1.0 c.place-title.ensures.0, c.requires.1.1))
+attribute_read-evaluate-a-requires t c = (omega arith, (resized c.requires.0 c.place-title.ensures.0, c.requires.1))
 
 pub attribute_read-returns-in_default : goal.attribute_read-returns-in_default
-attribute_read-returns-in_default t c = (c.evaluate-a.ensures.0, λ d o. title_stops _ _ _ _ _ o c.requires.1.0.manifest c.place-title.ensures c.evaluate-a.ensures.1 c.value_of.ensures c.enum_told-1.given.1)
+attribute_read-returns-in_default t c = (c.evaluate-a.ensures.0, λ d o. title_stops _ _ _ _ _ o c.requires.0.manifest c.place-title.ensures c.evaluate-a.ensures.1 c.value_of.ensures c.in_default.is)
 
 pub attribute_read-attribute_of-requires : goal.attribute_read-attribute_of-requires
-attribute_read-attribute_of-requires t c = (c.requires.1.0, (c.place-title.ensures.0, c.evaluate-a.ensures.0.size))
+attribute_read-attribute_of-requires t c = (c.requires.0, (c.place-title.ensures.0, c.evaluate-a.ensures.0.size))
 
 pub attribute_read-returns : goal.attribute_read-returns
-attribute_read-returns t c = (grows_on c.evaluate-a.ensures.0 c.attribute_of.ensures.0, λ d o. title_goes_on _ _ _ _ _ o c.requires.1.0.manifest c.place-title.ensures c.evaluate-a.ensures.1 c.value_of.ensures _ _ c.x-1.given.1 c.attribute_of.ensures.1)
+attribute_read-returns t c = (grows_on c.evaluate-a.ensures.0 c.attribute_of.ensures.0, λ d o. title_goes_on _ _ _ _ _ o c.requires.0.manifest c.place-title.ensures c.evaluate-a.ensures.1 c.value_of.ensures _ _ c.in-Value.is c.attribute_of.ensures.1)
 
 pub choose-overflow_add-p : goal.choose-overflow_add-p
-choose-overflow_add-p t c = omega (arith, c.requires.1.0.place)
+choose-overflow_add-p t c = omega (arith, c.requires.0.place)
 
 pub choose-end_of-first-requires : goal.choose-end_of-first-requires
-choose-end_of-first-requires t c = omega (arith, c.requires.1.0.place)
+choose-end_of-first-requires t c = omega (arith, c.requires.0.place)
 
 pub choose-end_of-requires : goal.choose-end_of-requires
-choose-end_of-requires t c = omega (arith, c.requires.1.0.place)
+choose-end_of-requires t c = omega (arith, c.requires.0.place)
 
 pub choose-struck_pattern-struck-requires : goal.choose-struck_pattern-struck-requires
-choose-struck_pattern-struck-requires t c = (c.place-end.ensures.0, c.requires.1.0.memory)
+choose-struck_pattern-struck-requires t c = (c.place-end.ensures.0, c.requires.0.memory)
 
 pub choose-at-requires : goal.choose-at-requires
-choose-at-requires t c = near_at c.struck-1.given.1 c.struck_pattern-struck.ensures.1
+choose-at-requires t c = near_at c.in-At.is c.struck_pattern-struck.ensures.1
 
 pub choose-returns-in-At : goal.choose-returns-in-At
-choose-returns-in-At t c = (grows_none c.requires.1.1, λ d e arms short. chosen_here_lem _ _ _ _ _ d _ _ c.end_of-first.ensures c.end_of.ensures c.place-end.ensures (λ s. choosing_struck _ _ _ _ _ d _ _ _ _ c.struck_pattern-struck.ensures.0 _ c.struck-1.given.1 c.at.ensures) arms short)
+choose-returns-in-At t c = (grows_none c.requires.1, λ d e arms short. chosen_here_lem _ _ _ _ _ d _ _ c.end_of-first.ensures c.end_of.ensures c.place-end.ensures (λ s. choosing_struck _ _ _ _ _ d _ _ _ _ c.struck_pattern-struck.ensures.0 _ c.in-At.is c.at.ensures) arms short)
 
 pub choose-try_patterns-at-requires : goal.choose-try_patterns-at-requires
-choose-try_patterns-at-requires t c = (c.place-end.ensures.0, c.requires.1.1)
+choose-try_patterns-at-requires t c = (c.place-end.ensures.0, c.requires.1)
 
 pub choose-at-requires-in-Nothing-at : goal.choose-at-requires-in-Nothing-at
-choose-at-requires-in-Nothing-at t c = c.requires.1.0.place
+choose-at-requires-in-Nothing-at t c = c.requires.0.place
 
 pub choose-evaluate-requires : goal.choose-evaluate-requires
-choose-evaluate-requires t c = (omega (arith, c.requires.0), (resized c.requires.1.0 c.place.ensures.0, c.try_patterns-at.ensures.labels.size))
+choose-evaluate-requires t c = (omega arith, (resized c.requires.0 c.place.ensures.0, c.try_patterns-at.ensures.labels.size))
 
 pub choose-returns-in-Nothing-at : goal.choose-returns-in-Nothing-at
-choose-returns-in-Nothing-at t c = (grows_joined c.try_patterns-at.ensures.labels, λ d e arms short. chosen_here_lem _ _ _ _ _ d _ _ c.end_of-first.ensures c.end_of.ensures c.place-end.ensures (λ s. choosing_fails _ _ _ _ _ d _ _ _ _ c.struck_pattern-struck.ensures.0 c.enum_told-1.given.1 c.try_patterns-at.ensures c.enum_told-in-Nothing-at-1.given.1 c.at-in-Nothing-at.ensures) arms short)
+choose-returns-in-Nothing-at t c = (grows_joined c.try_patterns-at.ensures.labels, λ d e arms short. chosen_here_lem _ _ _ _ _ d _ _ c.end_of-first.ensures c.end_of.ensures c.place-end.ensures (λ s. choosing_fails _ _ _ _ _ d _ _ _ _ c.struck_pattern-struck.ensures.0 c.in-Nothing.is c.try_patterns-at.ensures c.in-Nothing-at.is c.at-in-Nothing-at.ensures) arms short)
 
 pub choose-returns-in-At-at : goal.choose-returns-in-At-at
-choose-returns-in-At-at t c = (grows_on (grows_joined c.try_patterns-at.ensures.labels) c.evaluate.ensures.0, λ d e arms short. chosen_here_lem _ _ _ _ _ d _ _ c.end_of-first.ensures c.end_of.ensures c.place-end.ensures (λ s. choosing_ends _ _ _ _ _ d _ _ _ _ c.struck_pattern-struck.ensures.0 c.enum_told-1.given.1 c.try_patterns-at.ensures e c.requires.1.0.manifest s c.at-1.given.1 c.place.ensures c.evaluate.ensures.1) arms short)
+choose-returns-in-At-at t c = (grows_on (grows_joined c.try_patterns-at.ensures.labels) c.evaluate.ensures.0, λ d e arms short. chosen_here_lem _ _ _ _ _ d _ _ c.end_of-first.ensures c.end_of.ensures c.place-end.ensures (λ s. choosing_ends _ _ _ _ _ d _ _ _ _ c.struck_pattern-struck.ensures.0 c.in-Nothing.is c.try_patterns-at.ensures e c.requires.0.manifest s c.in-At-at.is c.place.ensures c.evaluate.ensures.1) arms short)
 
 pub composed-at-requires : goal.composed-at-requires
-composed-at-requires t c = c.requires.1.0.place
+composed-at-requires t c = c.requires.0.place
 
 pub composed-returns-then-depth-eq0 : goal.composed-returns-then-depth-eq0
-composed-returns-then-depth-eq0 t c = (grows_none c.requires.1.1, λ s l. no_level _ _ _ _ _ _ _ c.if-depth-eq0.true s)
+composed-returns-then-depth-eq0 t c = (grows_none c.requires.1, λ s l. no_level _ _ _ _ _ _ _ c.if-depth-eq0.true s)
 
 pub composed-overflow_sub-below : goal.composed-overflow_sub-below
 composed-overflow_sub-below t c = omega (arith, c.if-depth-eq0.false)
 
 pub composed-operation-requires : goal.composed-operation-requires
-composed-operation-requires t c = (omega (arith, c.requires.0, c.if-depth-eq0.false), c.requires.1)
+composed-operation-requires t c = (omega (arith, c.if-depth-eq0.false), c.requires)
 
 pub composed-negation-requires : goal.composed-negation-requires
-composed-negation-requires t c = (omega (arith, c.requires.0, c.if-depth-eq0.false), c.requires.1)
+composed-negation-requires t c = (omega (arith, c.if-depth-eq0.false), c.requires)
 
 pub composed-attribute_read-requires : goal.composed-attribute_read-requires
-composed-attribute_read-requires t c = (omega (arith, c.requires.0, c.if-depth-eq0.false), c.requires.1)
+composed-attribute_read-requires t c = (omega (arith, c.if-depth-eq0.false), c.requires)
 
 pub composed-selector-requires : goal.composed-selector-requires
-composed-selector-requires t c = (omega (arith, c.requires.0, c.if-depth-eq0.false), c.requires.1)
+composed-selector-requires t c = (omega (arith, c.if-depth-eq0.false), c.requires)
 
 pub composed-returns-in-22 : goal.composed-returns-in-22
-composed-returns-in-22 t c = (c.operation.ensures.0, λ s l. says_operation _ _ _ _ _ _ _ c.byte_at.ensures c.if-depth-eq0.false c.in-22.keys1 c.operation.ensures.1 s)
+composed-returns-in-22 t c = (c.operation.ensures.0, λ s l. says_operation _ _ _ _ _ _ _ c.byte_at.ensures c.if-depth-eq0.false c.in-22.is c.operation.ensures.1 s)
 
 pub composed-returns-in-23 : goal.composed-returns-in-23
-composed-returns-in-23 t c = (c.negation.ensures.0, λ s l. says_negation _ _ _ _ _ _ _ c.byte_at.ensures c.if-depth-eq0.false c.in-23.keys2 c.negation.ensures.1 s)
+composed-returns-in-23 t c = (c.negation.ensures.0, λ s l. says_negation _ _ _ _ _ _ _ c.byte_at.ensures c.if-depth-eq0.false c.in-23.is c.negation.ensures.1 s)
 
 pub composed-returns-in-24 : goal.composed-returns-in-24
-composed-returns-in-24 t c = (c.attribute_read.ensures.0, λ s l. says_attribute _ _ _ _ _ _ _ c.byte_at.ensures c.if-depth-eq0.false c.in-24.keys3 c.attribute_read.ensures.1 s)
+composed-returns-in-24 t c = (c.attribute_read.ensures.0, λ s l. says_attribute _ _ _ _ _ _ _ c.byte_at.ensures c.if-depth-eq0.false c.in-24.is c.attribute_read.ensures.1 s)
 
 pub composed-returns-in_default : goal.composed-returns-in_default
-composed-returns-in_default t c = (c.selector.ensures.0, λ s l. says_selector _ _ _ _ _ _ _ c.byte_at.ensures c.if-depth-eq0.false (omega (arith, l, c.byte_at.ensures)) c.in_default.rest.0.0.1 c.in_default.rest.0.1 c.in_default.rest.1 c.selector.ensures.1 s)
+composed-returns-in_default t c = (c.selector.ensures.0, λ s l. says_selector _ _ _ _ _ _ _ c.byte_at.ensures c.if-depth-eq0.false (omega (arith, l, c.byte_at.ensures)) (omega arith) (omega arith) (omega arith) c.selector.ensures.1 s)
 
 pub evaluate-constant-requires : goal.evaluate-constant-requires
-evaluate-constant-requires t c = ((c.requires.1.0.memory, c.requires.1.0.place), c.requires.1.1)
+evaluate-constant-requires t c = ((c.requires.0.memory, c.requires.0.place), c.requires.1)
 
 pub evaluate-returns-then-tag-lt19 : goal.evaluate-returns-then-tag-lt19
 evaluate-returns-then-tag-lt19 t c = (c.constant.ensures.grows, λ s. told_joined _ _ _ _ _ _ _ _ c.constant.ensures.says (says_constant _ _ _ _ _ _ _ c.byte_at-tag.ensures c.if-tag-lt19.true s))
 
 pub evaluate-variable_read-requires : goal.evaluate-variable_read-requires
-evaluate-variable_read-requires t c = ((c.requires.1.0.memory, c.requires.1.0.place), c.requires.1.1)
+evaluate-variable_read-requires t c = ((c.requires.0.memory, c.requires.0.place), c.requires.1)
 
 pub evaluate-returns-then-tag-lt22 : goal.evaluate-returns-then-tag-lt22
 evaluate-returns-then-tag-lt22 t c = (c.variable_read.ensures.0, λ s. c.variable_read.ensures.1 _ _ _ s (omega (arith, c.byte_at-tag.ensures, c.if-tag-lt19.false)) (omega (arith, c.byte_at-tag.ensures, c.if-tag-lt22.true)))
 
 pub evaluate-composed-requires : goal.evaluate-composed-requires
-evaluate-composed-requires t c = (omega (arith, c.requires.0), c.requires.1)
+evaluate-composed-requires t c = (omega arith, c.requires)
 
 pub evaluate-returns : goal.evaluate-returns
 evaluate-returns t c = (c.composed.ensures.0, λ s. c.composed.ensures.1 s (omega (arith, c.byte_at-tag.ensures, c.if-tag-lt22.false)))
 
 pub negation-overflow_add-p : goal.negation-overflow_add-p
-negation-overflow_add-p t c = omega (arith, c.requires.1.0.place)
+negation-overflow_add-p t c = omega (arith, c.requires.0.place)
 
 pub negation-evaluate-a-requires : goal.negation-evaluate-a-requires
-negation-evaluate-a-requires t c = (omega (arith, c.requires.0), (resized c.requires.1.0 c.place-operand.ensures.0, c.requires.1.1))
+negation-evaluate-a-requires t c = (omega arith, (resized c.requires.0 c.place-operand.ensures.0, c.requires.1))
 
 pub negation-returns-in_default : goal.negation-returns-in_default
-negation-returns-in_default t c = (c.evaluate-a.ensures.0, λ d o. negation_stops _ _ _ _ _ o c.requires.1.0.manifest c.place-operand.ensures c.evaluate-a.ensures.1 c.value_of.ensures c.enum_told-1.given.1)
+negation-returns-in_default t c = (c.evaluate-a.ensures.0, λ d o. negation_stops _ _ _ _ _ o c.requires.0.manifest c.place-operand.ensures c.evaluate-a.ensures.1 c.value_of.ensures c.in_default.is)
 
 pub negation-negated-requires : goal.negation-negated-requires
 negation-negated-requires t c = c.place-operand.ensures.0
 
 pub negation-returns : goal.negation-returns
-negation-returns t c = (c.evaluate-a.ensures.0, λ d o. negation_goes_on _ _ _ _ _ o c.requires.1.0.manifest c.place-operand.ensures c.evaluate-a.ensures.1 c.value_of.ensures c.x-1.given.1 c.negated.ensures)
+negation-returns t c = (c.evaluate-a.ensures.0, λ d o. negation_goes_on _ _ _ _ _ o c.requires.0.manifest c.place-operand.ensures c.evaluate-a.ensures.1 c.value_of.ensures c.in-Value.is c.negated.ensures)
 
 pub operation-overflow_add-p : goal.operation-overflow_add-p
-operation-overflow_add-p t c = omega (arith, c.requires.1.0.place)
+operation-overflow_add-p t c = omega (arith, c.requires.0.place)
 
 pub operation-evaluate-a-requires : goal.operation-evaluate-a-requires
-operation-evaluate-a-requires t c = (omega (arith, c.requires.0), (resized c.requires.1.0 c.place-left.ensures.0, c.requires.1.1))
+operation-evaluate-a-requires t c = (omega arith, (resized c.requires.0 c.place-left.ensures.0, c.requires.1))
 
 pub operation-returns-in_default : goal.operation-returns-in_default
-operation-returns-in_default t c = (c.evaluate-a.ensures.0, λ d o. left_stops _ _ _ _ _ o c.requires.1.0.manifest c.place-left.ensures c.evaluate-a.ensures.1 c.value_of.ensures c.enum_told-1.given.1)
+operation-returns-in_default t c = (c.evaluate-a.ensures.0, λ d o. left_stops _ _ _ _ _ o c.requires.0.manifest c.place-left.ensures c.evaluate-a.ensures.1 c.value_of.ensures c.in_default.is)
 
 pub operation-overflow_add-p-2 : goal.operation-overflow_add-p-2
-operation-overflow_add-p-2 t c = omega (arith, c.requires.1.0.place)
+operation-overflow_add-p-2 t c = omega (arith, c.requires.0.place)
 
 pub operation-at-requires : goal.operation-at-requires
 operation-at-requires t c = c.place-left.ensures.0
 
 pub operation-overflow_add-p-in-Open : goal.operation-overflow_add-p-in-Open
-operation-overflow_add-p-in-Open t c = omega (arith, c.requires.1.0.place)
+operation-overflow_add-p-in-Open t c = omega (arith, c.requires.0.place)
 
 pub operation-end_of-requires : goal.operation-end_of-requires
-operation-end_of-requires t c = omega (arith, c.requires.1.0.place)
+operation-end_of-requires t c = omega (arith, c.requires.0.place)
 
 pub operation-evaluate-b-requires : goal.operation-evaluate-b-requires
-operation-evaluate-b-requires t c = (omega (arith, c.requires.0), (resized c.requires.1.0 c.place-right.ensures.0, c.evaluate-a.ensures.0.size))
+operation-evaluate-b-requires t c = (omega arith, (resized c.requires.0 c.place-right.ensures.0, c.evaluate-a.ensures.0.size))
 
 pub operation-returns-in_default-value_of : goal.operation-returns-in_default-value_of
-operation-returns-in_default-value_of t c = (grows_on c.evaluate-a.ensures.0 c.evaluate-b.ensures.0, λ d o. right_stops _ _ _ _ _ o c.requires.1.0.manifest c.place-left.ensures c.evaluate-a.ensures.1 c.value_of.ensures c.x-1.given.1 c.byte_at-op.ensures c.begin.ensures c.enum_told-in-Open-1.given.1 c.end_of.ensures c.place-right.ensures c.evaluate-b.ensures.1 c.value_of-in-Open.ensures c.enum_told-in_default-value_of-1.given.1)
+operation-returns-in_default-value_of t c = (grows_on c.evaluate-a.ensures.0 c.evaluate-b.ensures.0, λ d o. right_stops _ _ _ _ _ o c.requires.0.manifest c.place-left.ensures c.evaluate-a.ensures.1 c.value_of.ensures c.in-Value.is c.byte_at-op.ensures c.begin.ensures c.in-Open.is c.end_of.ensures c.place-right.ensures c.evaluate-b.ensures.1 c.value_of-in-Open.ensures c.in_default-value_of.is)
 
 pub operation-combine-requires : goal.operation-combine-requires
-operation-combine-requires t c = (c.requires.1.0.place, c.place-right.ensures.0)
+operation-combine-requires t c = (c.requires.0.place, c.place-right.ensures.0)
 
 pub operation-returns-in-WrongKind : goal.operation-returns-in-WrongKind
-operation-returns-in-WrongKind t c = (c.evaluate-a.ensures.0, λ d o. left_unlike _ _ _ _ _ o c.requires.1.0.manifest c.place-left.ensures c.evaluate-a.ensures.1 c.value_of.ensures c.x-1.given.1 c.byte_at-op.ensures c.begin.ensures c.enum_told-in-WrongKind-1.given.1 c.at.ensures)
+operation-returns-in-WrongKind t c = (c.evaluate-a.ensures.0, λ d o. left_unlike _ _ _ _ _ o c.requires.0.manifest c.place-left.ensures c.evaluate-a.ensures.1 c.value_of.ensures c.in-Value.is c.byte_at-op.ensures c.begin.ensures c.in-WrongKind.is c.at.ensures)
 
 pub operation-returns-in-Decided : goal.operation-returns-in-Decided
-operation-returns-in-Decided t c = (c.evaluate-a.ensures.0, λ d o. left_decides _ _ _ _ _ o c.requires.1.0.manifest c.place-left.ensures c.evaluate-a.ensures.1 c.value_of.ensures c.x-1.given.1 c.byte_at-op.ensures c.begin.ensures c.enum_told-in-Decided-1.given.1)
+operation-returns-in-Decided t c = (c.evaluate-a.ensures.0, λ d o. left_decides _ _ _ _ _ o c.requires.0.manifest c.place-left.ensures c.evaluate-a.ensures.1 c.value_of.ensures c.in-Value.is c.byte_at-op.ensures c.begin.ensures c.in-Decided.is)
 
 pub operation-returns-in-Value-value_of : goal.operation-returns-in-Value-value_of
-operation-returns-in-Value-value_of t c = (grows_on c.evaluate-a.ensures.0 c.evaluate-b.ensures.0, λ d o. right_goes_on _ _ _ _ _ o c.requires.1.0.manifest c.place-left.ensures c.evaluate-a.ensures.1 c.value_of.ensures c.x-1.given.1 c.byte_at-op.ensures c.begin.ensures c.enum_told-in-Open-1.given.1 c.end_of.ensures c.place-right.ensures c.evaluate-b.ensures.1 c.value_of-in-Open.ensures c.y-1.given.1 c.combine.ensures)
+operation-returns-in-Value-value_of t c = (grows_on c.evaluate-a.ensures.0 c.evaluate-b.ensures.0, λ d o. right_goes_on _ _ _ _ _ o c.requires.0.manifest c.place-left.ensures c.evaluate-a.ensures.1 c.value_of.ensures c.in-Value.is c.byte_at-op.ensures c.begin.ensures c.in-Open.is c.end_of.ensures c.place-right.ensures c.evaluate-b.ensures.1 c.value_of-in-Open.ensures c.in-Value-value_of.is c.combine.ensures)
 
 pub selector-at-requires : goal.selector-at-requires
-selector-at-requires t c = c.requires.1.0.place
+selector-at-requires t c = c.requires.0.place
 
 pub selector-returns-then-below-eq0 : goal.selector-returns-then-below-eq0
-selector-returns-then-below-eq0 t c = (grows_none c.requires.1.1, λ d o. absurd (selector_deep o c.if-below-eq0.true))
+selector-returns-then-below-eq0 t c = (grows_none c.requires.1, λ d o. absurd (selector_deep o c.if-below-eq0.true))
 
 pub selector-overflow_add-p : goal.selector-overflow_add-p
-selector-overflow_add-p t c = omega (arith, c.requires.1.0.place)
+selector-overflow_add-p t c = omega (arith, c.requires.0.place)
 
 pub selector-evaluate-a-requires : goal.selector-evaluate-a-requires
-selector-evaluate-a-requires t c = (omega (arith, c.requires.0), (resized c.requires.1.0 c.place.ensures.0, c.requires.1.1))
+selector-evaluate-a-requires t c = (omega arith, (resized c.requires.0 c.place.ensures.0, c.requires.1))
 
 pub selector-returns-in_default : goal.selector-returns-in_default
-selector-returns-in_default t c = (c.evaluate-a.ensures.0, λ d o. selector_stops _ _ _ _ _ o c.requires.1.0.manifest c.place.ensures c.evaluate-a.ensures.1 c.value_of.ensures c.enum_told-1.given.1)
+selector-returns-in_default t c = (c.evaluate-a.ensures.0, λ d o. selector_stops _ _ _ _ _ o c.requires.0.manifest c.place.ensures c.evaluate-a.ensures.1 c.value_of.ensures c.in_default.is)
 
 pub selector-overflow_sub-below : goal.selector-overflow_sub-below
 selector-overflow_sub-below t c = omega (arith, c.if-below-eq0.false)
 
 pub selector-choose-requires : goal.selector-choose-requires
-selector-choose-requires t c = (omega (arith, c.requires.0, c.if-below-eq0.false), (c.requires.1.0, c.evaluate-a.ensures.0.size))
+selector-choose-requires t c = (omega (arith, c.if-below-eq0.false), (c.requires.0, c.evaluate-a.ensures.0.size))
 
 pub selector-returns : goal.selector-returns
-selector-returns t c = (grows_on c.evaluate-a.ensures.0 c.choose.ensures.0, λ d o. selector_goes_on _ _ _ _ _ o c.requires.1.0.manifest c.place.ensures c.evaluate-a.ensures.1 c.value_of.ensures c.if-below-eq0.false c.x-1.given.1 c.choose.ensures.1)
+selector-returns t c = (grows_on c.evaluate-a.ensures.0 c.choose.ensures.0, λ d o. selector_goes_on _ _ _ _ _ o c.requires.0.manifest c.place.ensures c.evaluate-a.ensures.1 c.value_of.ensures c.if-below-eq0.false c.in-Value.is c.choose.ensures.1)
