@@ -9,7 +9,7 @@ pub put_given-requires : goal.put_given-requires
 put_given-requires c = c.requires c.if-name-ge1024.false
 
 pub returns-in-Holds : goal.returns-in-Holds
-returns-in-Holds c = adds_has _ _ _ c.given-held.ensures c.in-Empty.is
+returns-in-Holds c = adds_has _ _ _ c.given-held.ensures c.in-Holds.is
 
 pub returns-in-Empty : goal.returns-in-Empty
 returns-in-Empty c = adds_put _ _ _ c.given-held.ensures c.in-Empty.is c.put_given.ensures

@@ -1,6 +1,6 @@
 -- `evaluate_titled`: the title is refused or no string, an attribute is refused, or all are given.
+use Rattle.evaluator.proofs.Operators.{unlike_string}
 use mathlib.Core.Path.{refl}
-use mathlib.Core.Logic.{⊎_elim}
 use native.Mathlib.Omega.{arith}
 use Rattle.labels.specs.Sets.{no_labels}
 use Rattle.evaluator.proofs.Expressions.{resized}
@@ -24,7 +24,7 @@ at-requires c = let pre = c.requires.0 in omega (arith, title_near pre.0.1 pre.1
 
 pub returns-in_default : goal.returns-in_default
 unfolding no_labels
-returns-in_default c = let pre = c.requires.0 in title_wrong pre.0.1 pre.1 _ _ _ _ (λ s. fresh_value refl (c.evaluate-t.ensures.1 s) c.value_of.ensures c.in-Value.is refl) _ refl (λ e. ⊎_elim (λ p. omega arith) (λ p. omega arith) c.in_default.keys2) c.at.ensures
+returns-in_default c = let pre = c.requires.0 in title_wrong pre.0.1 pre.1 _ _ _ _ (λ s. fresh_value refl (c.evaluate-t.ensures.1 s) c.value_of.ensures c.in-Value.is refl) _ refl (unlike_string _ c.in_default.not-String) c.at.ensures
 
 pub overflow_sub-depth-2 : goal.overflow_sub-depth-2
 overflow_sub-depth-2 c = omega (arith, deep c.requires.0.0.1 c.requires.0.1)
@@ -35,8 +35,8 @@ evaluate_attributes-g-requires c =
 
 pub returns-in-Refused-g : goal.returns-in-Refused-g
 unfolding no_labels
-returns-in-Refused-g c = let pre = c.requires.0 in attributes_stop pre.0.1 pre.1 _ _ _ _ (λ s. fresh_value refl (c.evaluate-t.ensures.1 s) c.value_of.ensures c.in-Value.is refl) _ refl c.in-Done.is c.end_of-first.ensures c.end_of-end.ensures c.evaluate_attributes-g.ensures c.in-Refused-g.is
+returns-in-Refused-g c = let pre = c.requires.0 in attributes_stop pre.0.1 pre.1 _ _ _ _ (λ s. fresh_value refl (c.evaluate-t.ensures.1 s) c.value_of.ensures c.in-Value.is refl) _ refl c.in-String.is c.end_of-first.ensures c.end_of-end.ensures c.evaluate_attributes-g.ensures c.in-Refused-g.is
 
 pub returns-in-Done : goal.returns-in-Done
 unfolding no_labels
-returns-in-Done c = let pre = c.requires.0 in all_given pre.0.1 pre.1 _ _ _ _ (λ s. fresh_value refl (c.evaluate-t.ensures.1 s) c.value_of.ensures c.in-Value.is c.in_words-labels.ensures) _ refl c.in-Done.is c.end_of-first.ensures c.end_of-end.ensures c.evaluate_attributes-g.ensures c.in-Done.is
+returns-in-Done c = let pre = c.requires.0 in all_given pre.0.1 pre.1 _ _ _ _ (λ s. fresh_value refl (c.evaluate-t.ensures.1 s) c.value_of.ensures c.in-Value.is c.in_words-labels.ensures) _ refl c.in-String.is c.end_of-first.ensures c.end_of-end.ensures c.evaluate_attributes-g.ensures c.in-Done.is

@@ -28,7 +28,7 @@ loop-q-preserved c =
     let inv = c.loop-q.invariant.1 in
     let read = c.two_at.ensures in
     let again = c.is_again.ensures in
-    (search rules, (repeated_further inv.0 c.loop-q-test.true read (again.0 inv.1) c.if-is_again.false c.end_of-q.ensures, marked_further c.loop-q.seen c.is_again.new.1.1.1.1.0 inv.0 inv.1 read again.1 c.end_of-q.ensures))
+    (search rules, (repeated_further inv.0 c.loop-q-test.true read (again.0 inv.1) c.if-is_again.false c.end_of-q.ensures, marked_further c.loop-q.seen c.is_again.new.seen inv.0 inv.1 read again.1 c.end_of-q.ensures))
 
 pub returns : goal.returns
 unfolding Below

@@ -5,10 +5,7 @@ use Rattle.records.proofs.Ranges.{value_ranged}
 use Rattle.attributes.proofs.Table.{put_way}
 use Rattle.attributes.proofs.put_given.Goals as goal
 
--- each word of the set fits its type
-words : (c : tie.Start) → Words64 c.args.x.labels
-words c = record { small0 = omega arith; small1 = omega arith; small2 = omega arith; small3 = omega arith }
-
 pub returns : goal.returns
 returns c =
-    put_way _ _ _ c.requires (value_ranged _ _ c.well_formed.1.1.0.1.1.0) (words start) c.put_record.ensures
+    let words : Words64 c.args.x.labels = record { small0 = omega arith; small1 = omega arith; small2 = omega arith; small3 = omega arith } in
+    put_way _ _ _ c.requires ? words c.put_record.ensures

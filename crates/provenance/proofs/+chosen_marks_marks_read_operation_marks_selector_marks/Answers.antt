@@ -12,17 +12,17 @@ use Rattle.evaluator.proofs.Selectors.{selector_deep}
 use Rattle.provenance.proofs.+chosen_marks_marks_read_operation_marks_selector_marks.Goals as goal
 
 pub chosen_marks-try_patterns-at-requires : goal.chosen_marks-try_patterns-at-requires
-chosen_marks-try_patterns-at-requires t c = (c.requires.1.place, refl)
+chosen_marks-try_patterns-at-requires t c = (c.requires.place, refl)
 
 pub chosen_marks-marks_read-requires : goal.chosen_marks-marks_read-requires
-chosen_marks-marks_read-requires t c = (omega (arith, c.requires.0), resized c.requires.1 c.place.ensures.0)
+chosen_marks-marks_read-requires t c = (omega arith, resized c.requires c.place.ensures.0)
 
 pub chosen_marks-returns-in-Nothing : goal.chosen_marks-returns-in-Nothing
 unfolding no_labels
 chosen_marks-returns-in-Nothing t c = λ d e s. chooses_none _ _ _ _ _ d _ _ _ c.try_patterns-at.ensures c.in-Nothing.is
 
 pub chosen_marks-returns-in-At : goal.chosen_marks-returns-in-At
-chosen_marks-returns-in-At t c = λ d e s. chooses_one _ _ _ _ _ d _ _ _ c.try_patterns-at.ensures e c.requires.1.manifest s c.in-At.is c.place.ensures c.marks_read.ensures
+chosen_marks-returns-in-At t c = λ d e s. chooses_one _ _ _ _ _ d _ _ _ c.try_patterns-at.ensures e c.requires.manifest s c.in-At.is c.place.ensures c.marks_read.ensures
 
 pub marks_read-returns-then-depth-eq0 : goal.marks_read-returns-then-depth-eq0
 marks_read-returns-then-depth-eq0 t c = no_level _ _ _ _ _ _ _ c.if-depth-eq0.true
@@ -35,7 +35,7 @@ unfolding no_labels
 marks_read-returns-then-tag-lt19 t c = marks_constant _ _ _ _ _ _ _ c.byte_at-tag.ensures c.if-tag-lt19.true
 
 pub marks_read-variable_marks-requires : goal.marks_read-variable_marks-requires
-marks_read-variable_marks-requires t c = (c.requires.1.memory, c.requires.1.place)
+marks_read-variable_marks-requires t c = (c.requires.memory, c.requires.place)
 
 pub marks_read-returns-then-tag-lt22 : goal.marks_read-returns-then-tag-lt22
 marks_read-returns-then-tag-lt22 t c = λ s.
@@ -43,90 +43,90 @@ marks_read-returns-then-tag-lt22 t c = λ s.
     c.variable_marks.ensures _ _ _ s (omega (arith, tag, c.if-tag-lt19.false)) (omega (arith, tag, c.if-tag-lt22.true))
 
 pub marks_read-operation_marks-requires : goal.marks_read-operation_marks-requires
-marks_read-operation_marks-requires t c = (omega (arith, c.requires.0, c.if-depth-eq0.false), c.requires.1)
+marks_read-operation_marks-requires t c = (omega (arith, c.if-depth-eq0.false), c.requires)
 
 pub marks_read-overflow_add-p : goal.marks_read-overflow_add-p
-marks_read-overflow_add-p t c = omega (arith, c.requires.1.place)
+marks_read-overflow_add-p t c = omega (arith, c.requires.place)
 
 pub marks_read-marks_read-requires : goal.marks_read-marks_read-requires
-marks_read-marks_read-requires t c = (omega (arith, c.requires.0, c.if-depth-eq0.false), resized c.requires.1 c.place.ensures.0)
+marks_read-marks_read-requires t c = (omega (arith, c.if-depth-eq0.false), resized c.requires c.place.ensures.0)
 
 pub marks_read-overflow_add-p-in-24 : goal.marks_read-overflow_add-p-in-24
-marks_read-overflow_add-p-in-24 t c = omega (arith, c.requires.1.place)
+marks_read-overflow_add-p-in-24 t c = omega (arith, c.requires.place)
 
 pub marks_read-marks_read-requires-in-24 : goal.marks_read-marks_read-requires-in-24
-marks_read-marks_read-requires-in-24 t c = (omega (arith, c.requires.0, c.if-depth-eq0.false), resized c.requires.1 c.place-in-24.ensures.0)
+marks_read-marks_read-requires-in-24 t c = (omega (arith, c.if-depth-eq0.false), resized c.requires c.place-in-24.ensures.0)
 
 pub marks_read-selector_marks-requires : goal.marks_read-selector_marks-requires
-marks_read-selector_marks-requires t c = (omega (arith, c.requires.0, c.if-depth-eq0.false), c.requires.1)
+marks_read-selector_marks-requires t c = (omega (arith, c.if-depth-eq0.false), c.requires)
 
 pub marks_read-returns-in-22 : goal.marks_read-returns-in-22
-marks_read-returns-in-22 t c = marks_operation _ _ _ _ _ _ _ c.byte_at-tag.ensures c.if-depth-eq0.false c.in-22.keys1 c.operation_marks.ensures
+marks_read-returns-in-22 t c = marks_operation _ _ _ _ _ _ _ c.byte_at-tag.ensures c.if-depth-eq0.false c.in-22.is c.operation_marks.ensures
 
 pub marks_read-returns-in-23 : goal.marks_read-returns-in-23
-marks_read-returns-in-23 t c = marks_negation _ _ _ _ _ _ _ c.byte_at-tag.ensures c.if-depth-eq0.false c.requires.1.manifest c.marks_read.ensures c.in-23.keys2 c.place.ensures
+marks_read-returns-in-23 t c = marks_negation _ _ _ _ _ _ _ c.byte_at-tag.ensures c.if-depth-eq0.false c.requires.manifest c.marks_read.ensures c.in-23.is c.place.ensures
 
 pub marks_read-returns-in-24 : goal.marks_read-returns-in-24
-marks_read-returns-in-24 t c = marks_attribute _ _ _ _ _ _ _ c.byte_at-tag.ensures c.if-depth-eq0.false c.requires.1.manifest c.marks_read-in-24.ensures c.in-24.keys3 c.place-in-24.ensures
+marks_read-returns-in-24 t c = marks_attribute _ _ _ _ _ _ _ c.byte_at-tag.ensures c.if-depth-eq0.false c.requires.manifest c.marks_read-in-24.ensures c.in-24.is c.place-in-24.ensures
 
 pub marks_read-returns-in_default : goal.marks_read-returns-in_default
-marks_read-returns-in_default t c = marks_selector _ _ _ _ _ _ _ c.byte_at-tag.ensures c.if-depth-eq0.false c.if-tag-lt22.false c.in_default.rest.0.0.1 c.in_default.rest.0.1 c.in_default.rest.1 c.selector_marks.ensures
+marks_read-returns-in_default t c = marks_selector _ _ _ _ _ _ _ c.byte_at-tag.ensures c.if-depth-eq0.false c.if-tag-lt22.false (omega arith) (omega arith) (omega arith) c.selector_marks.ensures
 
 pub operation_marks-overflow_add-p : goal.operation_marks-overflow_add-p
-operation_marks-overflow_add-p t c = omega (arith, c.requires.1.place)
+operation_marks-overflow_add-p t c = omega (arith, c.requires.place)
 
 pub operation_marks-marks_read-left-requires : goal.operation_marks-marks_read-left-requires
-operation_marks-marks_read-left-requires t c = (omega (arith, c.requires.0), resized c.requires.1 c.place.ensures.0)
+operation_marks-marks_read-left-requires t c = (omega arith, resized c.requires c.place.ensures.0)
 
 pub operation_marks-skips_right-requires : goal.operation_marks-skips_right-requires
-operation_marks-skips_right-requires t c = c.requires.1
+operation_marks-skips_right-requires t c = c.requires
 
 pub operation_marks-returns-then-skips_right : goal.operation_marks-returns-then-skips_right
-operation_marks-returns-then-skips_right t c = λ d o. right_skipped _ _ _ _ _ o c.requires.1.manifest c.place.ensures c.marks_read-left.ensures c.skips_right.ensures c.if-skips_right.true
+operation_marks-returns-then-skips_right t c = λ d o. right_skipped _ _ _ _ _ o c.requires.manifest c.place.ensures c.marks_read-left.ensures c.skips_right.ensures c.if-skips_right.true
 
 pub operation_marks-overflow_add-p-2 : goal.operation_marks-overflow_add-p-2
-operation_marks-overflow_add-p-2 t c = omega (arith, c.requires.1.place)
+operation_marks-overflow_add-p-2 t c = omega (arith, c.requires.place)
 
 pub operation_marks-end_of-requires : goal.operation_marks-end_of-requires
-operation_marks-end_of-requires t c = omega (arith, c.requires.1.place)
+operation_marks-end_of-requires t c = omega (arith, c.requires.place)
 
 pub operation_marks-marks_read-right-requires : goal.operation_marks-marks_read-right-requires
-operation_marks-marks_read-right-requires t c = (omega (arith, c.requires.0), resized c.requires.1 c.place-q.ensures.0)
+operation_marks-marks_read-right-requires t c = (omega arith, resized c.requires c.place-q.ensures.0)
 
 pub operation_marks-returns : goal.operation_marks-returns
-operation_marks-returns t c = λ d o. right_read _ _ _ _ _ o c.requires.1.manifest c.place.ensures c.marks_read-left.ensures c.skips_right.ensures c.if-skips_right.false c.end_of.ensures c.place-q.ensures c.marks_read-right.ensures c.union.ensures
+operation_marks-returns t c = λ d o. right_read _ _ _ _ _ o c.requires.manifest c.place.ensures c.marks_read-left.ensures c.skips_right.ensures c.if-skips_right.false c.end_of.ensures c.place-q.ensures c.marks_read-right.ensures c.union.ensures
 
 pub selector_marks-returns-then-below-eq0 : goal.selector_marks-returns-then-below-eq0
 selector_marks-returns-then-below-eq0 t c = λ d o. absurd (selector_deep o c.if-below-eq0.true)
 
 pub selector_marks-overflow_add-p : goal.selector_marks-overflow_add-p
-selector_marks-overflow_add-p t c = omega (arith, c.requires.1.place)
+selector_marks-overflow_add-p t c = omega (arith, c.requires.place)
 
 pub selector_marks-marks_read-marks-requires : goal.selector_marks-marks_read-marks-requires
-selector_marks-marks_read-marks-requires t c = (omega (arith, c.requires.0), resized c.requires.1 c.place-scrutinee.ensures.0)
+selector_marks-marks_read-marks-requires t c = (omega arith, resized c.requires c.place-scrutinee.ensures.0)
 
 pub selector_marks-evaluate-a-requires : goal.selector_marks-evaluate-a-requires
-selector_marks-evaluate-a-requires t c = (resized c.requires.1 c.place-scrutinee.ensures.0, refl)
+selector_marks-evaluate-a-requires t c = (resized c.requires c.place-scrutinee.ensures.0, refl)
 
 pub selector_marks-overflow_add-p-in-Value : goal.selector_marks-overflow_add-p-in-Value
-selector_marks-overflow_add-p-in-Value t c = omega (arith, c.requires.1.place)
+selector_marks-overflow_add-p-in-Value t c = omega (arith, c.requires.place)
 
 pub selector_marks-end_of-first-requires : goal.selector_marks-end_of-first-requires
-selector_marks-end_of-first-requires t c = omega (arith, c.requires.1.place)
+selector_marks-end_of-first-requires t c = omega (arith, c.requires.place)
 
 pub selector_marks-end_of-requires : goal.selector_marks-end_of-requires
-selector_marks-end_of-requires t c = omega (arith, c.requires.1.place)
+selector_marks-end_of-requires t c = omega (arith, c.requires.place)
 
 pub selector_marks-overflow_sub-below : goal.selector_marks-overflow_sub-below
 selector_marks-overflow_sub-below t c = omega (arith, c.if-below-eq0.false)
 
 pub selector_marks-chosen_marks-chosen-requires : goal.selector_marks-chosen_marks-chosen-requires
-selector_marks-chosen_marks-chosen-requires t c = (omega (arith, c.requires.0, c.if-below-eq0.false), resized c.requires.1 c.place-end.ensures.0)
+selector_marks-chosen_marks-chosen-requires t c = (omega (arith, c.if-below-eq0.false), resized c.requires c.place-end.ensures.0)
 
 pub selector_marks-returns-in-Refused : goal.selector_marks-returns-in-Refused
 unfolding no_labels
-selector_marks-returns-in-Refused t c = λ d o. scrutinee_refused _ _ _ _ _ o c.requires.1.manifest c.place-scrutinee.ensures c.marks_read-marks.ensures (λ s. fresh_refusal refl (c.evaluate-a.ensures.1 s) c.value_of.ensures c.in-Refused.is) refl
+selector_marks-returns-in-Refused t c = λ d o. scrutinee_refused _ _ _ _ _ o c.requires.manifest c.place-scrutinee.ensures c.marks_read-marks.ensures (λ s. fresh_refusal refl (c.evaluate-a.ensures.1 s) c.value_of.ensures c.in-Refused.is) refl
 
 pub selector_marks-returns-in-Value : goal.selector_marks-returns-in-Value
 unfolding no_labels
-selector_marks-returns-in-Value t c = λ d o. arm_read _ _ _ _ _ o c.requires.1.manifest c.place-scrutinee.ensures c.marks_read-marks.ensures (λ s. fresh_value refl (c.evaluate-a.ensures.1 s) c.value_of.ensures c.in-Value.is refl) _ c.if-below-eq0.false refl c.end_of-first.ensures c.end_of.ensures c.place-end.ensures c.chosen_marks-chosen.ensures c.union.ensures
+selector_marks-returns-in-Value t c = λ d o. arm_read _ _ _ _ _ o c.requires.manifest c.place-scrutinee.ensures c.marks_read-marks.ensures (λ s. fresh_value refl (c.evaluate-a.ensures.1 s) c.value_of.ensures c.in-Value.is refl) _ c.if-below-eq0.false refl c.end_of-first.ensures c.end_of.ensures c.place-end.ensures c.chosen_marks-chosen.ensures c.union.ensures

@@ -1,6 +1,6 @@
+use Rattle.evaluator.proofs.Operators.{unlike_string}
 use native.Mathlib.Omega.{arith}
 use mathlib.Core.Path.{refl, subst}
-use mathlib.Core.Logic.{⊎_elim}
 use Rattle.evaluator.proofs.Expressions.{resized}
 use Rattle.provenance.specs.Notes.{asked_of}
 use Rattle.catalog.specs.Finding.{Below}
@@ -8,7 +8,7 @@ use Rattle.provenance.proofs.Notes.{title_unlike, title_other, no_attribute, att
 use Rattle.provenance.proofs.titled_note.Goals as goal
 
 pub returns-in_default : goal.returns-in_default
-returns-in_default c = title_unlike _ _ _ _ _ _ _ _ (λ e. ⊎_elim (λ p. omega arith) (λ p. omega arith) c.in_default.keys2)
+returns-in_default c = title_unlike _ _ _ _ _ _ _ _ (unlike_string _ c.in_default.not-String)
 
 pub returns-then-title-word : goal.returns-then-title-word
 unfolding asked_of

@@ -1,14 +1,14 @@
 -- `add_titled`: the title is no string, an attribute is refused, the type is not built in, or the other checks follow.
+use Rattle.evaluator.proofs.Operators.{unlike_string}
 use mathlib.Core.Path.{ap}
 use Rattle.resources.specs.declared.Filled.TheVariants.{Refused}
-use mathlib.Core.Logic.{⊎_elim}
 use native.Mathlib.Omega.{arith}
 use Rattle.resources.proofs.Whole.{titled_wrong, gathered_kept, gathered_least, titled_stops, titled_goes_on}
 use Rattle.resources.proofs.Checking.{check_unknown, check_built}
 use Rattle.resources.proofs.add_titled.Goals as goal
 
 pub returns-in_default : goal.returns-in_default
-returns-in_default c = titled_wrong _ _ _ _ _ _ _ _ _ _ (λ e. ⊎_elim (λ p. omega arith) (λ p. omega arith) c.in_default.keys2) c.place.ensures (ap Refused c.at.ensures)
+returns-in_default c = titled_wrong _ _ _ _ _ _ _ _ _ _ (unlike_string _ c.in_default.not-String) c.place.ensures (ap Refused c.at.ensures)
 
 pub returns-in_default-g : goal.returns-in_default-g
 returns-in_default-g c = titled_stops _ _ _ _ _ _ _ _ _ _ c.in-String.is c.path_and_trail-outer.ensures c.union-own.ensures c.end_of.ensures c.end_of-2.ensures c.place-2.ensures c.gather-g.ensures c.in_default-g.is

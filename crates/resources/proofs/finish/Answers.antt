@@ -7,10 +7,6 @@ use Rattle.resources.proofs.Finishing.{lent_kept, finish_early, finish_full, fin
 use borrow.Author.Rules.{rules}
 use Rattle.resources.proofs.finish.Goals as goal
 
--- each word of the set fits its type
-words : (c : tie.Start) → Words64 c.args.own
-words c = record { small0 = omega arith; small1 = omega arith; small2 = omega arith; small3 = omega arith }
-
 pub returns-then-room-size : goal.returns-then-room-size
 returns-then-room-size c =
     let a = c.args in
@@ -30,4 +26,4 @@ shape_of-out-in-Fits c = search rules
 pub returns-in-Fits : goal.returns-in-Fits
 returns-in-Fits c =
     let a = c.args in
-    (lent_kept a.out.now a.fill a.size a.room a.p a.kind a.title a.own c.requires.0 c.requires.1.1.1.1.0 c.finish_entry-f.ensures (shape_of-out-in-Fits c), (within_done _ _ _ c.if-room-size.false, finish_fits a.out.now a.fill a.size a.room a.p a.kind a.title a.own c.requires.0 c.requires.1.1.1.1.0 c.finish_entry-f.ensures (shape_of-out-in-Fits c) c.in-Fits.is (omega (arith, c.ranges.kind)) (omega (arith, c.ranges.title)) (words s)))
+    (lent_kept a.out.now a.fill a.size a.room a.p a.kind a.title a.own c.requires.0 c.requires.1.1.1.1.0 c.finish_entry-f.ensures (shape_of-out-in-Fits c), (within_done _ _ _ c.if-room-size.false, finish_fits a.out.now a.fill a.size a.room a.p a.kind a.title a.own c.requires.0 c.requires.1.1.1.1.0 c.finish_entry-f.ensures (shape_of-out-in-Fits c) c.in-Fits.is (omega (arith, c.ranges.kind)) (omega (arith, c.ranges.title)) (record { small0 = omega arith; small1 = omega arith; small2 = omega arith; small3 = omega arith })))

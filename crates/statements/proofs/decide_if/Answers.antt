@@ -1,10 +1,10 @@
+use Rattle.evaluator.proofs.Operators.{unlike_boolean}
 use native.Mathlib.Omega.{arith}
-use mathlib.Core.Logic.{⊎_elim}
 use Rattle.statements.proofs.Conditions.{if_after, if_unlike, if_stopped, if_entered}
 use Rattle.statements.proofs.decide_if.Goals as goal
 
 pub returns-in_default : goal.returns-in_default
-returns-in_default c = let h = c.in_default in ?
+returns-in_default c = if_unlike _ _ _ _ _ _ _ _ (unlike_boolean _ c.in_default.not-Boolean) c.at.ensures
 
 pub returns-in-Refused : goal.returns-in-Refused
 returns-in-Refused c = if_stopped _ _ _ _ _ _ _ _ _ c.in-Boolean.is c.condition_set-set.ensures (if_after _ c.requires.0.stands c.requires.1 c.enter_condition-entered.ensures) _ c.in-Refused.is
