@@ -38,8 +38,8 @@ returns-in_default c =
     let base = base_for c.args.scope.base_is_node in
     let work = c.args.work.now in
     let passed : c.match-slot_for.marks ∪ beyond (cells_of work) c.args.name (classes_of work) base c.loop-left.left (scope_of c.loop-left.at) ≡ marks_in (cells_of work) c.args.name (upward c.args.tries (classes_of work) base (scope_of c.args.scope.number)) = elim c.match-slot_for.branch [
-      in-At+else-has_value w ↦ pass_empty _ _ _ _ _ _ so_far more found _ w.in-At.is w.mark_at.ensures (w.marks-is ∙ w.union-joined.ensures) w.has_value.ensures w.if-has_value.false
-    | in-Nothing w ↦ pass_none _ _ _ _ _ _ so_far more found w.in-Nothing.is w.marks-is
+      | in-At+else-has_value w ↦ pass_empty _ _ _ _ _ _ so_far more found _ w.in-At.is w.mark_at.ensures (w.marks-is ∙ w.union-joined.ensures) w.has_value.ensures w.if-has_value.false
+      | in-Nothing w ↦ pass_none _ _ _ _ _ _ so_far more found w.in-Nothing.is w.marks-is
     ] in
     marks_end _ _ _ _ _ _ _ passed c.parent_of.ensures c.in_default.is
 
@@ -57,8 +57,8 @@ loop-left-preserved c =
     let base = base_for c.args.scope.base_is_node in
     let work = c.args.work.now in
     let passed : c.match-slot_for.marks ∪ beyond (cells_of work) c.args.name (classes_of work) base c.loop-left.left (scope_of c.loop-left.at) ≡ marks_in (cells_of work) c.args.name (upward c.args.tries (classes_of work) base (scope_of c.args.scope.number)) = elim c.match-slot_for.branch [
-      in-At+else-has_value w ↦ pass_empty _ _ _ _ _ _ so_far more found _ w.in-At.is w.mark_at.ensures (w.marks-is ∙ w.union-joined.ensures) w.has_value.ensures w.if-has_value.false
-    | in-Nothing w ↦ pass_none _ _ _ _ _ _ so_far more found w.in-Nothing.is w.marks-is
+      | in-At+else-has_value w ↦ pass_empty _ _ _ _ _ _ so_far more found _ w.in-At.is w.mark_at.ensures (w.marks-is ∙ w.union-joined.ensures) w.has_value.ensures w.if-has_value.false
+      | in-Nothing w ↦ pass_none _ _ _ _ _ _ so_far more found w.in-Nothing.is w.marks-is
     ] in
     marks_on _ _ _ _ _ _ _ passed c.parent_of.ensures c.in-At-parent_of.is
 

@@ -11,4 +11,4 @@ returns c =
     let content : Words64 a.x.labels = record { small0 = omega arith; small1 = omega arith; small2 = omega arith; small3 = omega arith } in
     let outer : Words64 a.outer = record { small0 = omega arith; small1 = omega arith; small2 = omega arith; small3 = omega arith } in
     let own : Words64 a.own = record { small0 = omega arith; small1 = omega arith; small2 = omega arith; small3 = omega arith } in
-    appended a.out.now a.fill a.size a.name a.x a.outer a.own c.requires.0 c.under.ensures c.under-content.ensures c.add_attribute.ensures (omega (arith, c.ranges.name)) ? content outer own
+    appended a.out.now a.fill a.size a.name a.x a.outer a.own c.requires.0 c.under.ensures c.under-content.ensures c.add_attribute.ensures (omega (arith, c.ranges.name)) (value_fits _ _ c.well_formed.1.1.1.1.0.1.1.0) content outer own
