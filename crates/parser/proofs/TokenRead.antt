@@ -107,7 +107,7 @@ module _ (types : Types) (t out m st tb : List ℕ) (p : Pass) (h : Passable t o
 
   -- a malformed piece
   pub malformed_refused : r.kind ≡ malformed → (f : Build) → TokenRefused types t st tb p f r.start
-  malformed_refused e f = let b = found.at_fault_lem e in refused_at f (lexeme r.start r.line (mark malformed)) b.rest b.begins refl (is_malformed refl)
+  malformed_refused e f = let b = found.at_fault e in refused_at f (lexeme r.start r.line (mark malformed)) b.rest b.begins refl (is_malformed refl)
 
   module _ (formed : r.kind ≡ malformed → ⊥) where
     -- the tokens behind it
@@ -121,7 +121,7 @@ module _ (types : Types) (t out m st tb : List ℕ) (p : Pass) (h : Passable t o
         go true e =
             let last = eqb-true r.kind end_of_text e in
             let meant : token_in t r ≡ mark end_of_text = token_mark t r (omega arith) ∙ ap mark last in
-            found.at_end_lem last ∙ ap (λ (y : tokens.Token). lexeme r.start r.line y ∷ []) (sym meant)
+            found.at_end last ∙ ap (λ (y : tokens.Token). lexeme r.start r.line y ∷ []) (sym meant)
         go false e = found.first (eqb-false r.kind end_of_text e) formed
 
     module _ (tb' : List ℕ) (n : Numbered) (entered : EnteredFor t tb p.count r tb' n) where

@@ -74,8 +74,8 @@ pub found_first : (t : List ℕ) (at line : ℕ) (o : Bool) (r : Token) (x : Lex
 found_first t at line o r x xs f e = go (eqb r.kind end_of_text) refl (eqb r.kind malformed) refl
   where
     go : (a : Bool) → eqb r.kind end_of_text ≡ a → (b : Bool) → eqb r.kind malformed ≡ b → Hand r x
-    go true i b j = let k = eqb-true r.kind end_of_text i in in_hand r x (mark end_of_text) (same_first (sym (f.at_end_lem k) ∙ e)) (sym k)
-    go false i true j = let k = eqb-true r.kind malformed j in in_hand r x (mark malformed) (same_first (sym (f.at_fault_lem k).begins ∙ e)) (sym k)
+    go true i b j = let k = eqb-true r.kind end_of_text i in in_hand r x (mark end_of_text) (same_first (sym (f.at_end k) ∙ e)) (sym k)
+    go false i true j = let k = eqb-true r.kind malformed j in in_hand r x (mark malformed) (same_first (sym (f.at_fault k).begins ∙ e)) (sym k)
     go false i false j = in_hand r x (token_in t r) (same_first (sym (f.first (eqb-false r.kind end_of_text i) (eqb-false r.kind malformed j)) ∙ e)) (kind_in t r)
 
 -- ---- The loop
