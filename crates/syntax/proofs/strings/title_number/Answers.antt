@@ -3,10 +3,6 @@ use mathlib.Core.Path.{refl}
 use Rattle.rules.specs.Compile.{title_text}
 use Rattle.syntax.proofs.strings.title_number.Goals as goal
 
--- NO GOAL
--- slice-aggregate-string-number : tie.Need-slice-aggregate-string-number
--- slice-aggregate-string-number c = refl
-
 pub returns : goal.returns
 unfolding title_text
 returns c = c.string_number.ensures
