@@ -55,60 +55,66 @@ reason() {
 
 # ---- Programs
 
-# PROGRAM: how many crates it needs, itself among them.
+# PROGRAM: the crates that it needs, those below first, itself last.
 crates_needed() {
     awk -F: -v program="$1" '
         function visit(name,    parts, k, n) {
             if (!(name in needs) || seen[name]++) return
-            count++
             n = split(needs[name], parts, " ")
             for (k = 1; k <= n; k++) visit(parts[k])
+            print name
         }
         { sub(/#.*/, "") }
-        NF == 2 { needs[$1] = $2 }
-        END { visit(program); print count + 0 }' "$root/crates.txt"
+        NF == 2 { sub(/ .*/, "", $1); needs[$1] = $2 }
+        END { visit(program) }' "$root/crates.txt"
 }
 
-# What rt says, as it comes: each crate proved is counted.
+# The crate whose proof ended, and how long it took.
+tell_proved() {
+    [ -n "$crate" ] || return 0
+    place=$(printf '%s\n' "$needed" | grep -nx "$crate" | head -n 1)
+    say "${place%%:*} of $count crates are proved ($crate, $(($(date +%s) - since)) s)"
+}
+
+# What rt says, as it comes: it names each crate that it begins to prove, and none that was proved before.
 tell_progress() {
-    proved=0
+    crate='' since=0
     while IFS= read -r line; do
         case $line in
-        'rt: '*' proved (unchanged '*) proved=$((proved + 1)) ;;
-        'rt: '*' proved ('*)
-            proved=$((proved + 1))
-            name=${line#rt: } took=${line##*(}
-            say "$proved of $needed crates are proved (${name%% *}, ${took%)})"
+        'rt: chose --jobs '*' for '*)
+            tell_proved
+            crate=${line##* for } since=$(date +%s)
             ;;
+        logic=not-proved* | 'rt: the library '*) crate='' ;;
+        'rt: note: '* | 'rt: running '*) ;;
         'rt: '*) say "${line#rt: }" ;;
         esac
     done
+    tell_proved
 }
 
 # PROGRAM WHAT TIME: builds a program where it is not there, or older than the crates' code. Messages call it WHAT, and say that it takes TIME.
 build() {
     program=$root/target/bin/$1
-    if [ -x "$program" ] && [ -z "$(find "$root/crates.txt" "$root/crates" \( -name '*.rt' -o -name crates.txt \) -newer "$program" | head -n 1)" ]; then
+    if [ -x "$program" ] && [ -z "$(find "$root/crates.txt" "$root/crates" -name out -prune -o \( -name '*.rt' -o -name crates.txt \) -newer "$program" -print | head -n 1)" ]; then
         return
     fi
     command -v rt >/dev/null || fail "$2 is not built yet, and the Rattle toolchain's command rt, which builds it, is not on the PATH"
     log=$root/target/$command.log
-    { mkdir -p "$root/target" && (: >"$log"); } || fail "$2 must be built, and nothing can be written in $root/target"
+    { mkdir -p "$root/target/bin" && (: >"$log"); } || fail "$2 must be built, and nothing can be written in $root/target"
     needed=$(crates_needed "$1") || fail "$root/crates.txt cannot be read"
-    say "building $2: rt proves the $needed crates it needs ($3 of one processor's time, if none is proved yet)"
-    (cd "$root" && rt check "$1" 2>&1) | tee "$log" | tell_progress || :
-    grep -q '^rt: ok' "$log" || fail "rt could not build $2; what it said is in $log"
-    # rt leaves a program that is still right as it was
-    touch "$program" || fail "$program cannot be written"
+    count=$(printf '%s\n' "$needed" | grep -c .)
+    say "building $2: rt proves the $count crates it needs ($3 of one processor's time, if none is proved yet)"
+    # rt run starts the program once it is built. What that reads is nothing here, and what it writes is let go; rt itself writes to standard error.
+    made=$root/crates/$1/out/$1
+    rm -f "$made.stamp"
+    (cd "$root/crates/$1" && rt run 2>&1 >/dev/null </dev/null) | tee "$log" | tell_progress || :
+    [ -f "$made.stamp" ] && [ -x "$made" ] || fail "rt could not build $2; what it said is in $log"
+    cp "$made" "$program" || fail "$program cannot be written"
 }
 
-# PROGRAM: runs it. Programs are for x86-64; elsewhere the kit's emulator runs them.
-run() {
-    case $(uname -m) in
-    x86_64) "$root/target/bin/$1" ;;
-    *) "$root/tools/run_program" "$1" ;;
-    esac
-}
+# PROGRAM: runs it. Programs are for x86-64.
+run() { "$root/target/bin/$1"; }
 
 # PROGRAM LINES FILE ANSWER: hands one line or several and the file to a program, and puts what it writes into the file ANSWER.
 ask() {
