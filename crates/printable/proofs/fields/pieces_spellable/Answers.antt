@@ -15,4 +15,4 @@ pub returns-then-not-name_spellable : goal.returns-then-not-name_spellable
 returns-then-not-name_spellable c t e = first_wrong (spellable _ _) name_number _ (form_of t) (digits_in t e).name1 c.name_spellable.ensures (not-true _ c.if-not-name_spellable.true-raw)
 
 pub returns : goal.returns
-returns-then-line-eq0 c t e = second_decides (spellable _ _) name_number _ (form_of t) (digits_in t e).name1 c.name_spellable.ensures (not-false _ c.if-not-name_spellable.false-raw) (digits_in t e).name2 (digits_in t e).first c.name_spellable-2.ensures
+returns c t e = second_decides (spellable _ _) name_number _ (form_of t) (digits_in t e).name1 c.name_spellable.ensures (not-false _ c.if-not-name_spellable.false-raw) (digits_in t e).name2 (digits_in t e).first c.name_spellable-2.ensures

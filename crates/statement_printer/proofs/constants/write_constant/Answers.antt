@@ -8,10 +8,10 @@ pub write_mark-requires : goal.write_mark-requires
 write_mark-requires c = boolean_range _ c.boolean_kind.ensures
 
 pub returns-in-16 : goal.returns-in-16
-returns-in-16 c = integer_passes _ _ _ c.byte_at-label.ensures c.byte_at.ensures c.in-16.keys1 (to_z-of_z w64 c.signed_at.result (record { sfits = c.signed_at.type_inv })) c.signed_at.ensures c.write_number.ensures
+returns-in-16 c = integer_passes _ _ _ c.byte_at-label.ensures c.byte_at.ensures c.in-16.is (to_z-of_z w64 c.signed_at.result (record { sfits = c.signed_at.type_inv })) c.signed_at.ensures c.write_number.ensures
 
 pub returns-in-17 : goal.returns-in-17
-returns-in-17 c = text_passes _ _ _ c.byte_at-label.ensures c.byte_at.ensures c.in-17.keys2 c.two_at.ensures c.write_text.ensures
+returns-in-17 c = text_passes _ _ _ c.byte_at-label.ensures c.byte_at.ensures c.in-17.is c.two_at.ensures c.write_text.ensures
 
 pub returns-in_default : goal.returns-in_default
-returns-in_default c = boolean_passes _ _ _ c.byte_at-label.ensures c.byte_at.ensures c.in_default.rest.0.1 c.in_default.rest.1 c.byte_at-in_default.ensures c.boolean_kind.ensures c.write_mark.ensures
+returns-in_default c = boolean_passes _ _ _ c.byte_at-label.ensures c.byte_at.ensures c.in_default.in_default-own.rest.0.1 c.in_default.in_default-own.rest.1 c.byte_at-in_default.ensures c.boolean_kind.ensures c.write_mark.ensures

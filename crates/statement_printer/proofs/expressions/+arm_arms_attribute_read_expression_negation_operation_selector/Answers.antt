@@ -136,16 +136,16 @@ pub expression-returns-then-tag-lt22 : goal.expression-returns-then-tag-lt22
 expression-returns-then-tag-lt22 t c = c.write_read.ensures _ _ c.requires.1.1 (omega (arith, c.byte_at-tag.ensures, c.if-tag-lt19.false)) (omega (arith, c.byte_at-tag.ensures, c.if-tag-lt22.true))
 
 pub expression-operation-requires : goal.expression-operation-requires
-expression-operation-requires t c = (omega (arith, c.requires.0, level c.requires.1.1.stands), here_below c.requires.1.0 c.requires.1.1 c.byte_at-tag.ensures c.in-22.keys1)
+expression-operation-requires t c = (omega (arith, c.requires.0, level c.requires.1.1.stands), here_below c.requires.1.0 c.requires.1.1 c.byte_at-tag.ensures c.in-22.is)
 
 pub expression-negation-requires : goal.expression-negation-requires
-expression-negation-requires t c = (omega (arith, c.requires.0, level c.requires.1.1.stands), here_below c.requires.1.0 c.requires.1.1 c.byte_at-tag.ensures c.in-23.keys2)
+expression-negation-requires t c = (omega (arith, c.requires.0, level c.requires.1.1.stands), here_below c.requires.1.0 c.requires.1.1 c.byte_at-tag.ensures c.in-23.is)
 
 pub expression-attribute_read-requires : goal.expression-attribute_read-requires
-expression-attribute_read-requires t c = (omega (arith, c.requires.0, level c.requires.1.1.stands), here_below c.requires.1.0 c.requires.1.1 c.byte_at-tag.ensures c.in-24.keys3)
+expression-attribute_read-requires t c = (omega (arith, c.requires.0, level c.requires.1.1.stands), here_below c.requires.1.0 c.requires.1.1 c.byte_at-tag.ensures c.in-24.is)
 
 pub expression-selector-requires : goal.expression-selector-requires
-expression-selector-requires t c = (omega (arith, c.requires.0, level c.requires.1.1.stands), here_below c.requires.1.0 c.requires.1.1 c.byte_at-tag.ensures (last_tag c.requires.1.1 c.byte_at-tag.ensures c.if-tag-lt22.false c.in_default.rest.0.0.1 c.in_default.rest.0.1 c.in_default.rest.1))
+expression-selector-requires t c = (omega (arith, c.requires.0, level c.requires.1.1.stands), here_below c.requires.1.0 c.requires.1.1 c.byte_at-tag.ensures (last_tag c.requires.1.1 c.byte_at-tag.ensures c.if-tag-lt22.false c.in_default.in_default-own.rest.0.0.1 c.in_default.in_default-own.rest.0.1 c.in_default.in_default-own.rest.1))
 
 pub expression-returns-in-22 : goal.expression-returns-in-22
 expression-returns-in-22 t c = passes_below _ _ _ _ _ c.requires.1.1 c.operation.ensures

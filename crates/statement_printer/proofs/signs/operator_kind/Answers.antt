@@ -8,28 +8,28 @@ use Rattle.statement_printer.proofs.signs.operator_kind.Goals as goal
 
 pub returns-in-0 : goal.returns-in-0
 unfolding operator_from entry_for operators operator_kind
-returns-in-0 c = sym (ap (λ (n : ℕ). operator_kind (operator_from n)) c.in-0.keys1)
+returns-in-0 c = sym (ap (λ (n : ℕ). operator_kind (operator_from n)) c.in-0.is)
 
 pub returns-in-1 : goal.returns-in-1
 unfolding operator_from entry_for operators operator_kind
-returns-in-1 c = sym (ap (λ (n : ℕ). operator_kind (operator_from n)) c.in-1.keys2)
+returns-in-1 c = sym (ap (λ (n : ℕ). operator_kind (operator_from n)) c.in-1.is)
 
 pub returns-in-2 : goal.returns-in-2
 unfolding operator_from entry_for operators operator_kind
-returns-in-2 c = sym (ap (λ (n : ℕ). operator_kind (operator_from n)) c.in-2.keys3)
+returns-in-2 c = sym (ap (λ (n : ℕ). operator_kind (operator_from n)) c.in-2.is)
 
 pub returns-in-3 : goal.returns-in-3
 unfolding operator_from entry_for operators operator_kind
-returns-in-3 c = sym (ap (λ (n : ℕ). operator_kind (operator_from n)) c.in-3.keys4)
+returns-in-3 c = sym (ap (λ (n : ℕ). operator_kind (operator_from n)) c.in-3.is)
 
 pub returns-in-4 : goal.returns-in-4
 unfolding operator_from entry_for operators operator_kind
-returns-in-4 c = sym (ap (λ (n : ℕ). operator_kind (operator_from n)) c.in-4.keys5)
+returns-in-4 c = sym (ap (λ (n : ℕ). operator_kind (operator_from n)) c.in-4.is)
 
 pub returns-in-5 : goal.returns-in-5
 unfolding operator_from entry_for operators operator_kind
-returns-in-5 c = sym (ap (λ (n : ℕ). operator_kind (operator_from n)) c.in-5.keys6)
+returns-in-5 c = sym (ap (λ (n : ℕ). operator_kind (operator_from n)) c.in-5.is)
 
 pub returns-in_default : goal.returns-in_default
 unfolding operator_kind
-returns-in_default c = sym (ap operator_kind (last_operator _ c.in_default.rest.0.0.0.0.0.1 c.in_default.rest.0.0.0.0.1 c.in_default.rest.0.0.0.1 c.in_default.rest.0.0.1 c.in_default.rest.0.1 c.in_default.rest.1))
+returns-in_default c = sym (ap operator_kind (last_operator _ c.in_default.in_default-own.rest.0.0.0.0.0.1 c.in_default.in_default-own.rest.0.0.0.0.1 c.in_default.in_default-own.rest.0.0.0.1 c.in_default.in_default-own.rest.0.0.1 c.in_default.in_default-own.rest.0.1 c.in_default.in_default-own.rest.1))

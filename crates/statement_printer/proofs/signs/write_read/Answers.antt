@@ -10,13 +10,13 @@ between : (t : ℕ) → 0x13 ≤ t → t < 0x16 → (t ≡ 0x13 → ⊥) → (t 
 between t l h a b = omega (arith, a, b)
 
 pub returns-in-19 : goal.returns-in-19
-returns-in-19 c = λ d l s low high. variable_passes _ _ _ _ _ c.byte_at.ensures s c.in-19.keys1 c.two_at-name.ensures c.write_variable.ensures
+returns-in-19 c = λ d l s low high. variable_passes _ _ _ _ _ c.byte_at.ensures s c.in-19.is c.two_at-name.ensures c.write_variable.ensures
 
 pub returns-in-20 : goal.returns-in-20
-returns-in-20 c = λ d l s low high. top_variable_passes _ _ _ _ _ c.byte_at.ensures s c.in-20.keys2 c.two_at-name.ensures c.write_top_variable.ensures
+returns-in-20 c = λ d l s low high. top_variable_passes _ _ _ _ _ c.byte_at.ensures s c.in-20.is c.two_at-name.ensures c.write_top_variable.ensures
 
 pub returns-in_default : goal.returns-in_default
 returns-in_default c = λ d l s low high.
     let tag = c.byte_at.ensures in
-    let is = between _ (omega (arith, tag, low)) (omega (arith, tag, high)) c.in_default.rest.0.1 c.in_default.rest.1 in
+    let is = between _ (omega (arith, tag, low)) (omega (arith, tag, high)) c.in_default.in_default-own.rest.0.1 c.in_default.in_default-own.rest.1 in
     class_variable_passes _ _ _ _ _ tag s is c.two_at-name.ensures c.two_at.ensures c.write_class_variable.ensures

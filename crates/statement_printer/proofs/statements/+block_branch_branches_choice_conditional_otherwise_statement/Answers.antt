@@ -212,25 +212,25 @@ pub otherwise-returns : goal.otherwise-returns
 otherwise-returns t c = some_else _ _ _ _ c.requires.1.1 c.end_of.ensures c.if-end_of-p.false c.write_mark-word.ensures c.write_mark-open.ensures c.block-inside.ensures c.write_mark.ensures
 
 pub statement-assignment-requires : goal.statement-assignment-requires
-statement-assignment-requires t c = tagged c.requires.1.1 c.byte_at.ensures c.requires.1.0 c.in-33.keys1
+statement-assignment-requires t c = tagged c.requires.1.1 c.byte_at.ensures c.requires.1.0 c.in-33.is
 
 pub statement-conditional-requires : goal.statement-conditional-requires
-statement-conditional-requires t c = (omega (arith, c.requires.0), tagged c.requires.1.1 c.byte_at.ensures c.requires.1.0 c.in-34.keys2)
+statement-conditional-requires t c = (omega (arith, c.requires.0), tagged c.requires.1.1 c.byte_at.ensures c.requires.1.0 c.in-34.is)
 
 pub statement-choice-requires : goal.statement-choice-requires
-statement-choice-requires t c = (omega (arith, c.requires.0), tagged c.requires.1.1 c.byte_at.ensures c.requires.1.0 c.in-35.keys3)
+statement-choice-requires t c = (omega (arith, c.requires.0), tagged c.requires.1.1 c.byte_at.ensures c.requires.1.0 c.in-35.is)
 
 pub statement-overflow_sub-depth : goal.statement-overflow_sub-depth
 statement-overflow_sub-depth t c = omega (arith, level c.requires.1.1.stands)
 
 pub statement-resource-requires : goal.statement-resource-requires
-statement-resource-requires t c = let parts = resource_parts c.requires.1.1 c.byte_at.ensures c.in-37.keys4 in (c.requires.1.0, parts.0, parts.1, omega (arith, c.requires.1.1.stands.ends, c.requires.1.0.short))
+statement-resource-requires t c = let parts = resource_parts c.requires.1.1 c.byte_at.ensures c.in-37.is in (c.requires.1.0, parts.0, parts.1, omega (arith, c.requires.1.1.stands.ends, c.requires.1.0.short))
 
 pub statement-class_with_attributes-requires : goal.statement-class_with_attributes-requires
-statement-class_with_attributes-requires t c = tagged c.requires.1.1 c.byte_at.ensures c.requires.1.0 c.in-40.keys5
+statement-class_with_attributes-requires t c = tagged c.requires.1.1 c.byte_at.ensures c.requires.1.0 c.in-40.is
 
 pub statement-include-requires : goal.statement-include-requires
-statement-include-requires t c = tagged c.requires.1.1 c.byte_at.ensures c.requires.1.0 (include_tag_lem c.requires.1.1 c.byte_at.ensures c.in_default.rest.0.0.0.0.1 c.in_default.rest.0.0.0.1 c.in_default.rest.0.0.1 c.in_default.rest.0.1 c.in_default.rest.1)
+statement-include-requires t c = tagged c.requires.1.1 c.byte_at.ensures c.requires.1.0 (include_tag_lem c.requires.1.1 c.byte_at.ensures c.in_default.in_default-own.rest.0.0.0.0.1 c.in_default.in_default-own.rest.0.0.0.1 c.in_default.in_default-own.rest.0.0.1 c.in_default.in_default-own.rest.0.1 c.in_default.in_default-own.rest.1)
 
 pub statement-returns-in-33 : goal.statement-returns-in-33
 statement-returns-in-33 t c = c.assignment.ensures
@@ -242,7 +242,7 @@ pub statement-returns-in-35 : goal.statement-returns-in-35
 statement-returns-in-35 t c = c.choice.ensures
 
 pub statement-returns-in-37 : goal.statement-returns-in-37
-statement-returns-in-37 t c = either_passes c.requires.1.1 c.byte_at.ensures _ _ c.in-37.keys4 c.resource.ensures
+statement-returns-in-37 t c = either_passes c.requires.1.1 c.byte_at.ensures _ _ c.in-37.is c.resource.ensures
 
 pub statement-returns-in-40 : goal.statement-returns-in-40
 statement-returns-in-40 t c = c.class_with_attributes.ensures
