@@ -1,58 +1,12 @@
 -- The cycle of `expression` and what it calls for expressions with parts: the measures and the answers of each member stand in the files below.
-use Prim.Native.Nat.{ℕ}
-use mathlib.Core.Path.{◌∙◌}
+use Prim.Native.Nat.{◌-◌}
+use mathlib.Core.Path.{◌∙◌, refl}
 use native.Mathlib.Omega.{arith}
-use Rattle.statement_printer.proofs.PrintedExpressions.{stands_at}
-use Rattle.statement_printer.proofs.PrintedArms.{arm_here, arm_passes}
-use Prim.Native.Nat.{ℕ, ◌+◌, ◌-◌}
-use mathlib.Core.Path.{◌≡◌, refl, ◌∙◌}
-use lib.ListN.{length}
-use Rattle.rules.specs.Compile.{string_at}
-use Rattle.syntax.specs.Strings.{string_texts}
-use Rattle.statement_printer.proofs.PrintedArms.{ArmsTo, no_arm_yet, arm_stands_lem, one_arm, all_arms}
-use Rattle.statement_printer.proofs.PrintedExpressions.{attribute_read_here, attribute_read_passes}
+use Rattle.statement_printer.proofs.PrintedExpressions.{stands_at, attribute_read_here, attribute_read_passes, constant_tag_passes, here_below, passes_below, last_tag, negation_here, negation_passes, one_above, operation_here, operation_passes, selector_here, selector_passes, levels, siblings_at}
+use Rattle.statement_printer.proofs.PrintedArms.{arm_here, arm_passes, no_arm_yet, arm_stands_lem, one_arm, all_arms}
 use Rattle.places.proofs.Open.{level}
-use Rattle.statement_printer.proofs.PrintedExpressions.{constant_tag_passes, here_below, passes_below, last_tag}
-use Prim.Native.Nat.{ℕ, ◌+◌, ◌*◌, ◌<◌}
-use Rattle.statement_printer.proofs.PrintedExpressions.{negation_here, negation_passes}
-use Rattle.statement_printer.proofs.PrintedExpressions.{stands_at, one_above, operation_here, operation_passes}
 use Rattle.statement_printer.proofs.OperatorSigns.{kind_range, level_small}
-use Rattle.statement_printer.proofs.PrintedExpressions.{selector_here, selector_passes, levels, siblings_at}
 use Rattle.statement_printer.proofs.expressions.+arm_arms_attribute_read_expression_negation_operation_selector.Goals as goal
-mod Falls
-mod Arm
-mod Arms
-mod AttributeRead
-mod Expression
-mod Negation
-mod Operation
-mod Selector
-use native.Mathlib.Omega.{arith}
-use borrow.Author.Rules.{rules}
-use Rattle.statement_printer.proofs.expressions.+arm_arms_attribute_read_expression_negation_operation_selector.{statement}
-use Rattle.statement_printer.proofs.expressions.+arm_arms_attribute_read_expression_negation_operation_selector.Tie.{close}
-use Rattle.statement_printer.proofs.expressions.arm.Reads as arm
-use Rattle.statement_printer.proofs.expressions.+arm_arms_attribute_read_expression_negation_operation_selector.Lts-arm as arm-lts
-use Rattle.statement_printer.proofs.expressions.arms.Reads as arms
-use Rattle.statement_printer.proofs.expressions.+arm_arms_attribute_read_expression_negation_operation_selector.Lts-arms as arms-lts
-use Rattle.statement_printer.proofs.expressions.attribute_read.Reads as attribute-read
-use Rattle.statement_printer.proofs.expressions.+arm_arms_attribute_read_expression_negation_operation_selector.Lts-attribute_read as attribute-read-lts
-use Rattle.statement_printer.proofs.expressions.expression.Reads as expression
-use Rattle.statement_printer.proofs.expressions.+arm_arms_attribute_read_expression_negation_operation_selector.Lts-expression as expression-lts
-use Rattle.statement_printer.proofs.expressions.negation.Reads as negation
-use Rattle.statement_printer.proofs.expressions.+arm_arms_attribute_read_expression_negation_operation_selector.Lts-negation as negation-lts
-use Rattle.statement_printer.proofs.expressions.operation.Reads as operation
-use Rattle.statement_printer.proofs.expressions.+arm_arms_attribute_read_expression_negation_operation_selector.Lts-operation as operation-lts
-use Rattle.statement_printer.proofs.expressions.selector.Reads as selector
-use Rattle.statement_printer.proofs.expressions.+arm_arms_attribute_read_expression_negation_operation_selector.Lts-selector as selector-lts
-use Falls.{μ-arm, arm_at, arm-calls, μ-arms, arms_at, arms-calls, μ-attribute-read, attribute-read-at, attribute-read-calls, μ-expression, expression_at_lem, expression-calls, μ-negation, negation-at, negation-calls, μ-operation, operation-at, operation-calls, μ-selector, selector-at, selector-calls}
-use Arm as arm-answers
-use Arms as arms-answers
-use AttributeRead as attribute-read-answers
-use Expression as expression-answers
-use Negation as negation-answers
-use Operation as operation-answers
-use Selector as selector-answers
 
 pub arm-overflow_add-q : goal.arm-overflow_add-q
 arm-overflow_add-q t c = let o = arm_here c.requires.1.1 in omega (arith, o.expression.stands.ends, c.requires.1.0.short)

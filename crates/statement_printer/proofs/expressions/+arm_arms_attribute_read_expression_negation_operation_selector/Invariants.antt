@@ -1,11 +1,10 @@
 -- The cycle of `expression` and what it calls for expressions with parts: the measures and the answers of each member stand in the files below.
-use Prim.Native.Nat.{ℕ, ◌+◌, ◌-◌}
-use mathlib.Core.Path.{◌≡◌, refl, ◌∙◌}
+use Prim.Native.Nat.{◌+◌, ◌-◌, ◌*◌}
+use mathlib.Core.Path.{◌≡◌}
 use lib.ListN.{length}
 use Rattle.rules.specs.Compile.{string_at}
 use Rattle.syntax.specs.Strings.{string_texts}
-use Rattle.statement_printer.proofs.PrintedArms.{ArmsTo, no_arm_yet, arm_stands_lem, one_arm, all_arms}
-use Prim.Native.Nat.{ℕ, ◌+◌, ◌*◌, ◌<◌}
+use Rattle.statement_printer.proofs.PrintedArms.{ArmsTo}
 use Rattle.statement_printer.proofs.expressions.+arm_arms_attribute_read_expression_negation_operation_selector.Given as goal
 
 abbrev pub invariant-arms-loop-q : goal.invariant-arms-loop-q

@@ -1,62 +1,14 @@
 -- The cycle of `statement` and what it calls for statements with blocks: the measures and the answers of each member stand in the files below.
-use Prim.Native.Nat.{ℕ, ◌+◌, ◌-◌}
-use mathlib.Core.Path.{◌≡◌, refl, ◌∙◌}
-use lib.ListN.{length}
+use Prim.Native.Nat.{◌-◌}
+use mathlib.Core.Path.{refl, ◌∙◌, ap}
 use native.Mathlib.Omega.{arith}
-use Rattle.rules.specs.Compile.{string_at}
 use Rattle.places.proofs.Open.{level}
-use Rattle.syntax.specs.Strings.{string_texts}
-use Rattle.statement_printer.proofs.PrintedExpressions.{siblings_at}
-use Rattle.statement_printer.proofs.PrintedStatements.{block_here, block_passes, StatementsTo, no_statement_yet, statement_stands, one_statement, all_statements}
-use Prim.Native.Nat.{ℕ}
-use mathlib.Core.Path.{◌∙◌}
-use Rattle.statement_printer.proofs.PrintedExpressions.{stands_at}
-use Rattle.statement_printer.proofs.PrintedBranches.{branch_here, branch_passes}
-use Prim.Native.Nat.{ℕ, ◌-◌}
-use Rattle.statement_printer.proofs.PrintedBranches.{BranchesTo, no_branch_yet, branch_stands, one_branch, all_branches}
-use mathlib.Core.Path.{refl, ◌∙◌}
-use Rattle.statement_printer.proofs.PrintedStatements.{choice_here, choice_passes}
-use mathlib.Core.Path.{ap, ◌∙◌}
+use Rattle.statement_printer.proofs.PrintedExpressions.{siblings_at, stands_at}
+use Rattle.statement_printer.proofs.PrintedStatements.{block_here, block_passes, no_statement_yet, statement_stands, one_statement, all_statements, choice_here, choice_passes, conditional_here, conditional_passes, no_else_lem, some_else}
+use Rattle.statement_printer.proofs.PrintedBranches.{branch_here, branch_passes, no_branch_yet, branch_stands, one_branch, all_branches}
 use Rattle.wire.specs.Bytes.{end_of}
-use Rattle.statement_printer.proofs.PrintedStatements.{conditional_here, conditional_passes}
-use Prim.Native.Nat.{ℕ, ◌+◌, ◌*◌, ◌<◌}
-use Rattle.statement_printer.proofs.PrintedStatements.{no_else_lem, some_else}
 use Rattle.statement_printer.proofs.PlainStatements.{tagged, resource_parts, either_passes, include_tag_lem}
 use Rattle.statement_printer.proofs.statements.+block_branch_branches_choice_conditional_otherwise_statement.Goals as goal
-mod Falls
-mod Block
-mod Branch
-mod Branches
-mod Choice
-mod Conditional
-mod Otherwise
-mod Statement
-use native.Mathlib.Omega.{arith}
-use borrow.Author.Rules.{rules}
-use Rattle.statement_printer.proofs.statements.+block_branch_branches_choice_conditional_otherwise_statement as cycle
-use Rattle.statement_printer.proofs.statements.+block_branch_branches_choice_conditional_otherwise_statement.Tie.{close}
-use Rattle.statement_printer.proofs.statements.block.Reads as block
-use Rattle.statement_printer.proofs.statements.+block_branch_branches_choice_conditional_otherwise_statement.Lts-block as block-lts
-use Rattle.statement_printer.proofs.statements.branch.Reads as branch
-use Rattle.statement_printer.proofs.statements.+block_branch_branches_choice_conditional_otherwise_statement.Lts-branch as branch-lts
-use Rattle.statement_printer.proofs.statements.branches.Reads as branches
-use Rattle.statement_printer.proofs.statements.+block_branch_branches_choice_conditional_otherwise_statement.Lts-branches as branches-lts
-use Rattle.statement_printer.proofs.statements.choice.Reads as choice
-use Rattle.statement_printer.proofs.statements.+block_branch_branches_choice_conditional_otherwise_statement.Lts-choice as choice-lts
-use Rattle.statement_printer.proofs.statements.conditional.Reads as conditional
-use Rattle.statement_printer.proofs.statements.+block_branch_branches_choice_conditional_otherwise_statement.Lts-conditional as conditional-lts
-use Rattle.statement_printer.proofs.statements.otherwise.Reads as otherwise
-use Rattle.statement_printer.proofs.statements.+block_branch_branches_choice_conditional_otherwise_statement.Lts-otherwise as otherwise-lts
-use Rattle.statement_printer.proofs.statements.statement.Reads as statement
-use Rattle.statement_printer.proofs.statements.+block_branch_branches_choice_conditional_otherwise_statement.Lts-statement as statement-lts
-use Falls.{μ-block, block_at_lem, block-calls, μ-branch, branch-at, branch-calls, μ-branches, branches_at, branches-calls, μ-choice, choice-at, choice-calls, μ-conditional, conditional-at, conditional-calls, μ-otherwise, otherwise-at, otherwise-calls, μ-statement, statement-at, statement-calls}
-use Block as block-answers
-use Branch as branch-answers
-use Branches as branches-answers
-use Choice as choice-answers
-use Conditional as conditional-answers
-use Otherwise as otherwise-answers
-use Statement as statement-answers
 
 pub block-end_of-end-requires : goal.block-end_of-end-requires
 block-end_of-end-requires t c = omega (arith, c.requires.1.1.stands.ends, c.requires.1.0.short)

@@ -1,13 +1,11 @@
 -- The cycle of `statement` and what it calls for statements with blocks: the measures and the answers of each member stand in the files below.
-use Prim.Native.Nat.{ℕ, ◌+◌, ◌-◌}
-use mathlib.Core.Path.{◌≡◌, refl, ◌∙◌}
+use Prim.Native.Nat.{◌+◌, ◌-◌, ◌*◌}
+use mathlib.Core.Path.{◌≡◌}
 use lib.ListN.{length}
 use Rattle.rules.specs.Compile.{string_at}
 use Rattle.syntax.specs.Strings.{string_texts}
-use Rattle.statement_printer.proofs.PrintedStatements.{block_here, block_passes, StatementsTo, no_statement_yet, statement_stands, one_statement, all_statements}
-use Prim.Native.Nat.{ℕ, ◌-◌}
-use Rattle.statement_printer.proofs.PrintedBranches.{BranchesTo, no_branch_yet, branch_stands, one_branch, all_branches}
-use Prim.Native.Nat.{ℕ, ◌+◌, ◌*◌, ◌<◌}
+use Rattle.statement_printer.proofs.PrintedStatements.{StatementsTo}
+use Rattle.statement_printer.proofs.PrintedBranches.{BranchesTo}
 use Rattle.statement_printer.proofs.statements.+block_branch_branches_choice_conditional_otherwise_statement.Given as goal
 
 abbrev pub invariant-block-loop-q : goal.invariant-block-loop-q
