@@ -24,8 +24,5 @@ parent-above-requires c = let o = class_here c.requires in (c.requires.source, o
 pub in_braces-requires : goal.in_braces-requires
 in_braces-requires c = let o = class_here c.requires in let all = siblings_at refl c.after_parent-first.ensures refl o.parameters in (c.requires.source, block_here (block_found c.last_field-body.ensures c.end_of.ensures all o.body) o.body)
 
-pub shape_of-out : goal.shape_of-out
-shape_of-out c = c.in_braces.auto.1.1.1.1.0 ∙ c.parent-above.auto.1.1.1.1.0 ∙ c.parameters-given.auto.1.1.1.1.1.0 ∙ c.write_word-name.auto.1.1.1.0 ∙ c.write_mark-word.auto.0
-
 pub returns : goal.returns
 returns c = let o = class_here c.requires in let all = siblings_at refl c.after_parent-first.ensures refl o.parameters in class_passes _ _ _ _ _ _ o c.after_parent-first.ensures (block_found c.last_field-body.ensures c.end_of.ensures all o.body) c.two_at.ensures c.write_mark-word.ensures c.write_word-name.ensures c.parameters-given.ensures c.parent-above.ensures c.in_braces.ensures

@@ -20,10 +20,7 @@ pub loop-p-smaller : goal.loop-p-smaller
 loop-p-smaller c = omega (arith, c.end_of-next.ensures, c.loop-p-test.true)
 
 pub loop-p-preserved : goal.loop-p-preserved
-loop-p-preserved c = (one_item _ _ _ c.loop-p-test.true c.loop-p.invariant.0 c.end_of-next.ensures c.first_label-line.ensures c.item-at.ensures, c.item-at.auto.1.1.1.1.1.0 ∙ c.loop-p.invariant.1)
-
-pub shape_of-out : goal.shape_of-out
-shape_of-out c = c.loop-p.invariant.1
+loop-p-preserved c = (one_item _ _ _ c.loop-p-test.true c.loop-p.invariant.0 c.end_of-next.ensures c.first_label-line.ensures c.item-at.ensures, c.item-at.auto.out ∙ c.loop-p.invariant.1)
 
 pub returns : goal.returns
 returns c = all_items _ _ _ c.loop-p-test.false c.loop-p.invariant.0

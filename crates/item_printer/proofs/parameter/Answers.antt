@@ -10,8 +10,5 @@ returns-then-end-q c = plain_parameter_passes _ _ _ _ c.requires.1 c.two_at.ensu
 pub write_constant-requires : goal.write_constant-requires
 write_constant-requires c = (c.requires.0, omega (arith, c.requires.1.stands.ends, c.requires.0.short, c.if-end-q.false, c.end_of-end.ensures))
 
-pub shape_of-out : goal.shape_of-out
-shape_of-out c = c.write_constant.auto.1.1.1.1.0 ∙ c.write_mark-sign.auto.0 ∙ c.write_variable-name.auto.1.1.1.0 ∙ c.separate-begun.auto.0
-
 pub returns : goal.returns
 returns c = given_parameter_passes _ _ _ _ c.requires.1 c.two_at.ensures c.end_of-end.ensures c.first_label-line.ensures c.separate-begun.ensures c.write_variable-name.ensures c.if-end-q.false c.write_mark-sign.ensures c.write_constant.ensures

@@ -19,10 +19,7 @@ loop-q-smaller c = omega (arith, c.end_of-q.ensures, c.loop-q-test.true)
 
 pub loop-q-preserved : goal.loop-q-preserved
 unfolding parameters_at
-loop-q-preserved c = (one_entry _ _ _ _ _ _ _ _ (λ qs. refl) c.loop-q-test.true c.loop-q.invariant.0 c.parameter-at.ensures c.end_of-q.ensures, c.parameter-at.auto.1.1.1.1.1.0 ∙ c.loop-q.invariant.1)
-
-pub shape_of-out : goal.shape_of-out
-shape_of-out c = c.loop-q.invariant.1
+loop-q-preserved c = (one_entry _ _ _ _ _ _ _ _ (λ qs. refl) c.loop-q-test.true c.loop-q.invariant.0 c.parameter-at.ensures c.end_of-q.ensures, c.parameter-at.auto.out ∙ c.loop-q.invariant.1)
 
 pub returns : goal.returns
 unfolding parameters_at

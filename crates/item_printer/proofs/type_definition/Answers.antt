@@ -15,8 +15,5 @@ parameters-given-requires c = let o = type_here c.requires in let found = block_
 pub in_braces-requires : goal.in_braces-requires
 in_braces-requires c = let o = type_here c.requires in (c.requires.source, block_here (block_found c.last_field-body.ensures c.end_of.ensures o.parameters o.body) o.body)
 
-pub shape_of-out : goal.shape_of-out
-shape_of-out c = c.in_braces.auto.1.1.1.1.0 ∙ c.parameters-given.auto.1.1.1.1.1.0 ∙ c.write_word-name.auto.1.1.1.0 ∙ c.write_mark-word.auto.0
-
 pub returns : goal.returns
 returns c = let o = type_here c.requires in type_passes _ _ _ _ _ o (block_found c.last_field-body.ensures c.end_of.ensures o.parameters o.body) c.two_at.ensures c.write_mark-word.ensures c.write_word-name.ensures c.parameters-given.ensures c.in_braces.ensures

@@ -11,10 +11,10 @@ returns-then-size-gt65535 c = leaves_as (over_limit _ _ c.write_whole-size.ensur
 
 pub returns-then-out-size : goal.returns-then-out-size
 returns-then-out-size c =
-    let same = c.write_whole-size.auto.1.1.1.0 in
+    let same = c.write_whole-size.auto.out in
     leaves_as (over_room _ _ c.write_whole-size.ensures c.if-size-gt65535.false (omega (arith, same, c.if-out-size.true))) same refl c.refuse-then-out-size.ensures
 
 pub returns : goal.returns
 returns c =
-    let same = c.write_whole-size.auto.1.1.1.0 in
+    let same = c.write_whole-size.auto.out in
     leaves_as (fits _ _ c.write_whole-size.ensures c.if-size-gt65535.false refl (omega (arith, same, c.if-out-size.false))) same refl c.accept.ensures

@@ -14,8 +14,5 @@ overflow_sub-depth c = omega (arith, level c.requires.1.stands)
 pub expression-requires : goal.expression-requires
 expression-requires c = (c.requires.0, (attribute_here_lem c.requires.1).expression)
 
-pub shape_of-out : goal.shape_of-out
-shape_of-out c = c.expression.auto.1.1.1.1.1.1.0 ∙ c.write_mark-sign.auto.0 ∙ c.write_word-name.auto.1.1.1.0 ∙ c.separate-begun.auto.0
-
 pub returns : goal.returns
 returns c = attribute_passes _ _ _ _ _ c.requires.1 c.two_at.ensures c.end_of.ensures c.first_label-line.ensures c.separate-begun.ensures c.write_word-name.ensures c.write_mark-sign.ensures c.expression.ensures

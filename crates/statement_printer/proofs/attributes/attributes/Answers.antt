@@ -17,10 +17,7 @@ pub loop-q-smaller : goal.loop-q-smaller
 loop-q-smaller c = omega (arith, c.end_of-q.ensures, c.loop-q-test.true)
 
 pub loop-q-preserved : goal.loop-q-preserved
-loop-q-preserved c = (one_entry _ _ _ _ _ _ _ _ (more_attributes _ _ _) c.loop-q-test.true c.loop-q.invariant.0 c.attribute-at.ensures c.end_of-q.ensures, c.attribute-at.auto.1.1.1.1.1.1.0 ∙ c.loop-q.invariant.1)
-
-pub shape_of-out : goal.shape_of-out
-shape_of-out c = c.loop-q.invariant.1
+loop-q-preserved c = (one_entry _ _ _ _ _ _ _ _ (more_attributes _ _ _) c.loop-q-test.true c.loop-q.invariant.0 c.attribute-at.ensures c.end_of-q.ensures, c.attribute-at.auto.out ∙ c.loop-q.invariant.1)
 
 pub returns : goal.returns
 returns c = all_entries _ _ _ _ _ _ _ (no_attributes _ _) c.loop-q-test.false c.loop-q.invariant.0

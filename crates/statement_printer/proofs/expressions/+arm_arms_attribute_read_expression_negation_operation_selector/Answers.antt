@@ -9,175 +9,157 @@ use Rattle.statement_printer.proofs.OperatorSigns.{kind_range, level_small}
 use Rattle.statement_printer.proofs.expressions.+arm_arms_attribute_read_expression_negation_operation_selector.Goals as goal
 
 pub arm-overflow_add-q : goal.arm-overflow_add-q
-arm-overflow_add-q t c = let o = arm_here c.requires.1.1 in omega (arith, o.expression.stands.ends, c.requires.1.0.short)
+arm-overflow_add-q t c = let o = arm_here c.requires.1 in omega (arith, o.expression.stands.ends, c.requires.0.short)
 
 pub arm-write_pattern-pattern-requires : goal.arm-write_pattern-pattern-requires
-arm-write_pattern-pattern-requires t c = (c.requires.1.0, (arm_here c.requires.1.1).expression.stands.ends)
+arm-write_pattern-pattern-requires t c = (c.requires.0, (arm_here c.requires.1).expression.stands.ends)
 
 pub arm-overflow_add-q-2 : goal.arm-overflow_add-q-2
-arm-overflow_add-q-2 t c = let o = arm_here c.requires.1.1 in omega (arith, o.expression.stands.ends, c.requires.1.0.short)
+arm-overflow_add-q-2 t c = let o = arm_here c.requires.1 in omega (arith, o.expression.stands.ends, c.requires.0.short)
 
 pub arm-end_of-requires : goal.arm-end_of-requires
-arm-end_of-requires t c = let o = arm_here c.requires.1.1 in omega (arith, o.expression.stands.ends, c.requires.1.0.short)
+arm-end_of-requires t c = let o = arm_here c.requires.1 in omega (arith, o.expression.stands.ends, c.requires.0.short)
 
 pub arm-expression-requires : goal.arm-expression-requires
-arm-expression-requires t c = (omega (arith, c.requires.0), (c.requires.1.0, stands_at c.end_of.ensures (arm_here c.requires.1.1).expression))
-
-pub arm-shape_of-out : goal.arm-shape_of-out
-arm-shape_of-out t c = c.expression.auto.1.1.1.1.1.1.0 ∙ c.write_mark-sign.auto.0 ∙ c.write_pattern-pattern.auto.1.1.1.1.0 ∙ c.separate-begun.auto.0
+arm-expression-requires t c = (omega arith, (c.requires.0, stands_at c.end_of.ensures (arm_here c.requires.1).expression))
 
 pub arm-returns : goal.arm-returns
-arm-returns t c = arm_passes _ _ _ _ _ c.requires.1.1 c.end_of.ensures c.separate-begun.ensures c.write_pattern-pattern.ensures c.write_mark-sign.ensures c.expression.ensures
+arm-returns t c = arm_passes _ _ _ _ _ c.requires.1 c.end_of.ensures c.separate-begun.ensures c.write_pattern-pattern.ensures c.write_mark-sign.ensures c.expression.ensures
 
 pub arms-loop-q-init : goal.arms-loop-q-init
-arms-loop-q-init t c = (no_arm_yet _ _ _ _ _ c.requires.1.1, refl)
+arms-loop-q-init t c = (no_arm_yet _ _ _ _ _ c.requires.1, refl)
 
 pub arms-arm-at-requires : goal.arms-arm-at-requires
-arms-arm-at-requires t c = (omega (arith, c.requires.0), (c.requires.1.0, arm_stands_lem _ _ _ _ _ c.loop-q-test.true c.loop-q.invariant.0))
+arms-arm-at-requires t c = (omega arith, (c.requires.0, arm_stands_lem _ _ _ _ _ c.loop-q-test.true c.loop-q.invariant.0))
 
 pub arms-end_of-q-requires : goal.arms-end_of-q-requires
-arms-end_of-q-requires t c = omega (arith, c.loop-q-test.true, c.requires.1.2)
+arms-end_of-q-requires t c = omega (arith, c.loop-q-test.true, c.requires.2)
 
 pub arms-loop-q-smaller : goal.arms-loop-q-smaller
 arms-loop-q-smaller t c = omega (arith, c.end_of-q.ensures, c.loop-q-test.true)
 
 pub arms-loop-q-preserved : goal.arms-loop-q-preserved
-arms-loop-q-preserved t c = (one_arm _ _ _ _ _ c.loop-q-test.true c.loop-q.invariant.0 c.arm-at.ensures c.end_of-q.ensures, c.arm-at.auto.1.1.1.1.1.1.0 ∙ c.loop-q.invariant.1)
-
-pub arms-shape_of-out : goal.arms-shape_of-out
-arms-shape_of-out t c = c.loop-q.invariant.1
+arms-loop-q-preserved t c = (one_arm _ _ _ _ _ c.loop-q-test.true c.loop-q.invariant.0 c.arm-at.ensures c.end_of-q.ensures, c.arm-at.auto.out ∙ c.loop-q.invariant.1)
 
 pub arms-returns : goal.arms-returns
 arms-returns t c = all_arms _ _ _ _ _ c.loop-q-test.false c.loop-q.invariant.0
 
 pub attribute_read-overflow_add-p : goal.attribute_read-overflow_add-p
-attribute_read-overflow_add-p t c = let o = attribute_read_here c.requires.1 in omega (arith, o.title.stands.ends, c.requires.1.source.short)
+attribute_read-overflow_add-p t c = let o = attribute_read_here c.requires in omega (arith, o.title.stands.ends, c.requires.source.short)
 
 pub attribute_read-write_word-kind-requires : goal.attribute_read-write_word-kind-requires
-attribute_read-write_word-kind-requires t c = c.requires.1.source
+attribute_read-write_word-kind-requires t c = c.requires.source
 
 pub attribute_read-overflow_add-p-2 : goal.attribute_read-overflow_add-p-2
-attribute_read-overflow_add-p-2 t c = let o = attribute_read_here c.requires.1 in omega (arith, o.title.stands.ends, c.requires.1.source.short)
+attribute_read-overflow_add-p-2 t c = let o = attribute_read_here c.requires in omega (arith, o.title.stands.ends, c.requires.source.short)
 
 pub attribute_read-expression-title-requires : goal.attribute_read-expression-title-requires
-attribute_read-expression-title-requires t c = let o = attribute_read_here c.requires.1 in (omega (arith, c.requires.0), (c.requires.1.source, o.title))
+attribute_read-expression-title-requires t c = let o = attribute_read_here c.requires in (omega arith, (c.requires.source, o.title))
 
 pub attribute_read-overflow_add-p-3 : goal.attribute_read-overflow_add-p-3
-attribute_read-overflow_add-p-3 t c = let o = attribute_read_here c.requires.1 in omega (arith, o.title.stands.ends, c.requires.1.source.short)
+attribute_read-overflow_add-p-3 t c = let o = attribute_read_here c.requires in omega (arith, o.title.stands.ends, c.requires.source.short)
 
 pub attribute_read-write_word-name-requires : goal.attribute_read-write_word-name-requires
-attribute_read-write_word-name-requires t c = c.requires.1.source
-
-pub attribute_read-shape_of-out : goal.attribute_read-shape_of-out
-attribute_read-shape_of-out t c = c.write_mark.auto.0 ∙ c.write_word-name.auto.1.1.1.0 ∙ c.write_mark-again.auto.0 ∙ c.write_mark-close.auto.0 ∙ c.expression-title.auto.1.1.1.1.1.1.0 ∙ c.write_mark-open.auto.0 ∙ c.write_word-kind.auto.1.1.1.0
+attribute_read-write_word-name-requires t c = c.requires.source
 
 pub attribute_read-returns : goal.attribute_read-returns
-attribute_read-returns t c l = attribute_read_passes _ _ l (attribute_read_here c.requires.1) c.two_at.ensures c.two_at-2.ensures c.write_word-kind.ensures c.write_mark-open.ensures c.expression-title.ensures c.write_mark-close.ensures c.write_mark-again.ensures c.write_word-name.ensures c.write_mark.ensures
+attribute_read-returns t c l = attribute_read_passes _ _ l (attribute_read_here c.requires) c.two_at.ensures c.two_at-2.ensures c.write_word-kind.ensures c.write_mark-open.ensures c.expression-title.ensures c.write_mark-close.ensures c.write_mark-again.ensures c.write_word-name.ensures c.write_mark.ensures
 
 pub expression-overflow_sub-below : goal.expression-overflow_sub-below
-expression-overflow_sub-below t c = omega (arith, level c.requires.1.1.stands)
+expression-overflow_sub-below t c = omega (arith, level c.requires.1.stands)
 
 pub expression-write_constant-requires : goal.expression-write_constant-requires
-expression-write_constant-requires t c = (c.requires.1.0, omega (arith, c.requires.1.1.stands.ends, c.requires.1.0.short))
+expression-write_constant-requires t c = (c.requires.0, omega (arith, c.requires.1.stands.ends, c.requires.0.short))
 
 pub expression-returns-then-tag-lt19 : goal.expression-returns-then-tag-lt19
-expression-returns-then-tag-lt19 t c = constant_tag_passes _ _ _ _ _ c.requires.1.1 c.byte_at-tag.ensures c.if-tag-lt19.true c.write_constant.ensures
+expression-returns-then-tag-lt19 t c = constant_tag_passes _ _ _ _ _ c.requires.1 c.byte_at-tag.ensures c.if-tag-lt19.true c.write_constant.ensures
 
 pub expression-write_read-requires : goal.expression-write_read-requires
-expression-write_read-requires t c = (c.requires.1.0, omega (arith, c.requires.1.1.stands.ends, c.requires.1.0.short))
+expression-write_read-requires t c = (c.requires.0, omega (arith, c.requires.1.stands.ends, c.requires.0.short))
 
 pub expression-returns-then-tag-lt22 : goal.expression-returns-then-tag-lt22
-expression-returns-then-tag-lt22 t c = c.write_read.ensures _ _ c.requires.1.1 (omega (arith, c.byte_at-tag.ensures, c.if-tag-lt19.false)) (omega (arith, c.byte_at-tag.ensures, c.if-tag-lt22.true))
+expression-returns-then-tag-lt22 t c = c.write_read.ensures _ _ c.requires.1 (omega (arith, c.byte_at-tag.ensures, c.if-tag-lt19.false)) (omega (arith, c.byte_at-tag.ensures, c.if-tag-lt22.true))
 
 pub expression-operation-requires : goal.expression-operation-requires
-expression-operation-requires t c = (omega (arith, c.requires.0, level c.requires.1.1.stands), here_below c.requires.1.0 c.requires.1.1 c.byte_at-tag.ensures c.in-22.is)
+expression-operation-requires t c = (omega (arith, level c.requires.1.stands), here_below c.requires.0 c.requires.1 c.byte_at-tag.ensures c.in-22.is)
 
 pub expression-negation-requires : goal.expression-negation-requires
-expression-negation-requires t c = (omega (arith, c.requires.0, level c.requires.1.1.stands), here_below c.requires.1.0 c.requires.1.1 c.byte_at-tag.ensures c.in-23.is)
+expression-negation-requires t c = (omega (arith, level c.requires.1.stands), here_below c.requires.0 c.requires.1 c.byte_at-tag.ensures c.in-23.is)
 
 pub expression-attribute_read-requires : goal.expression-attribute_read-requires
-expression-attribute_read-requires t c = (omega (arith, c.requires.0, level c.requires.1.1.stands), here_below c.requires.1.0 c.requires.1.1 c.byte_at-tag.ensures c.in-24.is)
+expression-attribute_read-requires t c = (omega (arith, level c.requires.1.stands), here_below c.requires.0 c.requires.1 c.byte_at-tag.ensures c.in-24.is)
 
 pub expression-selector-requires : goal.expression-selector-requires
-expression-selector-requires t c = (omega (arith, c.requires.0, level c.requires.1.1.stands), here_below c.requires.1.0 c.requires.1.1 c.byte_at-tag.ensures (last_tag c.requires.1.1 c.byte_at-tag.ensures c.if-tag-lt22.false c.in_default.in_default-own.rest.0.0.1 c.in_default.in_default-own.rest.0.1 c.in_default.in_default-own.rest.1))
+expression-selector-requires t c = (omega (arith, level c.requires.1.stands), here_below c.requires.0 c.requires.1 c.byte_at-tag.ensures (last_tag c.requires.1 c.byte_at-tag.ensures c.if-tag-lt22.false c.in_default.in_default-own.rest.0.0.1 c.in_default.in_default-own.rest.0.1 c.in_default.in_default-own.rest.1))
 
 pub expression-returns-in-22 : goal.expression-returns-in-22
-expression-returns-in-22 t c = passes_below _ _ _ _ _ c.requires.1.1 c.operation.ensures
+expression-returns-in-22 t c = passes_below _ _ _ _ _ c.requires.1 c.operation.ensures
 
 pub expression-returns-in-23 : goal.expression-returns-in-23
-expression-returns-in-23 t c = passes_below _ _ _ _ _ c.requires.1.1 (c.negation.ensures _)
+expression-returns-in-23 t c = passes_below _ _ _ _ _ c.requires.1 (c.negation.ensures _)
 
 pub expression-returns-in-24 : goal.expression-returns-in-24
-expression-returns-in-24 t c = passes_below _ _ _ _ _ c.requires.1.1 (c.attribute_read.ensures _)
+expression-returns-in-24 t c = passes_below _ _ _ _ _ c.requires.1 (c.attribute_read.ensures _)
 
 pub expression-returns-in_default : goal.expression-returns-in_default
-expression-returns-in_default t c = passes_below _ _ _ _ _ c.requires.1.1 c.selector.ensures
+expression-returns-in_default t c = passes_below _ _ _ _ _ c.requires.1 c.selector.ensures
 
 pub negation-overflow_add-p : goal.negation-overflow_add-p
-negation-overflow_add-p t c = let o = negation_here c.requires.1 in omega (arith, o.operand.stands.ends, c.requires.1.source.short)
+negation-overflow_add-p t c = let o = negation_here c.requires in omega (arith, o.operand.stands.ends, c.requires.source.short)
 
 pub negation-expression-requires : goal.negation-expression-requires
-negation-expression-requires t c = let o = negation_here c.requires.1 in (omega (arith, c.requires.0), (c.requires.1.source, o.operand))
-
-pub negation-shape_of-out : goal.negation-shape_of-out
-negation-shape_of-out t c = c.expression.auto.1.1.1.1.1.1.0 ∙ c.write_mark-sign.auto.0
+negation-expression-requires t c = let o = negation_here c.requires in (omega arith, (c.requires.source, o.operand))
 
 pub negation-returns : goal.negation-returns
-negation-returns t c l = negation_passes _ _ l (negation_here c.requires.1) c.write_mark-sign.ensures c.expression.ensures
+negation-returns t c l = negation_passes _ _ l (negation_here c.requires) c.write_mark-sign.ensures c.expression.ensures
 
 pub operation-overflow_add-p : goal.operation-overflow_add-p
-operation-overflow_add-p t c = let o = operation_here c.requires.1 in omega (arith, o.left.stands.ends, c.requires.1.source.short)
+operation-overflow_add-p t c = let o = operation_here c.requires in omega (arith, o.left.stands.ends, c.requires.source.short)
 
 pub operation-overflow_add-p-2 : goal.operation-overflow_add-p-2
-operation-overflow_add-p-2 t c = let o = operation_here c.requires.1 in omega (arith, o.left.stands.ends, c.requires.1.source.short)
+operation-overflow_add-p-2 t c = let o = operation_here c.requires in omega (arith, o.left.stands.ends, c.requires.source.short)
 
 pub operation-expression-left-requires : goal.operation-expression-left-requires
-operation-expression-left-requires t c = let o = operation_here c.requires.1 in (omega (arith, c.requires.0), (c.requires.1.source, o.left))
+operation-expression-left-requires t c = let o = operation_here c.requires in (omega arith, (c.requires.source, o.left))
 
 pub operation-write_mark-sign-requires : goal.operation-write_mark-sign-requires
 operation-write_mark-sign-requires t c = kind_range _ c.operator_kind.ensures
 
 pub operation-overflow_add-p-3 : goal.operation-overflow_add-p-3
-operation-overflow_add-p-3 t c = let o = operation_here c.requires.1 in omega (arith, o.left.stands.ends, c.requires.1.source.short)
+operation-overflow_add-p-3 t c = let o = operation_here c.requires in omega (arith, o.left.stands.ends, c.requires.source.short)
 
 pub operation-end_of-requires : goal.operation-end_of-requires
-operation-end_of-requires t c = let o = operation_here c.requires.1 in omega (arith, o.left.stands.ends, c.requires.1.source.short)
+operation-end_of-requires t c = let o = operation_here c.requires in omega (arith, o.left.stands.ends, c.requires.source.short)
 
 pub operation-overflow_add-own : goal.operation-overflow_add-own
 operation-overflow_add-own t c = omega (arith, level_small _ c.level_of-own.ensures)
 
 pub operation-expression-right-requires : goal.operation-expression-right-requires
-operation-expression-right-requires t c = let o = operation_here c.requires.1 in (omega (arith, c.requires.0), (c.requires.1.source, stands_at c.end_of.ensures o.right))
-
-pub operation-shape_of-out : goal.operation-shape_of-out
-operation-shape_of-out t c = c.close_bracket.auto.0 ∙ c.expression-right.auto.1.1.1.1.1.1.0 ∙ c.write_mark-sign.auto.0 ∙ c.expression-left.auto.1.1.1.1.1.1.0 ∙ c.open_bracket-before.auto.0
+operation-expression-right-requires t c = let o = operation_here c.requires in (omega arith, (c.requires.source, stands_at c.end_of.ensures o.right))
 
 pub operation-returns : goal.operation-returns
-operation-returns t c = operation_passes _ _ _ (operation_here c.requires.1) c.byte_at-op.ensures c.level_of-own.ensures c.operator_kind.ensures (one_above _) c.end_of.ensures c.open_bracket-before.ensures c.expression-left.ensures c.write_mark-sign.ensures c.expression-right.ensures c.close_bracket.ensures
+operation-returns t c = operation_passes _ _ _ (operation_here c.requires) c.byte_at-op.ensures c.level_of-own.ensures c.operator_kind.ensures (one_above _) c.end_of.ensures c.open_bracket-before.ensures c.expression-left.ensures c.write_mark-sign.ensures c.expression-right.ensures c.close_bracket.ensures
 
 pub selector-overflow_add-p : goal.selector-overflow_add-p
-selector-overflow_add-p t c = let o = selector_here c.requires.1 in omega (arith, o.scrutinee.stands.ends, o.some, c.requires.1.stands.stands.ends, c.requires.1.source.short)
+selector-overflow_add-p t c = let o = selector_here c.requires in omega (arith, o.scrutinee.stands.ends, o.some, c.requires.stands.stands.ends, c.requires.source.short)
 
 pub selector-expression-value-requires : goal.selector-expression-value-requires
-selector-expression-value-requires t c = let o = selector_here c.requires.1 in (omega (arith, c.requires.0), (c.requires.1.source, o.scrutinee))
+selector-expression-value-requires t c = let o = selector_here c.requires in (omega arith, (c.requires.source, o.scrutinee))
 
 pub selector-overflow_sub-below : goal.selector-overflow_sub-below
-selector-overflow_sub-below t c = let o = selector_here c.requires.1 in omega (arith, level o.scrutinee.stands)
+selector-overflow_sub-below t c = let o = selector_here c.requires in omega (arith, level o.scrutinee.stands)
 
 pub selector-overflow_add-p-2 : goal.selector-overflow_add-p-2
-selector-overflow_add-p-2 t c = let o = selector_here c.requires.1 in omega (arith, o.scrutinee.stands.ends, o.some, c.requires.1.stands.stands.ends, c.requires.1.source.short)
+selector-overflow_add-p-2 t c = let o = selector_here c.requires in omega (arith, o.scrutinee.stands.ends, o.some, c.requires.stands.stands.ends, c.requires.source.short)
 
 pub selector-end_of-requires : goal.selector-end_of-requires
-selector-end_of-requires t c = let o = selector_here c.requires.1 in omega (arith, o.scrutinee.stands.ends, o.some, c.requires.1.stands.stands.ends, c.requires.1.source.short)
+selector-end_of-requires t c = let o = selector_here c.requires in omega (arith, o.scrutinee.stands.ends, o.some, c.requires.stands.stands.ends, c.requires.source.short)
 
 pub selector-end_of-requires-2 : goal.selector-end_of-requires-2
-selector-end_of-requires-2 t c = let o = selector_here c.requires.1 in omega (arith, o.scrutinee.stands.ends, o.some, c.requires.1.stands.stands.ends, c.requires.1.source.short)
+selector-end_of-requires-2 t c = let o = selector_here c.requires in omega (arith, o.scrutinee.stands.ends, o.some, c.requires.stands.stands.ends, c.requires.source.short)
 
 pub selector-arms-all-requires : goal.selector-arms-all-requires
-selector-arms-all-requires t c = let o = selector_here c.requires.1 in (omega (arith, c.requires.0, level o.scrutinee.stands), (c.requires.1.source, siblings_at (levels o.scrutinee.stands) c.end_of.ensures c.end_of-2.ensures o.arms, omega (arith, c.end_of-2.ensures, c.requires.1.stands.stands.ends, c.requires.1.source.short)))
-
-pub selector-shape_of-out : goal.selector-shape_of-out
-selector-shape_of-out t c = c.close_bracket.auto.0 ∙ c.write_mark-close.auto.0 ∙ c.arms-all.auto.1.1.1.1.1.1.0 ∙ c.write_mark-open.auto.0 ∙ c.write_mark-sign.auto.0 ∙ c.expression-value.auto.1.1.1.1.1.1.0 ∙ c.open_bracket-before.auto.0
+selector-arms-all-requires t c = let o = selector_here c.requires in (omega (arith, level o.scrutinee.stands), (c.requires.source, siblings_at (levels o.scrutinee.stands) c.end_of.ensures c.end_of-2.ensures o.arms, omega (arith, c.end_of-2.ensures, c.requires.stands.stands.ends, c.requires.source.short)))
 
 pub selector-returns : goal.selector-returns
-selector-returns t c = let o = selector_here c.requires.1 in selector_passes _ _ _ _ _ _ o c.end_of.ensures c.end_of-2.ensures (levels o.scrutinee.stands) c.open_bracket-before.ensures c.expression-value.ensures c.write_mark-sign.ensures c.write_mark-open.ensures c.arms-all.ensures c.write_mark-close.ensures c.close_bracket.ensures
+selector-returns t c = let o = selector_here c.requires in selector_passes _ _ _ _ _ _ o c.end_of.ensures c.end_of-2.ensures (levels o.scrutinee.stands) c.open_bracket-before.ensures c.expression-value.ensures c.write_mark-sign.ensures c.write_mark-open.ensures c.arms-all.ensures c.write_mark-close.ensures c.close_bracket.ensures

@@ -18,8 +18,5 @@ end_of-requires c = omega (arith, c.requires.stands.stands.ends, c.requires.sour
 pub attributes-all-requires : goal.attributes-all-requires
 attributes-all-requires c = (c.requires.source, siblings_at refl refl c.end_of.ensures (class_here c.requires).attributes, omega (arith, c.end_of.ensures, c.requires.stands.stands.ends, c.requires.source.short))
 
-pub shape_of-out : goal.shape_of-out
-shape_of-out c = c.write_mark.auto.0 ∙ c.attributes-all.auto.1.1.1.1.1.1.0 ∙ c.write_mark-colon.auto.0 ∙ c.write_word-name.auto.1.1.1.0 ∙ c.write_mark-open.auto.0 ∙ c.write_mark-word.auto.0
-
 pub returns : goal.returns
 returns c = class_passes _ _ _ _ _ (class_here c.requires) c.two_at.ensures c.end_of.ensures c.write_mark-word.ensures c.write_mark-open.ensures c.write_word-name.ensures c.write_mark-colon.ensures c.attributes-all.ensures c.write_mark.ensures

@@ -17,8 +17,5 @@ end_of-requires-2 c = omega (arith, c.requires.3)
 pub attributes-all-requires : goal.attributes-all-requires
 attributes-all-requires c = (c.requires.0, siblings_at refl c.end_of.ensures c.end_of-2.ensures c.requires.2, omega (arith, c.end_of-2.ensures, c.requires.3))
 
-pub shape_of-out : goal.shape_of-out
-shape_of-out c = c.write_mark.auto.0 ∙ c.attributes-all.auto.1.1.1.1.1.1.0 ∙ c.write_mark-colon.auto.0 ∙ c.expression-title.auto.1.1.1.1.1.1.0 ∙ c.write_mark-open.auto.0 ∙ c.write_word-kind.auto.1.1.1.0
-
 pub returns : goal.returns
 returns c = resource_passes _ _ _ _ _ _ _ _ c.two_at.ensures c.end_of.ensures c.end_of-2.ensures c.write_word-kind.ensures c.write_mark-open.ensures c.expression-title.ensures c.write_mark-colon.ensures c.attributes-all.ensures c.write_mark.ensures

@@ -11,178 +11,160 @@ use Rattle.statement_printer.proofs.PlainStatements.{tagged, resource_parts, eit
 use Rattle.statement_printer.proofs.statements.+block_branch_branches_choice_conditional_otherwise_statement.Goals as goal
 
 pub block-end_of-end-requires : goal.block-end_of-end-requires
-block-end_of-end-requires t c = omega (arith, c.requires.1.1.stands.ends, c.requires.1.0.short)
+block-end_of-end-requires t c = omega (arith, c.requires.1.stands.ends, c.requires.0.short)
 
 pub block-overflow_add-q : goal.block-overflow_add-q
-block-overflow_add-q t c = omega (arith, c.requires.1.1.stands.ends, c.requires.1.0.short)
+block-overflow_add-q t c = omega (arith, c.requires.1.stands.ends, c.requires.0.short)
 
 pub block-loop-q-init : goal.block-loop-q-init
-block-loop-q-init t c = (no_statement_yet _ _ _ _ _ (siblings_at refl refl c.end_of-end.ensures (block_here c.requires.1.1).statements), refl)
+block-loop-q-init t c = (no_statement_yet _ _ _ _ _ (siblings_at refl refl c.end_of-end.ensures (block_here c.requires.1).statements), refl)
 
 pub block-end_of-next-requires : goal.block-end_of-next-requires
-block-end_of-next-requires t c = omega (arith, c.loop-q-test.true, c.end_of-end.ensures, c.requires.1.1.stands.ends, c.requires.1.0.short)
+block-end_of-next-requires t c = omega (arith, c.loop-q-test.true, c.end_of-end.ensures, c.requires.1.stands.ends, c.requires.0.short)
 
 pub block-first_label-line-requires : goal.block-first_label-line-requires
-block-first_label-line-requires t c = (omega (arith, c.end_of-next.ensures, (statement_stands _ _ _ _ _ c.loop-q-test.true c.loop-q.invariant.0).stands.ends), c.requires.1.0.short)
+block-first_label-line-requires t c = (omega (arith, c.end_of-next.ensures, (statement_stands _ _ _ _ _ c.loop-q-test.true c.loop-q.invariant.0).stands.ends), c.requires.0.short)
 
 pub block-overflow_sub-depth : goal.block-overflow_sub-depth
-block-overflow_sub-depth t c = omega (arith, level c.requires.1.1.stands)
+block-overflow_sub-depth t c = omega (arith, level c.requires.1.stands)
 
 pub block-statement-at-requires : goal.block-statement-at-requires
-block-statement-at-requires t c = (omega (arith, c.requires.0, level c.requires.1.1.stands), (c.requires.1.0, statement_stands _ _ _ _ _ c.loop-q-test.true c.loop-q.invariant.0))
+block-statement-at-requires t c = (omega (arith, level c.requires.1.stands), (c.requires.0, statement_stands _ _ _ _ _ c.loop-q-test.true c.loop-q.invariant.0))
 
 pub block-loop-q-smaller : goal.block-loop-q-smaller
 block-loop-q-smaller t c = omega (arith, c.end_of-next.ensures, c.loop-q-test.true)
 
 pub block-loop-q-preserved : goal.block-loop-q-preserved
-block-loop-q-preserved t c = (one_statement _ _ _ _ _ c.loop-q-test.true c.loop-q.invariant.0 c.end_of-next.ensures c.first_label-line.ensures c.statement-at.ensures, c.statement-at.auto.1.1.1.1.1.1.0 ∙ c.loop-q.invariant.1)
-
-pub block-shape_of-out : goal.block-shape_of-out
-block-shape_of-out t c = c.loop-q.invariant.1
+block-loop-q-preserved t c = (one_statement _ _ _ _ _ c.loop-q-test.true c.loop-q.invariant.0 c.end_of-next.ensures c.first_label-line.ensures c.statement-at.ensures, c.statement-at.auto.out ∙ c.loop-q.invariant.1)
 
 pub block-returns : goal.block-returns
-block-returns t c = block_passes _ _ _ c.requires.1.1 c.end_of-end.ensures (all_statements _ _ _ _ _ c.loop-q-test.false c.loop-q.invariant.0)
+block-returns t c = block_passes _ _ _ c.requires.1 c.end_of-end.ensures (all_statements _ _ _ _ _ c.loop-q-test.false c.loop-q.invariant.0)
 
 pub branch-overflow_add-q : goal.branch-overflow_add-q
-branch-overflow_add-q t c = let o = branch_here c.requires.1.1 in omega (arith, o.block.stands.ends, c.requires.1.0.short)
+branch-overflow_add-q t c = let o = branch_here c.requires.1 in omega (arith, o.block.stands.ends, c.requires.0.short)
 
 pub branch-write_pattern-pattern-requires : goal.branch-write_pattern-pattern-requires
-branch-write_pattern-pattern-requires t c = (c.requires.1.0, (branch_here c.requires.1.1).block.stands.ends)
+branch-write_pattern-pattern-requires t c = (c.requires.0, (branch_here c.requires.1).block.stands.ends)
 
 pub branch-overflow_sub-depth : goal.branch-overflow_sub-depth
-branch-overflow_sub-depth t c = omega (arith, level c.requires.1.1.stands)
+branch-overflow_sub-depth t c = omega (arith, level c.requires.1.stands)
 
 pub branch-overflow_add-q-2 : goal.branch-overflow_add-q-2
-branch-overflow_add-q-2 t c = let o = branch_here c.requires.1.1 in omega (arith, o.block.stands.ends, c.requires.1.0.short)
+branch-overflow_add-q-2 t c = let o = branch_here c.requires.1 in omega (arith, o.block.stands.ends, c.requires.0.short)
 
 pub branch-end_of-requires : goal.branch-end_of-requires
-branch-end_of-requires t c = let o = branch_here c.requires.1.1 in omega (arith, o.block.stands.ends, c.requires.1.0.short)
+branch-end_of-requires t c = let o = branch_here c.requires.1 in omega (arith, o.block.stands.ends, c.requires.0.short)
 
 pub branch-block-inside-requires : goal.branch-block-inside-requires
-branch-block-inside-requires t c = (omega (arith, c.requires.0, level c.requires.1.1.stands), (c.requires.1.0, stands_at c.end_of.ensures (branch_here c.requires.1.1).block))
-
-pub branch-shape_of-out : goal.branch-shape_of-out
-branch-shape_of-out t c = c.write_mark.auto.0 ∙ c.block-inside.auto.1.1.1.1.1.0 ∙ c.write_mark-open.auto.0 ∙ c.write_mark-colon.auto.0 ∙ c.write_pattern-pattern.auto.1.1.1.1.0
+branch-block-inside-requires t c = (omega (arith, level c.requires.1.stands), (c.requires.0, stands_at c.end_of.ensures (branch_here c.requires.1).block))
 
 pub branch-returns : goal.branch-returns
-branch-returns t c = branch_passes _ _ _ _ c.requires.1.1 c.end_of.ensures c.write_pattern-pattern.ensures c.write_mark-colon.ensures c.write_mark-open.ensures c.block-inside.ensures c.write_mark.ensures
+branch-returns t c = branch_passes _ _ _ _ c.requires.1 c.end_of.ensures c.write_pattern-pattern.ensures c.write_mark-colon.ensures c.write_mark-open.ensures c.block-inside.ensures c.write_mark.ensures
 
 pub branches-loop-q-init : goal.branches-loop-q-init
-branches-loop-q-init t c = (no_branch_yet _ _ _ _ _ c.requires.1.1, refl)
+branches-loop-q-init t c = (no_branch_yet _ _ _ _ _ c.requires.1, refl)
 
 pub branches-branch-at-requires : goal.branches-branch-at-requires
-branches-branch-at-requires t c = (omega (arith, c.requires.0), (c.requires.1.0, branch_stands _ _ _ _ _ c.loop-q-test.true c.loop-q.invariant.0))
+branches-branch-at-requires t c = (omega arith, (c.requires.0, branch_stands _ _ _ _ _ c.loop-q-test.true c.loop-q.invariant.0))
 
 pub branches-end_of-q-requires : goal.branches-end_of-q-requires
-branches-end_of-q-requires t c = omega (arith, c.loop-q-test.true, c.requires.1.2)
+branches-end_of-q-requires t c = omega (arith, c.loop-q-test.true, c.requires.2)
 
 pub branches-loop-q-smaller : goal.branches-loop-q-smaller
 branches-loop-q-smaller t c = omega (arith, c.end_of-q.ensures, c.loop-q-test.true)
 
 pub branches-loop-q-preserved : goal.branches-loop-q-preserved
-branches-loop-q-preserved t c = (one_branch _ _ _ _ _ c.loop-q-test.true c.loop-q.invariant.0 c.branch-at.ensures c.end_of-q.ensures, c.branch-at.auto.1.1.1.1.1.0 ∙ c.loop-q.invariant.1)
-
-pub branches-shape_of-out : goal.branches-shape_of-out
-branches-shape_of-out t c = c.loop-q.invariant.1
+branches-loop-q-preserved t c = (one_branch _ _ _ _ _ c.loop-q-test.true c.loop-q.invariant.0 c.branch-at.ensures c.end_of-q.ensures, c.branch-at.auto.out ∙ c.loop-q.invariant.1)
 
 pub branches-returns : goal.branches-returns
 branches-returns t c = all_branches _ _ _ _ _ c.loop-q-test.false c.loop-q.invariant.0
 
 pub choice-overflow_sub-below : goal.choice-overflow_sub-below
-choice-overflow_sub-below t c = omega (arith, level c.requires.1.stands.stands)
+choice-overflow_sub-below t c = omega (arith, level c.requires.stands.stands)
 
 pub choice-overflow_add-p : goal.choice-overflow_add-p
-choice-overflow_add-p t c = omega (arith, c.requires.1.stands.stands.ends, c.requires.1.source.short)
+choice-overflow_add-p t c = omega (arith, c.requires.stands.stands.ends, c.requires.source.short)
 
 pub choice-expression-value-requires : goal.choice-expression-value-requires
-choice-expression-value-requires t c = (c.requires.1.source, (choice_here c.requires.1).scrutinee)
+choice-expression-value-requires t c = (c.requires.source, (choice_here c.requires).scrutinee)
 
 pub choice-overflow_add-p-2 : goal.choice-overflow_add-p-2
-choice-overflow_add-p-2 t c = omega (arith, c.requires.1.stands.stands.ends, c.requires.1.source.short)
+choice-overflow_add-p-2 t c = omega (arith, c.requires.stands.stands.ends, c.requires.source.short)
 
 pub choice-end_of-requires : goal.choice-end_of-requires
-choice-end_of-requires t c = omega (arith, c.requires.1.stands.stands.ends, c.requires.1.source.short)
+choice-end_of-requires t c = omega (arith, c.requires.stands.stands.ends, c.requires.source.short)
 
 pub choice-end_of-requires-2 : goal.choice-end_of-requires-2
-choice-end_of-requires-2 t c = omega (arith, c.requires.1.stands.stands.ends, c.requires.1.source.short)
+choice-end_of-requires-2 t c = omega (arith, c.requires.stands.stands.ends, c.requires.source.short)
 
 pub choice-branches-all-requires : goal.choice-branches-all-requires
-choice-branches-all-requires t c = (omega (arith, c.requires.0, level c.requires.1.stands.stands), (c.requires.1.source, siblings_at refl c.end_of.ensures c.end_of-2.ensures (choice_here c.requires.1).branches, omega (arith, c.end_of-2.ensures, c.requires.1.stands.stands.ends, c.requires.1.source.short)))
-
-pub choice-shape_of-out : goal.choice-shape_of-out
-choice-shape_of-out t c = c.write_mark.auto.0 ∙ c.branches-all.auto.1.1.1.1.1.1.0 ∙ c.write_mark-open.auto.0 ∙ c.expression-value.auto.1.1.1.1.1.1.0 ∙ c.write_mark-word.auto.0
+choice-branches-all-requires t c = (omega (arith, level c.requires.stands.stands), (c.requires.source, siblings_at refl c.end_of.ensures c.end_of-2.ensures (choice_here c.requires).branches, omega (arith, c.end_of-2.ensures, c.requires.stands.stands.ends, c.requires.source.short)))
 
 pub choice-returns : goal.choice-returns
-choice-returns t c = choice_passes _ _ _ _ _ (choice_here c.requires.1) c.end_of.ensures c.end_of-2.ensures c.write_mark-word.ensures c.expression-value.ensures c.write_mark-open.ensures c.branches-all.ensures c.write_mark.ensures
+choice-returns t c = choice_passes _ _ _ _ _ (choice_here c.requires) c.end_of.ensures c.end_of-2.ensures c.write_mark-word.ensures c.expression-value.ensures c.write_mark-open.ensures c.branches-all.ensures c.write_mark.ensures
 
 pub conditional-overflow_sub-below : goal.conditional-overflow_sub-below
-conditional-overflow_sub-below t c = omega (arith, level c.requires.1.stands.stands)
+conditional-overflow_sub-below t c = omega (arith, level c.requires.stands.stands)
 
 pub conditional-overflow_add-p : goal.conditional-overflow_add-p
-conditional-overflow_add-p t c = omega (arith, c.requires.1.stands.stands.ends, c.requires.1.source.short)
+conditional-overflow_add-p t c = omega (arith, c.requires.stands.stands.ends, c.requires.source.short)
 
 pub conditional-expression-condition-requires : goal.conditional-expression-condition-requires
-conditional-expression-condition-requires t c = (c.requires.1.source, (conditional_here c.requires.1).condition)
+conditional-expression-condition-requires t c = (c.requires.source, (conditional_here c.requires).condition)
 
 pub conditional-overflow_add-p-2 : goal.conditional-overflow_add-p-2
-conditional-overflow_add-p-2 t c = omega (arith, c.requires.1.stands.stands.ends, c.requires.1.source.short)
+conditional-overflow_add-p-2 t c = omega (arith, c.requires.stands.stands.ends, c.requires.source.short)
 
 pub conditional-end_of-first-requires : goal.conditional-end_of-first-requires
-conditional-end_of-first-requires t c = omega (arith, c.requires.1.stands.stands.ends, c.requires.1.source.short)
+conditional-end_of-first-requires t c = omega (arith, c.requires.stands.stands.ends, c.requires.source.short)
 
 pub conditional-block-inside-requires : goal.conditional-block-inside-requires
-conditional-block-inside-requires t c = (omega (arith, c.requires.0, level c.requires.1.stands.stands), (c.requires.1.source, stands_at c.end_of-first.ensures (conditional_here c.requires.1).if_true))
+conditional-block-inside-requires t c = (omega (arith, level c.requires.stands.stands), (c.requires.source, stands_at c.end_of-first.ensures (conditional_here c.requires).if_true))
 
 pub conditional-end_of-requires : goal.conditional-end_of-requires
-conditional-end_of-requires t c = let o = conditional_here c.requires.1 in omega (arith, o.if_true.stands.ends, c.requires.1.source.short, c.end_of-first.ensures)
+conditional-end_of-requires t c = let o = conditional_here c.requires in omega (arith, o.if_true.stands.ends, c.requires.source.short, c.end_of-first.ensures)
 
 pub conditional-otherwise-requires : goal.conditional-otherwise-requires
-conditional-otherwise-requires t c = (omega (arith, c.requires.0, level c.requires.1.stands.stands), (c.requires.1.source, stands_at (c.end_of.ensures ∙ ap (end_of _) c.end_of-first.ensures) (conditional_here c.requires.1).if_false))
-
-pub conditional-shape_of-out : goal.conditional-shape_of-out
-conditional-shape_of-out t c = c.otherwise.auto.1.1.1.1.1.0 ∙ c.write_mark-close.auto.0 ∙ c.block-inside.auto.1.1.1.1.1.0 ∙ c.write_mark-open.auto.0 ∙ c.expression-condition.auto.1.1.1.1.1.1.0 ∙ c.write_mark-word.auto.0
+conditional-otherwise-requires t c = (omega (arith, level c.requires.stands.stands), (c.requires.source, stands_at (c.end_of.ensures ∙ ap (end_of _) c.end_of-first.ensures) (conditional_here c.requires).if_false))
 
 pub conditional-returns : goal.conditional-returns
-conditional-returns t c = conditional_passes _ _ _ _ _ (conditional_here c.requires.1) c.end_of-first.ensures c.end_of.ensures c.write_mark-word.ensures c.expression-condition.ensures c.write_mark-open.ensures c.block-inside.ensures c.write_mark-close.ensures c.otherwise.ensures
+conditional-returns t c = conditional_passes _ _ _ _ _ (conditional_here c.requires) c.end_of-first.ensures c.end_of.ensures c.write_mark-word.ensures c.expression-condition.ensures c.write_mark-open.ensures c.block-inside.ensures c.write_mark-close.ensures c.otherwise.ensures
 
 pub otherwise-end_of-requires : goal.otherwise-end_of-requires
-otherwise-end_of-requires t c = omega (arith, c.requires.1.1.stands.ends, c.requires.1.0.short)
+otherwise-end_of-requires t c = omega (arith, c.requires.1.stands.ends, c.requires.0.short)
 
 pub otherwise-overflow_add-p : goal.otherwise-overflow_add-p
-otherwise-overflow_add-p t c = omega (arith, c.requires.1.1.stands.ends, c.requires.1.0.short)
+otherwise-overflow_add-p t c = omega (arith, c.requires.1.stands.ends, c.requires.0.short)
 
 pub otherwise-returns-then-end_of-p : goal.otherwise-returns-then-end_of-p
-otherwise-returns-then-end_of-p t c = no_else_lem _ _ _ _ c.requires.1.1 c.end_of.ensures c.if-end_of-p.true
+otherwise-returns-then-end_of-p t c = no_else_lem _ _ _ _ c.requires.1 c.end_of.ensures c.if-end_of-p.true
 
 pub otherwise-block-inside-requires : goal.otherwise-block-inside-requires
-otherwise-block-inside-requires t c = (omega (arith, c.requires.0), c.requires.1)
-
-pub otherwise-shape_of-out : goal.otherwise-shape_of-out
-otherwise-shape_of-out t c = c.write_mark.auto.0 ∙ c.block-inside.auto.1.1.1.1.1.0 ∙ c.write_mark-open.auto.0 ∙ c.write_mark-word.auto.0
+otherwise-block-inside-requires t c = (omega arith, c.requires)
 
 pub otherwise-returns : goal.otherwise-returns
-otherwise-returns t c = some_else _ _ _ _ c.requires.1.1 c.end_of.ensures c.if-end_of-p.false c.write_mark-word.ensures c.write_mark-open.ensures c.block-inside.ensures c.write_mark.ensures
+otherwise-returns t c = some_else _ _ _ _ c.requires.1 c.end_of.ensures c.if-end_of-p.false c.write_mark-word.ensures c.write_mark-open.ensures c.block-inside.ensures c.write_mark.ensures
 
 pub statement-assignment-requires : goal.statement-assignment-requires
-statement-assignment-requires t c = tagged c.requires.1.1 c.byte_at.ensures c.requires.1.0 c.in-33.is
+statement-assignment-requires t c = tagged c.requires.1 c.byte_at.ensures c.requires.0 c.in-33.is
 
 pub statement-conditional-requires : goal.statement-conditional-requires
-statement-conditional-requires t c = (omega (arith, c.requires.0), tagged c.requires.1.1 c.byte_at.ensures c.requires.1.0 c.in-34.is)
+statement-conditional-requires t c = (omega arith, tagged c.requires.1 c.byte_at.ensures c.requires.0 c.in-34.is)
 
 pub statement-choice-requires : goal.statement-choice-requires
-statement-choice-requires t c = (omega (arith, c.requires.0), tagged c.requires.1.1 c.byte_at.ensures c.requires.1.0 c.in-35.is)
+statement-choice-requires t c = (omega arith, tagged c.requires.1 c.byte_at.ensures c.requires.0 c.in-35.is)
 
 pub statement-overflow_sub-depth : goal.statement-overflow_sub-depth
-statement-overflow_sub-depth t c = omega (arith, level c.requires.1.1.stands)
+statement-overflow_sub-depth t c = omega (arith, level c.requires.1.stands)
 
 pub statement-resource-requires : goal.statement-resource-requires
-statement-resource-requires t c = let parts = resource_parts c.requires.1.1 c.byte_at.ensures c.in-37.is in (c.requires.1.0, parts.0, parts.1, omega (arith, c.requires.1.1.stands.ends, c.requires.1.0.short))
+statement-resource-requires t c = let parts = resource_parts c.requires.1 c.byte_at.ensures c.in-37.is in (c.requires.0, parts.0, parts.1, omega (arith, c.requires.1.stands.ends, c.requires.0.short))
 
 pub statement-class_with_attributes-requires : goal.statement-class_with_attributes-requires
-statement-class_with_attributes-requires t c = tagged c.requires.1.1 c.byte_at.ensures c.requires.1.0 c.in-40.is
+statement-class_with_attributes-requires t c = tagged c.requires.1 c.byte_at.ensures c.requires.0 c.in-40.is
 
 pub statement-include-requires : goal.statement-include-requires
-statement-include-requires t c = tagged c.requires.1.1 c.byte_at.ensures c.requires.1.0 (include_tag_lem c.requires.1.1 c.byte_at.ensures c.in_default.in_default-own.rest.0.0.0.0.1 c.in_default.in_default-own.rest.0.0.0.1 c.in_default.in_default-own.rest.0.0.1 c.in_default.in_default-own.rest.0.1 c.in_default.in_default-own.rest.1)
+statement-include-requires t c = tagged c.requires.1 c.byte_at.ensures c.requires.0 (include_tag_lem c.requires.1 c.byte_at.ensures c.in_default.in_default-own.rest.0.0.0.0.1 c.in_default.in_default-own.rest.0.0.0.1 c.in_default.in_default-own.rest.0.0.1 c.in_default.in_default-own.rest.0.1 c.in_default.in_default-own.rest.1)
 
 pub statement-returns-in-33 : goal.statement-returns-in-33
 statement-returns-in-33 t c = c.assignment.ensures
@@ -194,7 +176,7 @@ pub statement-returns-in-35 : goal.statement-returns-in-35
 statement-returns-in-35 t c = c.choice.ensures
 
 pub statement-returns-in-37 : goal.statement-returns-in-37
-statement-returns-in-37 t c = either_passes c.requires.1.1 c.byte_at.ensures _ _ c.in-37.is c.resource.ensures
+statement-returns-in-37 t c = either_passes c.requires.1 c.byte_at.ensures _ _ c.in-37.is c.resource.ensures
 
 pub statement-returns-in-40 : goal.statement-returns-in-40
 statement-returns-in-40 t c = c.class_with_attributes.ensures
