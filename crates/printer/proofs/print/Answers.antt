@@ -8,10 +8,6 @@ use Rattle.printer.proofs.print.Goals as goal
 pub returns-then-work-lt65536 : goal.returns-then-work-lt65536
 returns-then-work-lt65536 c = prints _ _ (short_memory _ _ _ _ c.if-work-lt65536.true) c.refuse.ensures
 
--- NO GOAL
--- slice-aggregate-print-chosen : tie.Need-slice-aggregate-print-chosen
--- slice-aggregate-print-chosen c = refl
-
 pub print_chosen-requires : goal.print_chosen-requires
 unfolding chosen check_types
 print_chosen-requires c = (c.if-work-lt65536.false, refl)

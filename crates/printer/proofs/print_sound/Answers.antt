@@ -12,7 +12,7 @@ pub print_fitting-requires : goal.print_fitting-requires
 print_fitting-requires c = (record { indexed = index_holds _ _ c.requires.1.0 c.requires.1.1 (lit≤ tt) c.index_strings-strings.ensures.0 c.index_strings-strings.ensures.1; short = c.requires.1.1 }, c.requires.1.0)
 
 pub returns-in-At : goal.returns-in-At
-returns-in-At c = leaves_as (unprintable _ _ _ c.find_unprintable-first.ensures c.first-1.given.1) refl refl c.refuse.ensures
+returns-in-At c = leaves_as (unprintable _ _ _ c.find_unprintable-first.ensures c.in-At.is) refl refl c.refuse.ensures
 
 pub returns-in-Nothing : goal.returns-in-Nothing
-returns-in-Nothing c = leaves_as (all_printable _ _ _ c.find_unprintable-first.ensures c.enum_told-1.given.1) refl refl c.print_fitting.ensures
+returns-in-Nothing c = leaves_as (all_printable _ _ _ c.find_unprintable-first.ensures c.in-Nothing.is) refl refl c.print_fitting.ensures

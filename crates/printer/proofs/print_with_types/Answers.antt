@@ -10,14 +10,14 @@ pub returns-then-work-lt65536 : goal.returns-then-work-lt65536
 returns-then-work-lt65536 c = prints _ _ (short_memory _ _ _ _ c.if-work-lt65536.true) c.refuse.ensures
 
 pub overflow_cast-place : goal.overflow_cast-place
-overflow_cast-place c = omega (arith, fault_early _ (sym c.check_types-v.ensures ∙ c.v-1.given.1))
+overflow_cast-place c = omega (arith, fault_early _ (sym c.check_types-v.ensures ∙ c.in-Fault.is))
 
 pub print_chosen-requires : goal.print_chosen-requires
-print_chosen-requires c = (c.if-work-lt65536.false, chosen_sound _ (sym c.check_types-v.ensures ∙ c.enum_told-1.given.1))
+print_chosen-requires c = (c.if-work-lt65536.false, chosen_sound _ (sym c.check_types-v.ensures ∙ c.in-Sound.is))
 
 pub returns-in-Fault : goal.returns-in-Fault
 unfolding check_types
-returns-in-Fault c = prints _ _ (fault_of_types _ _ _ _ c.if-work-lt65536.false c.check_types-v.ensures c.v-1.given.1) c.refuse-in-Fault.ensures
+returns-in-Fault c = prints _ _ (fault_of_types _ _ _ _ c.if-work-lt65536.false c.check_types-v.ensures c.in-Fault.is) c.refuse-in-Fault.ensures
 
 pub returns-in-Sound : goal.returns-in-Sound
-returns-in-Sound c = rw (lent_chosen _ (sym c.check_types-v.ensures ∙ c.enum_told-1.given.1)) at c.print_chosen.ensures
+returns-in-Sound c = rw (lent_chosen _ (sym c.check_types-v.ensures ∙ c.in-Sound.is)) at c.print_chosen.ensures
