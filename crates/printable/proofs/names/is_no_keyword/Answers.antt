@@ -1,4 +1,5 @@
 -- `is_no_keyword`: by the number.
+use native.Mathlib.Omega.{arith}
 use borrow.Author.Tests.{ne_eqb}
 use Rattle.notation.specs.Printer.{no_keyword}
 use Rattle.printable.proofs.names.is_no_keyword.Goals as goal
@@ -59,5 +60,4 @@ pub returns-in_default : goal.returns-in_default
 unfolding no_keyword
 returns-in_default c =
     let x = c.args.n in
-    let no = c.in_default.in_default-own.rest in
-    rw (ne_eqb x 0x646e61 no.0.0.0.0.0.0.0.0.0.0.0.0.1, ne_eqb x 0x65736163 no.0.0.0.0.0.0.0.0.0.0.0.1, ne_eqb x 0x7373616c63 no.0.0.0.0.0.0.0.0.0.0.1, ne_eqb x 0x746c7561666564 no.0.0.0.0.0.0.0.0.0.1, ne_eqb x 0x656e69666564 no.0.0.0.0.0.0.0.0.1, ne_eqb x 0x65736c65 no.0.0.0.0.0.0.0.1, ne_eqb x 0x65736c6166 no.0.0.0.0.0.0.1, ne_eqb x 0x6669 no.0.0.0.0.0.1, ne_eqb x 0x6564756c636e69 no.0.0.0.0.1, ne_eqb x 0x7374697265686e69 no.0.0.0.1, ne_eqb x 0x65646f6e no.0.0.1, ne_eqb x 0x726f no.0.1, ne_eqb x 0x65757274 no.1)
+    rw (ne_eqb x 0x646e61 (λ e. absurd (omega arith)), ne_eqb x 0x65736163 (λ e. absurd (omega arith)), ne_eqb x 0x7373616c63 (λ e. absurd (omega arith)), ne_eqb x 0x746c7561666564 (λ e. absurd (omega arith)), ne_eqb x 0x656e69666564 (λ e. absurd (omega arith)), ne_eqb x 0x65736c65 (λ e. absurd (omega arith)), ne_eqb x 0x65736c6166 (λ e. absurd (omega arith)), ne_eqb x 0x6669 (λ e. absurd (omega arith)), ne_eqb x 0x6564756c636e69 (λ e. absurd (omega arith)), ne_eqb x 0x7374697265686e69 (λ e. absurd (omega arith)), ne_eqb x 0x65646f6e (λ e. absurd (omega arith)), ne_eqb x 0x726f (λ e. absurd (omega arith)), ne_eqb x 0x65757274 (λ e. absurd (omega arith)))

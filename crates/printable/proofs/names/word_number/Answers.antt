@@ -25,14 +25,14 @@ pub overflow_add-n : goal.overflow_add-n
 overflow_add-n c =
     let l = c.loop-i in
     let w = c.args.bytes.now in
-    omega (arith, c.shared_slice_known-in-loop-i-1.given (l.i - 1), room l.n (8 - (length w - l.i)) l.invariant.1 (omega arith))
+    omega (arith, c.type_inv.bytes (l.i - 1), room l.n (8 - (length w - l.i)) l.invariant.1 (omega arith))
 
 pub loop-i-preserved : goal.loop-i-preserved
 loop-i-preserved c =
     let l = c.loop-i in
     let w = c.args.bytes.now in
     let k : 8 - (length w - l.i) - 1 ≡ 8 - (length w - (l.i - 1)) = omega arith in
-    let fits = one_more l.n c.wide.result (8 - (length w - l.i)) l.invariant.1 (omega arith) (omega arith) (omega (arith, c.shared_slice_known-in-loop-i-1.given (l.i - 1))) in
+    let fits = one_more l.n c.wide.result (8 - (length w - l.i)) l.invariant.1 (omega arith) (omega arith) (omega (arith, c.type_inv.bytes (l.i - 1))) in
     (omega arith, rw k at fits, rw (c.wide.ensures, l.invariant.2) (little_before w l.i (omega arith) l.invariant.0))
 
 pub returns : goal.returns

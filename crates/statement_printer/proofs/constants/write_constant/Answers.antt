@@ -1,4 +1,5 @@
 -- `write_constant`: by the tag.
+use native.Mathlib.Omega.{arith}
 use mir.Syntax.{w64}
 use mir.ValLaws.{to_z-of_z}
 use Rattle.statement_printer.proofs.ConstantTokens.{boolean_range, integer_passes, text_passes, boolean_passes}
@@ -14,4 +15,4 @@ pub returns-in-17 : goal.returns-in-17
 returns-in-17 c = text_passes _ _ _ c.byte_at-label.ensures c.byte_at.ensures c.in-17.is c.two_at.ensures c.write_text.ensures
 
 pub returns-in_default : goal.returns-in_default
-returns-in_default c = boolean_passes _ _ _ c.byte_at-label.ensures c.byte_at.ensures c.in_default.in_default-own.rest.0.1 c.in_default.in_default-own.rest.1 c.byte_at-in_default.ensures c.boolean_kind.ensures c.write_mark.ensures
+returns-in_default c = boolean_passes _ _ _ c.byte_at-label.ensures c.byte_at.ensures (λ e. absurd (omega arith)) (λ e. absurd (omega arith)) c.byte_at-in_default.ensures c.boolean_kind.ensures c.write_mark.ensures

@@ -90,7 +90,7 @@ pub expression-attribute_read-requires : goal.expression-attribute_read-requires
 expression-attribute_read-requires t c = (omega (arith, level c.requires.1.stands), here_below c.requires.0 c.requires.1 c.byte_at-tag.ensures c.in-24.is)
 
 pub expression-selector-requires : goal.expression-selector-requires
-expression-selector-requires t c = (omega (arith, level c.requires.1.stands), here_below c.requires.0 c.requires.1 c.byte_at-tag.ensures (last_tag c.requires.1 c.byte_at-tag.ensures c.if-tag-lt22.false c.in_default.in_default-own.rest.0.0.1 c.in_default.in_default-own.rest.0.1 c.in_default.in_default-own.rest.1))
+expression-selector-requires t c = (omega (arith, level c.requires.1.stands), here_below c.requires.0 c.requires.1 c.byte_at-tag.ensures (last_tag c.requires.1 c.byte_at-tag.ensures c.if-tag-lt22.false (λ e. absurd (omega arith)) (λ e. absurd (omega arith)) (λ e. absurd (omega arith))))
 
 pub expression-returns-in-22 : goal.expression-returns-in-22
 expression-returns-in-22 t c = passes_below _ _ _ _ _ c.requires.1 c.operation.ensures

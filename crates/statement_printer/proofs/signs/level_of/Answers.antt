@@ -1,6 +1,7 @@
 -- `level_of`: by the number.
 use Prim.Native.Nat.{ℕ}
 use mathlib.Core.Path.{sym, ap}
+use native.Mathlib.Omega.{arith}
 use Rattle.rules.specs.Read.{entry_for, operators, operator_from}
 use Rattle.notation.specs.Print.{level_of}
 use Rattle.statement_printer.proofs.OperatorSigns.{last_operator}
@@ -32,4 +33,4 @@ returns-in-5 c = sym (ap (λ (n : ℕ). level_of (operator_from n)) c.in-5.is)
 
 pub returns-in_default : goal.returns-in_default
 unfolding level_of
-returns-in_default c = sym (ap level_of (last_operator _ c.in_default.in_default-own.rest.0.0.0.0.0.1 c.in_default.in_default-own.rest.0.0.0.0.1 c.in_default.in_default-own.rest.0.0.0.1 c.in_default.in_default-own.rest.0.0.1 c.in_default.in_default-own.rest.0.1 c.in_default.in_default-own.rest.1))
+returns-in_default c = sym (ap level_of (last_operator _ (λ e. absurd (omega arith)) (λ e. absurd (omega arith)) (λ e. absurd (omega arith)) (λ e. absurd (omega arith)) (λ e. absurd (omega arith)) (λ e. absurd (omega arith))))

@@ -18,5 +18,5 @@ returns-in-20 c = λ d l s low high. top_variable_passes _ _ _ _ _ c.byte_at.ens
 pub returns-in_default : goal.returns-in_default
 returns-in_default c = λ d l s low high.
     let tag = c.byte_at.ensures in
-    let is = between _ (omega (arith, tag, low)) (omega (arith, tag, high)) c.in_default.in_default-own.rest.0.1 c.in_default.in_default-own.rest.1 in
+    let is = between c.byte_at.result (omega (arith, tag, low)) (omega (arith, tag, high)) (λ e. absurd (omega arith)) (λ e. absurd (omega arith)) in
     class_variable_passes _ _ _ _ _ tag s is c.two_at-name.ensures c.two_at.ensures c.write_class_variable.ensures

@@ -164,7 +164,7 @@ pub statement-class_with_attributes-requires : goal.statement-class_with_attribu
 statement-class_with_attributes-requires t c = tagged c.requires.1 c.byte_at.ensures c.requires.0 c.in-40.is
 
 pub statement-include-requires : goal.statement-include-requires
-statement-include-requires t c = tagged c.requires.1 c.byte_at.ensures c.requires.0 (include_tag_lem c.requires.1 c.byte_at.ensures c.in_default.in_default-own.rest.0.0.0.0.1 c.in_default.in_default-own.rest.0.0.0.1 c.in_default.in_default-own.rest.0.0.1 c.in_default.in_default-own.rest.0.1 c.in_default.in_default-own.rest.1)
+statement-include-requires t c = tagged c.requires.1 c.byte_at.ensures c.requires.0 (include_tag_lem c.requires.1 c.byte_at.ensures (λ e. absurd (omega arith)) (λ e. absurd (omega arith)) (λ e. absurd (omega arith)) (λ e. absurd (omega arith)) (λ e. absurd (omega arith)))
 
 pub statement-returns-in-33 : goal.statement-returns-in-33
 statement-returns-in-33 t c = c.assignment.ensures

@@ -1,4 +1,5 @@
 -- `put_string`: by the kind.
+use native.Mathlib.Omega.{arith}
 use Rattle.statement_printer.proofs.OneToken.{puts_word, puts_text, puts_variable, puts_top_variable}
 use Rattle.statement_printer.proofs.tokens.put_string.Goals as goal
 
@@ -12,4 +13,4 @@ pub returns-in-3 : goal.returns-in-3
 returns-in-3 c = puts_variable _ c.in-3.is c.put_variable.ensures
 
 pub returns-in_default : goal.returns-in_default
-returns-in_default c = puts_top_variable _ c.in_default.in_default-own.rest.0.0.1 c.in_default.in_default-own.rest.0.1 c.in_default.in_default-own.rest.1 c.put_top_variable.ensures
+returns-in_default c = puts_top_variable {k = c.args.kind} _ (λ e. absurd (omega arith)) (λ e. absurd (omega arith)) (λ e. absurd (omega arith)) c.put_top_variable.ensures
