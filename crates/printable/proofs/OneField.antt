@@ -10,15 +10,13 @@ use lib.Seq.{get_or-drop}
 use borrow.Author.Tests.{le-leb, lt-leb, eq-eqb, ne_eqb}
 use Rattle.rules.specs.Bytes.{pick, byte, two}
 use Rattle.rules.specs.Format.{form_of, size, is_constant}
-use Rattle.rules.specs.Check.{text}
 use Rattle.rules.specs.Evaluate.{any}
 use Rattle.rules.specs.Types.{Types, built_in_types}
 use Rattle.rules.specs.Compile.{same_bytes, string_at, is_built_in}
 use Rattle.rules.specs.declared.Piece.{Piece}
 use Rattle.rules.specs.declared.Piece.TheVariants.{Nothing, Label, Integer, Boolean, Operator, Name}
 use Rattle.format.specs.Numbers.{name_number}
-use Rattle.syntax.specs.Strings.{string_texts, is_built_in_text, Indexed}
-use Rattle.syntax.proofs.Texts.{no_string_lem, its_string}
+use Rattle.syntax.specs.Strings.{is_built_in_text}
 use Rattle.notation.specs.Printer.{is_name, spellable, label_right, names_spellable, type_right}
 use Rattle.printable.specs.Reading.{prints_at, label_behind}
 

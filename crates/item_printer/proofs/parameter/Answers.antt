@@ -1,5 +1,4 @@
 -- `parameter`: a comma if one is wanted, the name, and the default if there is one.
-use mathlib.Core.Path.{◌∙◌}
 use native.Mathlib.Omega.{arith}
 use Rattle.item_printer.proofs.PrintedItems.{plain_parameter_passes, given_parameter_passes}
 use Rattle.item_printer.proofs.parameter.Goals as goal

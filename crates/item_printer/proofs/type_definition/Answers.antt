@@ -1,5 +1,5 @@
 -- `type_definition`: a keyword, a name, parameters and a block.
-use mathlib.Core.Path.{refl, ◌∙◌}
+use mathlib.Core.Path.{refl}
 use native.Mathlib.Omega.{arith}
 use Rattle.statement_printer.proofs.FirstLabel.{siblings_within}
 use Rattle.statement_printer.proofs.PrintedExpressions.{siblings_at}

@@ -1,5 +1,4 @@
 -- `attribute`: a comma if one is wanted, name, arrow and expression.
-use mathlib.Core.Path.{◌∙◌}
 use native.Mathlib.Omega.{arith}
 use Rattle.places.proofs.Open.{level}
 use Rattle.statement_printer.proofs.PrintedEntries.{attribute_here_lem, attribute_passes}

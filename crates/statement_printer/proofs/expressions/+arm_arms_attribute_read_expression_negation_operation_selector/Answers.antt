@@ -1,5 +1,4 @@
--- The cycle of `expression` and what it calls for expressions with parts: the measures and the answers of each member stand in the files below.
-use Prim.Native.Nat.{◌-◌}
+-- The cycle of `expression` and what it calls for expressions with parts: each answer by the function whose goal it is.
 use mathlib.Core.Path.{◌∙◌, refl}
 use native.Mathlib.Omega.{arith}
 use Rattle.statement_printer.proofs.PrintedExpressions.{stands_at, attribute_read_here, attribute_read_passes, constant_tag_passes, here_below, passes_below, last_tag, negation_here, negation_passes, one_above, operation_here, operation_passes, selector_here, selector_passes, levels, siblings_at}

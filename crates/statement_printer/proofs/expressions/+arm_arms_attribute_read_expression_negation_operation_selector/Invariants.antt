@@ -1,4 +1,4 @@
--- The cycle of `expression` and what it calls for expressions with parts: the measures and the answers of each member stand in the files below.
+-- The cycle of `expression` and what it calls for expressions with parts. Measures: below its own level, what a function calls has less.
 use Prim.Native.Nat.{◌+◌, ◌-◌, ◌*◌}
 use mathlib.Core.Path.{◌≡◌}
 use lib.ListN.{length}

@@ -1,5 +1,5 @@
 -- `class_with_attributes`: a keyword, a name and attributes.
-use mathlib.Core.Path.{refl, ◌∙◌}
+use mathlib.Core.Path.{refl}
 use native.Mathlib.Omega.{arith}
 use Rattle.places.proofs.Open.{level}
 use Rattle.statement_printer.proofs.PrintedExpressions.{siblings_at}

@@ -1,5 +1,5 @@
 -- `resource`: type, title and attributes.
-use mathlib.Core.Path.{refl, ◌∙◌}
+use mathlib.Core.Path.{refl}
 use native.Mathlib.Omega.{arith}
 use Rattle.statement_printer.proofs.PrintedExpressions.{siblings_at}
 use Rattle.statement_printer.proofs.PlainStatements.{resource_passes}

@@ -1,5 +1,4 @@
--- The cycle of `statement` and what it calls for statements with blocks: the measures and the answers of each member stand in the files below.
-use Prim.Native.Nat.{◌-◌}
+-- The cycle of `statement` and what it calls for statements with blocks: each answer by the function whose goal it is.
 use mathlib.Core.Path.{refl, ◌∙◌, ap}
 use native.Mathlib.Omega.{arith}
 use Rattle.places.proofs.Open.{level}

@@ -1,4 +1,4 @@
--- The cycle of `statement` and what it calls for statements with blocks: the measures and the answers of each member stand in the files below.
+-- The cycle of `statement` and what it calls for statements with blocks. Measures: below its own level, what a function calls has less.
 use Prim.Native.Nat.{◌+◌, ◌-◌, ◌*◌}
 use mathlib.Core.Path.{◌≡◌}
 use lib.ListN.{length}
