@@ -6,7 +6,7 @@ ghost use Rattle.input.specs.Reading.{reading, reading_of};
 ghost use Rattle.standard_streams.specs.Reading.{Holds};
 
 use input::Progress;
-use libc::{STDERR_FILENO, STDIN_FILENO, STDOUT_FILENO};
+use std::io::{self, Input, Read};
 
 // How many pieces of input are read at most: enough for 4 GiB that come byte by byte.
 const MOST_PIECES: u64 = 4294967296;
@@ -31,51 +31,71 @@ pub fn first(bytes: &[u8], n: usize) -> &[u8]
     &bytes[..n]
 }
 
+// ---- Messages
+
+// The system's words for an error, without the number behind them.
+fn without_number(text: &str) -> &str {
+    match text.split_once(" (os error ") {
+        Some((words, _)) => words,
+        None => text,
+    }
+}
+
+// Tells on standard error why a stream failed. Where standard error fails too nobody is told.
+fn tell<R: Eprint + Alloc>(rt: &R, stream: &str, error: io::Error) {
+    let told = match format!(in rt.alloc(); "{error}") {
+        Ok(text) => eprintln!(rt; "{stream}: {}", without_number(&text)),
+        Err(_) => eprintln!(rt; "{stream}: {error}"),
+    };
+    let _ = told;
+}
+
 // ---- Reading
 
 // Reads one piece of the input.
-fn read_piece(at: Progress, line: &mut [u8], rest: &mut [u8]) -> Taken
+fn read_piece<R: Eprint + Alloc>(rt: &R, source: &mut impl Read, at: Progress, line: &mut [u8], rest: &mut [u8]) -> Taken
     ensures { (d m input : List ℕ) → reading at line.old rest.old ≡ reading_of d m input → Holds d m line.new rest.new result }
 {
     let mut piece = [0u8; 4096];
-    let got = libc::read(STDIN_FILENO, &mut piece);
-    if got < 0 {
-        os::fail(b"standard input");
-        return Taken::Failed;
+    match source.read(&mut piece) {
+        Err(error) => {
+            tell(rt, "standard input", error);
+            Taken::Failed
+        }
+        Ok(0) => Taken::All(at),
+        Ok(n) => {
+            let next = input::feed(&piece[..n], at, line, rest);
+            if input::is_full(next) {
+                return Taken::All(next);
+            }
+            Taken::More(next)
+        }
     }
-    if got == 0 {
-        return Taken::All(at);
-    }
-    let n = io::count(got, &piece);
-    let next = input::feed(&piece[..n], at, line, rest);
-    if input::is_full(next) {
-        return Taken::All(next);
-    }
-    Taken::More(next)
 }
 
-fn too_many_pieces() -> Taken
+fn too_many_pieces(rt: &impl Eprint) -> Taken
     ensures { result ≡ Taken.Failed }
 {
-    io::write_all(STDERR_FILENO, b"standard input: too many pieces\n");
+    let _ = eprintln!(rt; "standard input: too many pieces");
     Taken::Failed
 }
 
 // Reads the first line and the rest, to the input's end or until what follows makes no difference.
-pub fn read_all(line: &mut [u8], rest: &mut [u8]) -> Taken
+pub fn read_all<R: Input + Eprint + Alloc>(rt: &R, line: &mut [u8], rest: &mut [u8]) -> Taken
     ensures { Holds line.old rest.old line.new rest.new result }
 {
+    let mut source = rt.reader();
     let mut at = input::start();
     let mut left = MOST_PIECES;
     while 0 < left {
-        let taken = read_piece(at, line, rest);
+        let taken = read_piece(rt, &mut source, at, line, rest);
         let Taken::More(further) = taken else {
             return taken;
         };
         at = further;
         left -= 1;
     }
-    too_many_pieces()
+    too_many_pieces(rt)
 }
 
 // How reading an input as a whole ended: with so many bytes, with as many as the buffer holds or more, or not at all.
@@ -87,19 +107,18 @@ pub enum Whole {
 }
 
 // Reads all of standard input into the buffer, if it is shorter than that.
-pub fn read_whole(buffer: &mut [u8]) -> Whole {
+pub fn read_whole<R: Input + Eprint + Alloc>(rt: &R, buffer: &mut [u8]) -> Whole {
+    let mut source = rt.reader();
     let mut kept: usize = 0;
     while kept < buffer.len() {
-        let got = libc::read(STDIN_FILENO, &mut buffer[kept..]);
-        if got < 0 {
-            os::fail(b"standard input");
-            return Whole::Failed;
+        match source.read(&mut buffer[kept..]) {
+            Err(error) => {
+                tell(rt, "standard input", error);
+                return Whole::Failed;
+            }
+            Ok(0) => return Whole::Bytes(kept),
+            Ok(more) => kept += more,
         }
-        let more = io::count(got, &buffer[kept..]);
-        if more == 0 {
-            return Whole::Bytes(kept);
-        }
-        kept += more;
     }
     Whole::TooLong
 }
@@ -107,14 +126,18 @@ pub fn read_whole(buffer: &mut [u8]) -> Whole {
 // ---- Writing
 
 // Writes a text out and counts its bytes, or tells on standard error that it cannot.
-pub fn send(text: &[u8], sent: &mut u64) -> bool
+pub fn send<R: Print + Eprint + Alloc>(rt: &R, text: &[u8], sent: &mut u64) -> bool
     requires { sent.old + length text.now < 18446744073709551616 }
     ensures { result ≡ true → sent.new ≡ sent.old + length text.now }
 {
-    if io::write_all(STDOUT_FILENO, text) {
-        *sent += text.len() as u64;
-        return true;
+    match rt.write_all(text) {
+        Ok(()) => {
+            *sent += text.len() as u64;
+            true
+        }
+        Err(error) => {
+            tell(rt, "standard output", error);
+            false
+        }
     }
-    os::fail(b"standard output");
-    false
 }

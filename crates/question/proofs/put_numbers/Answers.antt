@@ -13,18 +13,6 @@ first_end c =
     let s = word.before.before.before.before.before in
     omega (arith, s.requires.0, word.put-text.ensures.told, c.put-number.ensures.told, number_short s.args.first (omega (arith, s.ranges.first.fits)))
 
-pub put_text-other-requires : goal.put_text-other-requires
-put_text-other-requires c =
-    (omega (arith, first_end number), omega (arith, c.requires.1))
-
-pub put_number-end-requires : goal.put_number-end-requires
-put_number-end-requires c =
-    omega (arith, first_end number, c.put_text-other.ensures.told, c.requires.1)
-
-pub put_text-requires : goal.put_text-requires
-put_text-requires c =
-    (omega (arith, first_end number, c.put_text-other.ensures.told, c.requires.1, c.put_number-end.ensures.told, number_short c.args.second (omega (arith, c.ranges.second.fits))), omega arith)
-
 pub returns : goal.returns
 unfolding numbers_line
 returns c =
