@@ -49,62 +49,62 @@ fn explain_with_types(given: &[u8], lines: Lines, label: u8, size: u16) -> Expla
 }
 
 // Writes the answer to `given` out, or tells on standard error that it cannot. Nothing else writes to standard output.
-fn write(text: &[u8], given: &[u8], sent: &mut u64) -> bool
+fn write(rt: &(impl Print + Eprint + Alloc), text: &[u8], given: &[u8], sent: &mut u64) -> bool
     requires { ((text.now ≡ answer_text given.now) × (length text.now ≤ 64)) × (sent.old ≡ 0) }
     ensures { result ≡ true → sent.new ≡ length (answer_text given.now) }
 {
-    send(text, sent)
+    send(rt, text, sent)
 }
 
-fn write_explanation(explanation: Explanation, given: &[u8], sent: &mut u64) -> bool
+fn write_explanation(rt: &(impl Print + Eprint + Alloc), explanation: Explanation, given: &[u8], sent: &mut u64) -> bool
     requires { (answer_line explanation ≡ answer_text given.now) × (sent.old ≡ 0) }
     ensures { result ≡ true → sent.new ≡ length (answer_text given.now) }
 {
     let mut line = [0u8; 64];
     let length = question::write_answer(explanation, &mut line);
-    write(first(&line, length), given, sent)
+    write(rt, first(&line, length), given, sent)
 }
 
-fn write_wrong(given: &[u8], sent: &mut u64) -> bool
+fn write_wrong(rt: &(impl Print + Eprint + Alloc), given: &[u8], sent: &mut u64) -> bool
     requires { (wrong_line ≡ answer_text given.now) × (sent.old ≡ 0) }
     ensures { result ≡ true → sent.new ≡ length (answer_text given.now) }
 {
     let mut line = [0u8; 64];
     let length = question::write_wrong(&mut line);
-    write(first(&line, length), given, sent)
+    write(rt, first(&line, length), given, sent)
 }
 
 // Answers an input: true if all of the answer is written.
-fn answer(given: &[u8], sent: &mut u64) -> bool
+fn answer(rt: &(impl Print + Eprint + Alloc), given: &[u8], sent: &mut u64) -> bool
     requires { sent.old ≡ 0 }
     ensures { result ≡ true → sent.new ≡ length (answer_text given.now) }
 {
     let asked = question::split(given);
     match asked {
-        Asked::NotAQuestion => write_wrong(given, sent),
+        Asked::NotAQuestion => write_wrong(rt, given, sent),
         Asked::Question { lines, label } => {
             let explanation = explain_given(given, lines, label);
-            write_explanation(explanation, given, sent)
+            write_explanation(rt, explanation, given, sent)
         }
         Asked::WithTypes { lines, label, size } => {
             let explanation = explain_with_types(given, lines, label, size);
-            write_explanation(explanation, given, sent)
+            write_explanation(rt, explanation, given, sent)
         }
     }
 }
 
 // An input of 196,608 bytes or more is no question: its list of types, its manifest or one of its lines is too long. An empty input is none either.
-fn main() {
+fn main(rt: HostRuntime) {
     let mut given = [0u8; 196608];
-    let whole = read_whole(&mut given);
+    let whole = read_whole(&rt, &mut given);
     let mut sent: u64 = 0;
     match whole {
         Whole::Failed => {}
         Whole::TooLong => {
-            answer(b"", &mut sent);
+            answer(&rt, b"", &mut sent);
         }
         Whole::Bytes(n) => {
-            answer(first(&given, n), &mut sent);
+            answer(&rt, first(&given, n), &mut sent);
         }
     }
 }

@@ -1,4 +1,4 @@
-// The compiler, the text tools and the why tool for programs in C and Rust: a call each, whose answer is one word.
+// The compiler, the text tools and the why tool, a call each, whose answer is one word. The crate library_c hands them on to programs in C and Rust.
 #![tactic(auto)]
 
 ghost use Rattle.std.specs.Prelude.{◌≡◌, ◌+◌, ◌*◌, length};
@@ -32,8 +32,7 @@ fn word_of(answer: Answer) -> u64
 
 // The catalog of a device. Accepted: steps * 65,536 + the catalog's length; refused: number * 2^32 + place. The output then holds the catalog and zeros,
 // or zeros throughout; the memory is zero.
-#[unsafe(no_mangle)]
-pub extern "C" fn rigbanut_compile(
+pub fn rigbanut_compile(
     manifest: &[u8],
     device: &[u8],
     limit: u16,
@@ -47,8 +46,7 @@ pub extern "C" fn rigbanut_compile(
 }
 
 // The same with a list of types, which replaces the eight.
-#[unsafe(no_mangle)]
-pub extern "C" fn rigbanut_compile_with_types(
+pub fn rigbanut_compile_with_types(
     types: &[u8],
     manifest: &[u8],
     device: &[u8],
@@ -74,8 +72,7 @@ fn text_word(answer: notation::Answer) -> u64
 }
 
 // The manifest of a text.
-#[unsafe(no_mangle)]
-pub extern "C" fn rigbanut_convert(text: &[u8], out: &mut [u8], work: &mut [u8]) -> u64
+pub fn rigbanut_convert(text: &[u8], out: &mut [u8], work: &mut [u8]) -> u64
     ensures { Tells (convert the_eight text.now (length out.old) (length work.old)) out.new work.new result }
 {
     let answer = converter::convert(text, out, work);
@@ -83,8 +80,7 @@ pub extern "C" fn rigbanut_convert(text: &[u8], out: &mut [u8], work: &mut [u8])
 }
 
 // The text of a manifest.
-#[unsafe(no_mangle)]
-pub extern "C" fn rigbanut_print(manifest: &[u8], out: &mut [u8], work: &mut [u8]) -> u64
+pub fn rigbanut_print(manifest: &[u8], out: &mut [u8], work: &mut [u8]) -> u64
     ensures { Tells (print the_eight manifest.now (length out.old) (length work.old)) out.new work.new result }
 {
     let answer = printer::print(manifest, out, work);
@@ -92,8 +88,7 @@ pub extern "C" fn rigbanut_print(manifest: &[u8], out: &mut [u8], work: &mut [u8
 }
 
 // The same two with a list of types, which replaces the eight.
-#[unsafe(no_mangle)]
-pub extern "C" fn rigbanut_convert_with_types(
+pub fn rigbanut_convert_with_types(
     types: &[u8],
     text: &[u8],
     out: &mut [u8],
@@ -105,8 +100,7 @@ pub extern "C" fn rigbanut_convert_with_types(
     text_word(answer)
 }
 
-#[unsafe(no_mangle)]
-pub extern "C" fn rigbanut_print_with_types(
+pub fn rigbanut_print_with_types(
     types: &[u8],
     manifest: &[u8],
     out: &mut [u8],
@@ -135,8 +129,7 @@ fn explanation_word(explanation: Explanation) -> u64
 
 // Why a label counts for an attribute of the device's catalog: the part's number * 65,536 + the place, or 0 where the label is not among them; or as above
 // number * 2^32 + place. The memory is zero after the call.
-#[unsafe(no_mangle)]
-pub extern "C" fn rigbanut_why(
+pub fn rigbanut_why(
     manifest: &[u8],
     device: &[u8],
     kind: &[u8],
@@ -152,8 +145,7 @@ pub extern "C" fn rigbanut_why(
 }
 
 // The same with a list of types, which replaces the eight.
-#[unsafe(no_mangle)]
-pub extern "C" fn rigbanut_why_with_types(
+pub fn rigbanut_why_with_types(
     types: &[u8],
     manifest: &[u8],
     device: &[u8],

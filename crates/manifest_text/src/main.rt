@@ -19,7 +19,6 @@ ghost use Rattle.manifest_text.specs.Commands.{with_digit, offset_of, place_aske
 ghost use Rattle.manifest_text.specs.Answers.{types_given, bytes_given, numbered_text, answer_text, AnAnswer, AllSent, InputSent};
 
 use input::{Progress, past};
-use libc::STDERR_FILENO;
 use notation::Answer;
 use schedule::Written;
 use schedule::pieces::{finish, put_number, put_text};
@@ -191,15 +190,16 @@ fn place_given(types: BuiltIn, given: &[u8], field: usize) -> usize
 // ---- Writing: `sent` bytes of an answer to `command` for `given`, with these types, are written out. Nothing but `write` changes `sent`, or writes to standard output.
 
 // Writes out what comes next, or tells on standard error that it cannot.
-fn write(text: &[u8], types: BuiltIn, command: Command, given: &[u8], sent: &mut u64) -> bool
+fn write(rt: &(impl Print + Eprint + Alloc), text: &[u8], types: BuiltIn, command: Command, given: &[u8], sent: &mut u64) -> bool
     requires { AnAnswer types command given.now (λ a. ComesNext a sent.old text.now) }
     ensures { result ≡ true → sent.new ≡ sent.old + length text.now }
 {
-    send(text, sent)
+    send(rt, text, sent)
 }
 
 // The whole answer, in its buffer.
 fn write_all(
+    rt: &(impl Print + Eprint + Alloc),
     written: Written,
     text: &[u8],
     types: BuiltIn,
@@ -211,7 +211,7 @@ fn write_all(
     ensures { AllSent types command given.now sent.new result }
 {
     match written {
-        Written::Length(length) => write(first(text, length), types, command, given, sent),
+        Written::Length(length) => write(rt, first(text, length), types, command, given, sent),
         Written::TooLong => true, // never, as is proved
     }
 }
@@ -228,6 +228,7 @@ fn numbered_text(word: &[u8], number: u64, bytes: &[u8], text: &mut [u8]) -> Wri
 }
 
 fn write_numbered(
+    rt: &(impl Print + Eprint + Alloc),
     word: &[u8],
     number: u64,
     bytes: &[u8],
@@ -241,10 +242,11 @@ fn write_numbered(
 {
     let mut text = [0u8; 65600];
     let written = numbered_text(word, number, bytes, &mut text);
-    write_all(written, &text, types, command, given, sent)
+    write_all(rt, written, &text, types, command, given, sent)
 }
 
 fn write_refusal(
+    rt: &(impl Print + Eprint + Alloc),
     reason: Reason,
     place: u16,
     types: BuiltIn,
@@ -257,11 +259,12 @@ fn write_refusal(
 {
     let mut line = [0u8; 2048];
     let written = schedule::refusal_line(reason, place, &mut line);
-    write_all(written, &line, types, command, given, sent)
+    write_all(rt, written, &line, types, command, given, sent)
 }
 
 // What a call answered and left in its output.
 fn write_answer(
+    rt: &(impl Print + Eprint + Alloc),
     answer: Answer,
     out: &[u8; 65535],
     types: BuiltIn,
@@ -276,6 +279,7 @@ fn write_answer(
         Answer::Written { length } => {
             let bytes = first(out, length as usize);
             write_numbered(
+                rt,
                 b"written ",
                 bytes.len() as u64,
                 bytes,
@@ -286,6 +290,7 @@ fn write_answer(
             )
         }
         Answer::Refused { reason, place } => write_refusal(
+            rt,
             reason, place, types, command, given, sent,
         ),
     }
@@ -293,15 +298,12 @@ fn write_answer(
 
 // ---- The commands
 
-fn unknown_line() {
-    io::write_all(
-        STDERR_FILENO,
-        b"the first line is neither convert nor print, nor place with an offset, nor one of these behind types and five digits\n",
-    );
+fn unknown_line(rt: &impl Eprint) {
+    let _ = eprintln!(rt; "the first line is neither convert nor print, nor place with an offset, nor one of these behind types and five digits");
 }
 
 // Answers a command: true if all of the answer is written.
-fn answer(types: BuiltIn, command: Command, given: &[u8], sent: &mut u64) -> bool
+fn answer(rt: &(impl Print + Eprint + Alloc), types: BuiltIn, command: Command, given: &[u8], sent: &mut u64) -> bool
     requires { sent.old ≡ 0 }
     ensures { AllSent types command given.now sent.new result }
 {
@@ -309,40 +311,40 @@ fn answer(types: BuiltIn, command: Command, given: &[u8], sent: &mut u64) -> boo
     match command {
         Command::Convert => {
             let converted = convert_given(types, given, &mut out);
-            write_answer(converted, &out, types, command, given, sent)
+            write_answer(rt, converted, &out, types, command, given, sent)
         }
         Command::Print => {
             let printed = print_given(types, given, &mut out);
-            write_answer(printed, &out, types, command, given, sent)
+            write_answer(rt, printed, &out, types, command, given, sent)
         }
         Command::Place { field } => {
             let place = place_given(types, given, field);
-            write_numbered(b"place ", place as u64, b"", types, command, given, sent)
+            write_numbered(rt, b"place ", place as u64, b"", types, command, given, sent)
         }
         Command::Unknown => {
-            unknown_line();
+            unknown_line(rt);
             true
         }
     }
 }
 
 // Answers the input that the buffers hold.
-fn answer_read(at: Progress, line: &[u8], given: &[u8], sent: &mut u64) -> bool
+fn answer_read(rt: &(impl Print + Eprint + Alloc), at: Progress, line: &[u8], given: &[u8], sent: &mut u64) -> bool
     requires { sent.old ≡ 0 }
     ensures { (d m input : List ℕ) → length d ≡ 256 → length m ≡ 196608 → reading at line.now given.now ≡ reading_of d m input → InputSent input sent.new result }
 {
     let named = first(line, at.line);
     let types = types_in(named);
     let command = command_in(named);
-    answer(types, command, first(given, at.rest), sent)
+    answer(rt, types, command, first(given, at.rest), sent)
 }
 
-fn main() {
+fn main(rt: HostRuntime) {
     let mut line = [0u8; 256];
     let mut given = [0u8; 196608];
-    let taken = read_all(&mut line, &mut given);
+    let taken = read_all(&rt, &mut line, &mut given);
     if let Taken::All(at) = taken {
         let mut sent: u64 = 0;
-        answer_read(at, &line, &given, &mut sent);
+        answer_read(&rt, at, &line, &given, &mut sent);
     }
 }

@@ -31,35 +31,36 @@ fn compile_schedule(manifest: &[u8], device: &[u8], out: &mut [u8; 65535]) -> An
 // ---- Printing: `sent` bytes of the schedule of `manifest` and `device` are written out. Nothing but `write` changes `sent`, or writes to standard output.
 
 // Writes out what comes next, or tells on standard error that it cannot.
-fn write(text: &[u8], manifest: &[u8], device: &[u8], sent: &mut u64) -> bool
+fn write(rt: &(impl Print + Eprint + Alloc), text: &[u8], manifest: &[u8], device: &[u8], sent: &mut u64) -> bool
     requires { ComesNext (schedule_text manifest.now device.now) sent.old text.now }
     ensures { result ≡ true → sent.new ≡ sent.old + length text.now }
 {
-    send(text, sent)
+    send(rt, text, sent)
 }
 
 // The last line, in its buffer.
-fn print_last(written: Written, line: &[u8], manifest: &[u8], device: &[u8], sent: &mut u64) -> bool
+fn print_last(rt: &(impl Print + Eprint + Alloc), written: Written, line: &[u8], manifest: &[u8], device: &[u8], sent: &mut u64) -> bool
     requires { LastLine (schedule_text manifest.now device.now) sent.old written line.now }
     ensures { AllSent manifest.now device.now sent.new result }
 {
     match written {
-        Written::Length(length) => write(first(line, length), manifest, device, sent),
+        Written::Length(length) => write(rt, first(line, length), manifest, device, sent),
         Written::TooLong => true, // never, as is proved
     }
 }
 
-fn print_steps(steps: u16, manifest: &[u8], device: &[u8], sent: &mut u64) -> bool
+fn print_steps(rt: &(impl Print + Eprint + Alloc), steps: u16, manifest: &[u8], device: &[u8], sent: &mut u64) -> bool
     requires { Left (schedule_text manifest.now device.now) sent.old (steps_line steps) }
     ensures { AllSent manifest.now device.now sent.new result }
 {
     let mut line = [0u8; 2048];
     let written = schedule::steps_line(steps, &mut line);
-    print_last(written, &line, manifest, device, sent)
+    print_last(rt, written, &line, manifest, device, sent)
 }
 
 // The lines of a catalog, and the last one.
 fn print_lines(
+    rt: &(impl Print + Eprint + Alloc),
     catalog: &[u8],
     steps: u16,
     manifest: &[u8],
@@ -76,35 +77,35 @@ fn print_lines(
     loop {
         let made = schedule::next_line(catalog, at, manifest, index, strings, &mut line);
         let Line::Text { length, next } = made else {
-            return print_steps(steps, manifest, device, sent);
+            return print_steps(rt, steps, manifest, device, sent);
         };
-        if !write(first(&line, length), manifest, device, sent) {
+        if !write(rt, first(&line, length), manifest, device, sent) {
             return false;
         }
         at = next;
     }
 }
 
-fn print_catalog(catalog: &[u8], steps: u16, manifest: &[u8], device: &[u8], sent: &mut u64) -> bool
+fn print_catalog(rt: &(impl Print + Eprint + Alloc), catalog: &[u8], steps: u16, manifest: &[u8], device: &[u8], sent: &mut u64) -> bool
     requires { IsCatalog manifest.now device.now catalog.now steps × (sent.old ≡ 0) }
     ensures { AllSent manifest.now device.now sent.new result }
 {
     let mut index = [0u8; 2048];
     let strings = syntax::strings::index_strings(manifest, &mut index);
-    print_lines(catalog, steps, manifest, device, &index, strings, sent)
+    print_lines(rt, catalog, steps, manifest, device, &index, strings, sent)
 }
 
-fn print_refusal(reason: Reason, place: u16, manifest: &[u8], device: &[u8], sent: &mut u64) -> bool
+fn print_refusal(rt: &(impl Print + Eprint + Alloc), reason: Reason, place: u16, manifest: &[u8], device: &[u8], sent: &mut u64) -> bool
     requires { Left (schedule_text manifest.now device.now) sent.old (refusal_line (number_of reason) place) }
     ensures { AllSent manifest.now device.now sent.new result }
 {
     let mut line = [0u8; 2048];
     let written = schedule::refusal_line(reason, place, &mut line);
-    print_last(written, &line, manifest, device, sent)
+    print_last(rt, written, &line, manifest, device, sent)
 }
 
 // Prints the schedule: true if all of it is written.
-fn print_schedule(manifest: &[u8], device: &[u8], sent: &mut u64) -> bool
+fn print_schedule(rt: &(impl Print + Eprint + Alloc), manifest: &[u8], device: &[u8], sent: &mut u64) -> bool
     requires { sent.old ≡ 0 }
     ensures { AllSent manifest.now device.now sent.new result }
 {
@@ -112,30 +113,31 @@ fn print_schedule(manifest: &[u8], device: &[u8], sent: &mut u64) -> bool
     let answer = compile_schedule(manifest, device, &mut out);
     match answer {
         Answer::Catalog { length, steps } => print_catalog(
+            rt,
             first(&out, length as usize),
             steps,
             manifest,
             device,
             sent,
         ),
-        Answer::Refused { reason, place } => print_refusal(reason, place, manifest, device, sent),
+        Answer::Refused { reason, place } => print_refusal(rt, reason, place, manifest, device, sent),
     }
 }
 
 // Prints the schedule of the input that the buffers hold.
-fn print_read(at: Progress, device: &[u8], manifest: &[u8], sent: &mut u64) -> bool
+fn print_read(rt: &(impl Print + Eprint + Alloc), at: Progress, device: &[u8], manifest: &[u8], sent: &mut u64) -> bool
     requires { sent.old ≡ 0 }
     ensures { (d m input : List ℕ) → length d ≡ 256 → length m ≡ 65536 → reading at device.now manifest.now ≡ reading_of d m input → result ≡ true → sent.new ≡ length (schedule input) }
 {
-    print_schedule(first(manifest, at.rest), first(device, at.line), sent)
+    print_schedule(rt, first(manifest, at.rest), first(device, at.line), sent)
 }
 
-fn main() {
+fn main(rt: HostRuntime) {
     let mut device = [0u8; 256];
     let mut manifest = [0u8; 65536];
-    let taken = read_all(&mut device, &mut manifest);
+    let taken = read_all(&rt, &mut device, &mut manifest);
     if let Taken::All(at) = taken {
         let mut sent: u64 = 0;
-        print_read(at, &device, &manifest, &mut sent);
+        print_read(&rt, at, &device, &manifest, &mut sent);
     }
 }

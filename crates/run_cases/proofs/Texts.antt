@@ -10,11 +10,10 @@ use borrow.Author.Tests.{ltb-true, ltb-false, le-leb, lt-leb}
 use lib.Dec.{ltb, leb}
 use lib.ListN.{length, set, take, drop, length-set, drop_of_length-le, get_or-eq_default}
 use lib.Seq.{drop-cons, length-take-le}
-use Rattle.io.specs.Counts.{IsPrefixLen}
 use Rattle.wire.specs.Bytes.{byte, pick}
 use Rattle.wire.specs.Runs.{over}
 use Rattle.wire.proofs.Laws.{over_more, over_none, same_over_length}
-use Rattle.run_cases.specs.Text.{hex_value, hex_digit, pair_at, pairs, hex_text, number_up_to}
+use Rattle.run_cases.specs.Text.{IsPrefixLen, hex_value, hex_digit, pair_at, pairs, hex_text, number_up_to}
 
 -- n of the bytes are counted from the start
 pub counts : (n : ℕ) (bytes : List ℕ) → n ≤ length bytes → IsPrefixLen n bytes

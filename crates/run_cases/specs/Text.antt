@@ -1,6 +1,10 @@
 -- Places in a text, and numbers and bytes as text.
-use Rattle.std.specs.Prelude.{ℕ, zero, suc, ◌+◌, ◌*◌, ◌-◌, ◌/◌, ◌%◌, ◌≤◌, ◌<◌, min, ◌≡◌, List, [], ◌∷◌, ltb, leb, length}
+use Rattle.std.specs.Prelude.{ℕ, zero, suc, ◌+◌, ◌*◌, ◌-◌, ◌/◌, ◌%◌, ◌≤◌, ◌<◌, min, ◌≡◌, List, [], ◌∷◌, ltb, leb, length, take}
 use Rattle.wire.specs.Bytes.{byte, pick}
+
+-- the first n of the bytes are n
+abbrev pub IsPrefixLen : ℕ → List ℕ → Type 0
+IsPrefixLen n xs = (n ≤ length xs) × (n ≡ length (take n xs))
 
 -- r is the place of the first byte b from p on, or the end
 pub record FirstAt (text : List ℕ) (p b r : ℕ) : Type 0 where

@@ -4,6 +4,8 @@
 
 ghost use Rattle.std.specs.Prelude.{◌≤◌, length};
 
+use std::io::{Input, Read};
+
 // Places in a text, and numbers and bytes as text.
 mod text;
 
@@ -17,19 +19,20 @@ const PRINT: u64 = 0x7072696e7420;
 
 const WHY: u64 = 0x77687920;
 
-fn main() {
+fn main(rt: HostRuntime) {
     let mut input = [0u8; 300000];
     let mut spare = [0u8; 300000];
-    answer_all(&mut input, &mut spare);
+    answer_all(&rt, &mut input, &mut spare);
 }
 
 // Nothing says that the input ends, so the rounds are counted: a million, each with a line or more. A line that does not fit the buffer ends the run, as the end of the input does.
-fn answer_all(input: &mut [u8], spare: &mut [u8]) {
+fn answer_all(rt: &(impl Input + Print), input: &mut [u8], spare: &mut [u8]) {
+    let mut source = rt.reader();
     let mut rounds: u64 = 1000000;
     let mut kept: usize = 0;
     while 0 < rounds {
-        let full = read_more(input, kept);
-        let done = answer_lines(&input[..full]);
+        let full = read_more(&mut source, input, kept);
+        let done = answer_lines(rt, &input[..full]);
         if done == 0 {
             return;
         }
@@ -39,12 +42,26 @@ fn answer_all(input: &mut [u8], spare: &mut [u8]) {
 }
 
 // Reads on after the bytes that are kept, until the buffer is full or the input ends. Answers how many bytes there are then.
-fn read_more(input: &mut [u8], kept: usize) -> usize
+fn read_more(source: &mut impl Read, input: &mut [u8], kept: usize) -> usize
     requires { kept ≤ length input.old }
     ensures { result ≤ length input.new }
 {
-    let got = io::read_full(0, &mut input[kept..]);
+    let got = read_full(source, &mut input[kept..]);
     kept + got
+}
+
+// Reads until the buffer is full, the input ends or a read fails. Answers how many bytes it put at the start of the buffer.
+fn read_full(source: &mut impl Read, buffer: &mut [u8]) -> usize
+    ensures { result ≤ length buffer.new }
+{
+    let mut got: usize = 0;
+    while got < buffer.len() {
+        match source.read(&mut buffer[got..]) {
+            Ok(0) | Err(_) => return got,
+            Ok(more) => got += more,
+        }
+    }
+    got
 }
 
 // Moves the bytes from `done` up to `full` to the start. Answers how many they are.
@@ -59,7 +76,7 @@ fn keep_rest(input: &mut [u8], done: usize, full: usize, spare: &mut [u8]) -> us
 }
 
 // Answers each line that ends here. Answers where the rest begins.
-fn answer_lines(lines: &[u8]) -> usize
+fn answer_lines(rt: &impl Print, lines: &[u8]) -> usize
     ensures { result ≤ length lines.now }
 {
     let mut at: usize = 0;
@@ -68,61 +85,62 @@ fn answer_lines(lines: &[u8]) -> usize
         if lines.len() <= end {
             return at;
         }
-        answer_line(&lines[at..end]);
+        answer_line(rt, &lines[at..end]);
         at = end + 1;
     }
     at
 }
 
 // A line may begin with a list of types; a device in hexadecimal digits is not that word.
-fn answer_line(line: &[u8]) {
+fn answer_line(rt: &impl Print, line: &[u8]) {
     let start = wire::number_at(line, 0);
     if start / 65536 == TYPES {
-        answer_typed(line);
+        answer_typed(rt, line);
         return;
     }
-    answer_case(line, false, b"");
+    answer_case(rt, line, false, b"");
 }
 
 // The word, the list, and a case. What does not fit the room here is cut.
-fn answer_typed(line: &[u8]) {
+fn answer_typed(rt: &impl Print, line: &[u8]) {
     let mut types = [0u8; 3000];
     let list = text::next_part(line, 0);
     let case = text::next_part(line, list);
     let size = text::read_hex(&line[list..], &mut types);
-    answer_case(&line[case..], true, &types[..size]);
+    answer_case(rt, &line[case..], true, &types[..size]);
 }
 
 // The first word tells the sort of a case; a device in hexadecimal digits is none of the three words. A list of types is lent or not.
-fn answer_case(line: &[u8], lent: bool, types: &[u8]) {
+fn answer_case(rt: &impl Print, line: &[u8], lent: bool, types: &[u8]) {
     let start = wire::number_at(line, 0);
     if start == CONVERT {
-        answer_text(line, true, lent, types);
+        answer_text(rt, line, true, lent, types);
         return;
     }
     if start / 65536 == PRINT {
-        answer_text(line, false, lent, types);
+        answer_text(rt, line, false, lent, types);
         return;
     }
     if start / 4294967296 == WHY {
-        answer_why(line, lent, types);
+        answer_why(rt, line, lent, types);
         return;
     }
-    answer_compile(line, lent, types);
+    answer_compile(rt, line, lent, types);
 }
 
 // Device, limit, output length, memory length, manifest. What does not fit the room here is cut.
-fn answer_compile(line: &[u8], lent: bool, types: &[u8]) {
+fn answer_compile(rt: &impl Print, line: &[u8], lent: bool, types: &[u8]) {
     let second = text::next_part(line, 0);
     let third = text::next_part(line, second);
     let fourth = text::next_part(line, third);
     let fifth = text::next_part(line, fourth);
     let limit = text::read_number(&line[second..], 65535) as u16;
-    read_bytes(&line[fifth..], line, limit, &line[third..], lent, types);
+    read_bytes(rt, &line[fifth..], line, limit, &line[third..], lent, types);
 }
 
 // Manifest and device from their digits.
 fn read_bytes(
+    rt: &impl Print,
     manifest_text: &[u8],
     device_text: &[u8],
     limit: u16,
@@ -135,6 +153,7 @@ fn read_bytes(
     let size = text::read_hex(manifest_text, &mut manifest);
     let named = text::read_hex(device_text, &mut device);
     lend(
+        rt,
         &manifest[..size],
         &device[..named],
         limit,
@@ -145,13 +164,14 @@ fn read_bytes(
 }
 
 // Output and memory of the two lengths at the start of `lengths`.
-fn lend(manifest: &[u8], device: &[u8], limit: u16, lengths: &[u8], lent: bool, types: &[u8]) {
+fn lend(rt: &impl Print, manifest: &[u8], device: &[u8], limit: u16, lengths: &[u8], lent: bool, types: &[u8]) {
     let mut out = [0u8; 70000];
     let mut work = [0u8; 70000];
     let second = text::next_part(lengths, 0);
     let output = text::read_length(lengths, &out);
     let memory = text::read_length(&lengths[second..], &work);
     compile(
+        rt,
         manifest,
         device,
         limit,
@@ -163,6 +183,7 @@ fn lend(manifest: &[u8], device: &[u8], limit: u16, lengths: &[u8], lent: bool, 
 }
 
 fn compile(
+    rt: &impl Print,
     manifest: &[u8],
     device: &[u8],
     limit: u16,
@@ -175,30 +196,30 @@ fn compile(
         let answer = library::rigbanut_compile_with_types(
             types, manifest, device, limit, out, work,
         );
-        write_answer(answer, out);
+        write_answer(rt, answer, out);
     } else {
         let answer = library::rigbanut_compile(manifest, device, limit, out, work);
-        write_answer(answer, out);
+        write_answer(rt, answer, out);
     }
 }
 
 // The word, output length, memory length, and the text to convert or the manifest to print. What does not fit the room here is cut.
-fn answer_text(line: &[u8], converts: bool, lent: bool, types: &[u8]) {
+fn answer_text(rt: &impl Print, line: &[u8], converts: bool, lent: bool, types: &[u8]) {
     let second = text::next_part(line, 0);
     let third = text::next_part(line, second);
     let fourth = text::next_part(line, third);
-    read_text(&line[fourth..], converts, &line[second..], lent, types);
+    read_text(rt, &line[fourth..], converts, &line[second..], lent, types);
 }
 
 // The text or the manifest from its digits.
-fn read_text(digits: &[u8], converts: bool, lengths: &[u8], lent: bool, types: &[u8]) {
+fn read_text(rt: &impl Print, digits: &[u8], converts: bool, lengths: &[u8], lent: bool, types: &[u8]) {
     let mut given = [0u8; 70000];
     let size = text::read_hex(digits, &mut given);
-    lend_to_text(&given[..size], converts, lengths, lent, types);
+    lend_to_text(rt, &given[..size], converts, lengths, lent, types);
 }
 
 // Output and memory of the two lengths at the start of `lengths`.
-fn lend_to_text(given: &[u8], converts: bool, lengths: &[u8], lent: bool, types: &[u8]) {
+fn lend_to_text(rt: &impl Print, given: &[u8], converts: bool, lengths: &[u8], lent: bool, types: &[u8]) {
     let mut out = [0u8; 70000];
     let mut work = [0u8; 70000];
     let second = text::next_part(lengths, 0);
@@ -206,6 +227,7 @@ fn lend_to_text(given: &[u8], converts: bool, lengths: &[u8], lent: bool, types:
     let memory = text::read_length(&lengths[second..], &work);
     if lent {
         use_types(
+            rt,
             types,
             given,
             converts,
@@ -213,32 +235,32 @@ fn lend_to_text(given: &[u8], converts: bool, lengths: &[u8], lent: bool, types:
             &mut work[..memory],
         );
     } else {
-        convert_or_print(given, converts, &mut out[..output], &mut work[..memory]);
+        convert_or_print(rt, given, converts, &mut out[..output], &mut work[..memory]);
     }
 }
 
-fn convert_or_print(given: &[u8], converts: bool, out: &mut [u8], work: &mut [u8]) {
+fn convert_or_print(rt: &impl Print, given: &[u8], converts: bool, out: &mut [u8], work: &mut [u8]) {
     if converts {
         let answer = library::rigbanut_convert(given, out, work);
-        write_text_answer(answer, out);
+        write_text_answer(rt, answer, out);
     } else {
         let answer = library::rigbanut_print(given, out, work);
-        write_text_answer(answer, out);
+        write_text_answer(rt, answer, out);
     }
 }
 
-fn use_types(types: &[u8], given: &[u8], converts: bool, out: &mut [u8], work: &mut [u8]) {
+fn use_types(rt: &impl Print, types: &[u8], given: &[u8], converts: bool, out: &mut [u8], work: &mut [u8]) {
     if converts {
         let answer = library::rigbanut_convert_with_types(types, given, out, work);
-        write_text_answer(answer, out);
+        write_text_answer(rt, answer, out);
     } else {
         let answer = library::rigbanut_print_with_types(types, given, out, work);
-        write_text_answer(answer, out);
+        write_text_answer(rt, answer, out);
     }
 }
 
 // The word, device, type, title, attribute, label, memory length, manifest. What does not fit the room here is cut.
-fn answer_why(line: &[u8], lent: bool, types: &[u8]) {
+fn answer_why(rt: &impl Print, line: &[u8], lent: bool, types: &[u8]) {
     let device = text::next_part(line, 0);
     let kind = text::next_part(line, device);
     let title = text::next_part(line, kind);
@@ -247,6 +269,7 @@ fn answer_why(line: &[u8], lent: bool, types: &[u8]) {
     let memory = text::next_part(line, label);
     let manifest = text::next_part(line, memory);
     read_question(
+        rt,
         &line[manifest..],
         &line[device..],
         &line[kind..],
@@ -260,6 +283,7 @@ fn answer_why(line: &[u8], lent: bool, types: &[u8]) {
 
 // Manifest, device and what is asked about from their digits. No string of a manifest is longer than 255 bytes.
 fn read_question(
+    rt: &impl Print,
     manifest_text: &[u8],
     device_text: &[u8],
     kind_text: &[u8],
@@ -280,6 +304,7 @@ fn read_question(
     let titles = text::read_hex(title_text, &mut title);
     let attributes = text::read_hex(attribute_text, &mut attribute);
     lend_to_question(
+        rt,
         &manifest[..size],
         &device[..named],
         &kind[..kinds],
@@ -293,6 +318,7 @@ fn read_question(
 
 // The label, and memory of the length behind it, at the start of `numbers`.
 fn lend_to_question(
+    rt: &impl Print,
     manifest: &[u8],
     device: &[u8],
     kind: &[u8],
@@ -307,6 +333,7 @@ fn lend_to_question(
     let label = text::read_number(numbers, 255) as u8;
     let memory = text::read_length(&numbers[second..], &work);
     ask(
+        rt,
         manifest,
         device,
         kind,
@@ -320,6 +347,7 @@ fn lend_to_question(
 }
 
 fn ask(
+    rt: &impl Print,
     manifest: &[u8],
     device: &[u8],
     kind: &[u8],
@@ -334,74 +362,83 @@ fn ask(
         let answer = library::rigbanut_why_with_types(
             types, manifest, device, kind, title, attribute, label, work,
         );
-        write_explanation(answer);
+        write_explanation(rt, answer);
     } else {
         let answer = library::rigbanut_why(manifest, device, kind, title, attribute, label, work);
-        write_explanation(answer);
+        write_explanation(rt, answer);
     }
 }
 
+// Writes a text out. Where it cannot be written nobody is told, and the run goes on.
+fn put(rt: &impl Print, text: &[u8]) {
+    let _ = rt.write_all(text);
+}
+
+fn put_number(rt: &impl Print, number: u64) {
+    let _ = print!(rt; "{number}");
+}
+
 // Among them: part * 65536 + place. Not among them: 0. Refused: number * 2^32 + place.
-fn write_explanation(answer: u64) {
+fn write_explanation(rt: &impl Print, answer: u64) {
     if answer == 0 {
-        io::write_all(1, b"not among\n");
+        put(rt, b"not among\n");
         return;
     }
     if answer < 4294967296 {
-        io::write_all(1, b"among ");
-        write_numbers(answer / 65536, answer % 65536);
+        put(rt, b"among ");
+        write_numbers(rt, answer / 65536, answer % 65536);
     } else {
-        write_refusal(answer / 4294967296, answer % 4294967296);
+        write_refusal(rt, answer / 4294967296, answer % 4294967296);
     }
 }
 
 // Accepted: the length. Refused: number * 2^32 + place.
-fn write_text_answer(answer: u64, out: &[u8]) {
+fn write_text_answer(rt: &impl Print, answer: u64, out: &[u8]) {
     if answer < 4294967296 {
-        io::write_all(1, b"ok");
-        write_bytes(answer as usize, out);
+        put(rt, b"ok");
+        write_bytes(rt, answer as usize, out);
     } else {
-        write_refusal(answer / 4294967296, answer % 4294967296);
+        write_refusal(rt, answer / 4294967296, answer % 4294967296);
     }
 }
 
 // Accepted: steps * 65536 + length. Refused: number * 2^32 + place.
-fn write_answer(answer: u64, out: &[u8]) {
+fn write_answer(rt: &impl Print, answer: u64, out: &[u8]) {
     if answer < 4294967296 {
-        write_catalog(answer / 65536, (answer % 65536) as usize, out);
+        write_catalog(rt, answer / 65536, (answer % 65536) as usize, out);
     } else {
-        write_refusal(answer / 4294967296, answer % 4294967296);
+        write_refusal(rt, answer / 4294967296, answer % 4294967296);
     }
 }
 
-fn write_catalog(steps: u64, length: usize, out: &[u8]) {
-    io::write_all(1, b"ok ");
-    io::print_decimal(1, steps);
-    write_bytes(length, out);
+fn write_catalog(rt: &impl Print, steps: u64, length: usize, out: &[u8]) {
+    put(rt, b"ok ");
+    put_number(rt, steps);
+    write_bytes(rt, length, out);
 }
 
 // The last part of an answer, with the space before it.
-fn write_bytes(length: usize, out: &[u8]) {
+fn write_bytes(rt: &impl Print, length: usize, out: &[u8]) {
     if length == 0 {
-        io::write_all(1, b" -\n");
+        put(rt, b" -\n");
         return;
     }
     let mut digits = [0u8; 140000];
     let count = text::put_hex(&mut digits, out, length);
-    io::write_all(1, b" ");
-    io::write_all(1, &digits[..count]);
-    io::write_all(1, b"\n");
+    put(rt, b" ");
+    put(rt, &digits[..count]);
+    put(rt, b"\n");
 }
 
-fn write_refusal(number: u64, place: u64) {
-    io::write_all(1, b"refused ");
-    write_numbers(number, place);
+fn write_refusal(rt: &impl Print, number: u64, place: u64) {
+    put(rt, b"refused ");
+    write_numbers(rt, number, place);
 }
 
 // A number of a reason or a part, and a place: the end of an answer.
-fn write_numbers(number: u64, place: u64) {
-    io::print_decimal(1, number);
-    io::write_all(1, b" ");
-    io::print_decimal(1, place);
-    io::write_all(1, b"\n");
+fn write_numbers(rt: &impl Print, number: u64, place: u64) {
+    put_number(rt, number);
+    put(rt, b" ");
+    put_number(rt, place);
+    put(rt, b"\n");
 }

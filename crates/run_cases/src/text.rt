@@ -1,8 +1,7 @@
 // Places in a text, and numbers and bytes as text.
 ghost use Rattle.std.specs.Prelude.{◌≡◌, ◌+◌, ◌*◌, ◌/◌, ◌≤◌, ◌<◌, min, length};
-ghost use Rattle.io.specs.Counts.{IsPrefixLen};
 ghost use Rattle.wire.specs.Runs.{over};
-ghost use Rattle.run_cases.specs.Text.{FirstAt, AfterSpace, hex_value, hex_digit, pair_at, pairs, hex_text, number_up_to};
+ghost use Rattle.run_cases.specs.Text.{IsPrefixLen, FirstAt, AfterSpace, hex_value, hex_digit, pair_at, pairs, hex_text, number_up_to};
 
 // ---- Places
 
