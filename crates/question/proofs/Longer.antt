@@ -24,7 +24,7 @@ fed_line : (xs : List ℕ) → length (before_feed xs) < length xs → has_feed 
 fed_line xs h = sym (feeding.split xs).is ∙ lt-ltb (length (before_feed xs)) (length xs) h
 
 same_line : (xs more : List ℕ) → length (before_feed xs) < length xs → length (before_feed xs) ≡ length (before_feed (xs ++ more))
-same_line xs more h = sym (ap length (feeding.met-before xs more (fed_line xs h)).before)
+same_line xs more h = sym (ap length (feeding.met_before xs more (fed_line xs h)).before)
 
 module _ (given more : List ℕ) where
   longer : length (given ++ more) ≡ length given + length more

@@ -7,11 +7,20 @@ use Rattle.question.proofs.Lengths.{numbers_short}
 use Rattle.question.proofs.put_numbers.Goals as goal
 
 -- the first number ends early, and so do the texts behind it
-first_end : (c : tie.After-put-number) → c.put-number.result ≤ 28
-first_end c =
-    let word = c.before.before.before.before in
-    let s = word.before.before.before.before.before in
-    omega (arith, s.requires.0, word.put-text.ensures.told, c.put-number.ensures.told, number_short s.args.first (omega (arith, s.ranges.first.fits)))
+pub put_text-other-requires : goal.put_text-other-requires
+put_text-other-requires c =
+    let number : c.put_number-between.result ≤ 28 = omega (arith, c.requires.0, c.put_text-number.ensures.told, c.put_number-between.ensures.told, number_short c.args.first (omega (arith, c.ranges.first.fits))) in
+    (omega (arith, number), omega (arith, c.requires.1))
+
+pub put_number-end-requires : goal.put_number-end-requires
+put_number-end-requires c =
+    let number : c.put_number-between.result ≤ 28 = omega (arith, c.requires.0, c.put_text-number.ensures.told, c.put_number-between.ensures.told, number_short c.args.first (omega (arith, c.ranges.first.fits))) in
+    omega (arith, number, c.put_text-other.ensures.told, c.requires.1)
+
+pub put_text-requires : goal.put_text-requires
+put_text-requires c =
+    let number : c.put_number-between.result ≤ 28 = omega (arith, c.requires.0, c.put_text-number.ensures.told, c.put_number-between.ensures.told, number_short c.args.first (omega (arith, c.ranges.first.fits))) in
+    (omega (arith, number, c.put_text-other.ensures.told, c.requires.1, c.put_number-end.ensures.told, number_short c.args.second (omega (arith, c.ranges.second.fits))), omega arith)
 
 pub returns : goal.returns
 unfolding numbers_line

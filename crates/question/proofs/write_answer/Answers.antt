@@ -9,16 +9,12 @@ use Rattle.question.proofs.write_answer.Goals as goal
 
 pub returns-in-Among : goal.returns-in-Among
 unfolding answer_line among_line numbers_line
-returns-in-Among c =
-    let among = c.explanation-1.given in
-    (rw among.1 (put_is (ap (λ (n : ℕ). among_line n among.0.1.0) c.part_number.ensures) c.put_numbers.ensures.0), c.put_numbers.ensures.1)
+returns-in-Among c = (rw c.in-Among.is (put_is (ap (λ (n : ℕ). among_line n c.in-Among.place) c.part_number.ensures) c.put_numbers.ensures.0), c.put_numbers.ensures.1)
 
 pub returns-in-NotAmong : goal.returns-in-NotAmong
 unfolding answer_line not_among_line
-returns-in-NotAmong c = (rw c.enum_told-1.given.1 c.put_text.ensures, omega (arith, c.put_text.ensures.told))
+returns-in-NotAmong c = (rw c.in-NotAmong.is c.put_text.ensures, omega (arith, c.put_text.ensures.told))
 
 pub returns-in-Refused : goal.returns-in-Refused
 unfolding answer_line refusal_line numbers_line
-returns-in-Refused c =
-    let refused = c.explanation-in-Refused-1.given in
-    (rw refused.1 (put_is (ap (λ (n : ℕ). refusal_line n refused.0.1.0) c.number_of.ensures) c.put_numbers-in-Refused.ensures.0), c.put_numbers-in-Refused.ensures.1)
+returns-in-Refused c = (rw c.in-Refused.is (put_is (ap (λ (n : ℕ). refusal_line n c.in-Refused.place) c.number_of.ensures) c.put_numbers-in-Refused.ensures.0), c.put_numbers-in-Refused.ensures.1)
