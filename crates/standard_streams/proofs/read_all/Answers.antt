@@ -14,22 +14,22 @@ held_then : {d m d' m' d'' m'' : List ℕ} {at : Progress} {r : Taken} → Holds
 held_then {d} {m} (more_held input held) next = next d m input held
 
 pub loop-left-init : goal.loop-left-init
-loop-left-init c = let a = c.args in (more_held [] (c.start-at.ensures a.line.now a.rest.now), (refl, refl))
+loop-left-init g c = let a = c.args in (more_held [] (c.start-at.ensures a.line.now a.rest.now), (refl, refl))
 
 pub shape_of-line-in_default : goal.shape_of-line-in_default
-shape_of-line-in_default c = c.read_piece-taken.auto.1.0 ∙ c.loop-left.invariant.1.0
+shape_of-line-in_default g c = c.read_piece-taken.auto.line ∙ c.loop-left.invariant.1.0
 
 pub shape_of-rest-in_default : goal.shape_of-rest-in_default
-shape_of-rest-in_default c = c.read_piece-taken.auto.1.1.0 ∙ c.loop-left.invariant.1.1
+shape_of-rest-in_default g c = c.read_piece-taken.auto.rest ∙ c.loop-left.invariant.1.1
 
 pub returns-in_default : goal.returns-in_default
-returns-in_default c = held_then c.loop-left.invariant.0 c.read_piece-taken.ensures
+returns-in_default g c = held_then c.loop-left.invariant.0 c.read_piece-taken.ensures
 
 pub loop-left-preserved : goal.loop-left-preserved
-loop-left-preserved c =
+loop-left-preserved g c =
     let inv = c.loop-left.invariant in
     let k = c.read_piece-taken.auto in
-    (rw c.taken-1.given.1 at (held_then inv.0 c.read_piece-taken.ensures), (k.1.0 ∙ inv.1.0, k.1.1.0 ∙ inv.1.1))
+    (rw c.in-More.is at (held_then inv.0 c.read_piece-taken.ensures), (k.line ∙ inv.1.0, k.rest ∙ inv.1.1))
 
 pub returns : goal.returns
-returns c = rw c.too_many_pieces.ensures failed
+returns g c = rw c.too_many_pieces.ensures failed

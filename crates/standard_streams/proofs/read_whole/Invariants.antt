@@ -5,7 +5,7 @@ use lib.ListN.{length}
 use Rattle.standard_streams.proofs.read_whole.Given as goal
 
 abbrev pub invariant-loop-kept : goal.invariant-loop-kept
-invariant-loop-kept l = (length l.kept ≡ length l.initial.buffer) × (kept ≤ length l.kept)
+invariant-loop-kept g l = (length l.buffer ≡ length l.initial.buffer) × (l.kept ≤ length l.buffer)
 
 abbrev pub decreases-loop-kept : goal.decreases-loop-kept
-decreases-loop-kept l = length l.initial.buffer - kept
+decreases-loop-kept g l = length l.initial.buffer - l.kept
