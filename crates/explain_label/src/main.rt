@@ -49,14 +49,19 @@ fn explain_with_types(given: &[u8], lines: Lines, label: u8, size: u16) -> Expla
 }
 
 // Writes the answer to `given` out, or tells on standard error that it cannot. Nothing else writes to standard output.
-fn write(rt: &(impl Print + Eprint + Alloc), text: &[u8], given: &[u8], sent: &mut u64) -> bool
+fn write(rt: &(impl Print + Eprint), text: &[u8], given: &[u8], sent: &mut u64) -> bool
     requires { ((text.now ≡ answer_text given.now) × (length text.now ≤ 64)) × (sent.old ≡ 0) }
     ensures { result ≡ true → sent.new ≡ length (answer_text given.now) }
 {
     send(rt, text, sent)
 }
 
-fn write_explanation(rt: &(impl Print + Eprint + Alloc), explanation: Explanation, given: &[u8], sent: &mut u64) -> bool
+fn write_explanation(
+    rt: &(impl Print + Eprint),
+    explanation: Explanation,
+    given: &[u8],
+    sent: &mut u64,
+) -> bool
     requires { (answer_line explanation ≡ answer_text given.now) × (sent.old ≡ 0) }
     ensures { result ≡ true → sent.new ≡ length (answer_text given.now) }
 {
@@ -65,7 +70,7 @@ fn write_explanation(rt: &(impl Print + Eprint + Alloc), explanation: Explanatio
     write(rt, first(&line, length), given, sent)
 }
 
-fn write_wrong(rt: &(impl Print + Eprint + Alloc), given: &[u8], sent: &mut u64) -> bool
+fn write_wrong(rt: &(impl Print + Eprint), given: &[u8], sent: &mut u64) -> bool
     requires { (wrong_line ≡ answer_text given.now) × (sent.old ≡ 0) }
     ensures { result ≡ true → sent.new ≡ length (answer_text given.now) }
 {
@@ -75,7 +80,7 @@ fn write_wrong(rt: &(impl Print + Eprint + Alloc), given: &[u8], sent: &mut u64)
 }
 
 // Answers an input: true if all of the answer is written.
-fn answer(rt: &(impl Print + Eprint + Alloc), given: &[u8], sent: &mut u64) -> bool
+fn answer(rt: &(impl Print + Eprint), given: &[u8], sent: &mut u64) -> bool
     requires { sent.old ≡ 0 }
     ensures { result ≡ true → sent.new ≡ length (answer_text given.now) }
 {

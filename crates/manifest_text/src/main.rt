@@ -190,7 +190,14 @@ fn place_given(types: BuiltIn, given: &[u8], field: usize) -> usize
 // ---- Writing: `sent` bytes of an answer to `command` for `given`, with these types, are written out. Nothing but `write` changes `sent`, or writes to standard output.
 
 // Writes out what comes next, or tells on standard error that it cannot.
-fn write(rt: &(impl Print + Eprint + Alloc), text: &[u8], types: BuiltIn, command: Command, given: &[u8], sent: &mut u64) -> bool
+fn write(
+    rt: &(impl Print + Eprint),
+    text: &[u8],
+    types: BuiltIn,
+    command: Command,
+    given: &[u8],
+    sent: &mut u64,
+) -> bool
     requires { AnAnswer types command given.now (λ a. ComesNext a sent.old text.now) }
     ensures { result ≡ true → sent.new ≡ sent.old + length text.now }
 {
@@ -199,7 +206,7 @@ fn write(rt: &(impl Print + Eprint + Alloc), text: &[u8], types: BuiltIn, comman
 
 // The whole answer, in its buffer.
 fn write_all(
-    rt: &(impl Print + Eprint + Alloc),
+    rt: &(impl Print + Eprint),
     written: Written,
     text: &[u8],
     types: BuiltIn,
@@ -228,7 +235,7 @@ fn numbered_text(word: &[u8], number: u64, bytes: &[u8], text: &mut [u8]) -> Wri
 }
 
 fn write_numbered(
-    rt: &(impl Print + Eprint + Alloc),
+    rt: &(impl Print + Eprint),
     word: &[u8],
     number: u64,
     bytes: &[u8],
@@ -246,7 +253,7 @@ fn write_numbered(
 }
 
 fn write_refusal(
-    rt: &(impl Print + Eprint + Alloc),
+    rt: &(impl Print + Eprint),
     reason: Reason,
     place: u16,
     types: BuiltIn,
@@ -264,7 +271,7 @@ fn write_refusal(
 
 // What a call answered and left in its output.
 fn write_answer(
-    rt: &(impl Print + Eprint + Alloc),
+    rt: &(impl Print + Eprint),
     answer: Answer,
     out: &[u8; 65535],
     types: BuiltIn,
@@ -290,8 +297,7 @@ fn write_answer(
             )
         }
         Answer::Refused { reason, place } => write_refusal(
-            rt,
-            reason, place, types, command, given, sent,
+            rt, reason, place, types, command, given, sent,
         ),
     }
 }
@@ -299,11 +305,19 @@ fn write_answer(
 // ---- The commands
 
 fn unknown_line(rt: &impl Eprint) {
-    let _ = eprintln!(rt; "the first line is neither convert nor print, nor place with an offset, nor one of these behind types and five digits");
+    let _ = eprintln!(rt;
+        "the first line is neither convert nor print, nor place with an offset, nor one of these behind types and five digits"
+    );
 }
 
 // Answers a command: true if all of the answer is written.
-fn answer(rt: &(impl Print + Eprint + Alloc), types: BuiltIn, command: Command, given: &[u8], sent: &mut u64) -> bool
+fn answer(
+    rt: &(impl Print + Eprint),
+    types: BuiltIn,
+    command: Command,
+    given: &[u8],
+    sent: &mut u64,
+) -> bool
     requires { sent.old ≡ 0 }
     ensures { AllSent types command given.now sent.new result }
 {
@@ -319,7 +333,16 @@ fn answer(rt: &(impl Print + Eprint + Alloc), types: BuiltIn, command: Command, 
         }
         Command::Place { field } => {
             let place = place_given(types, given, field);
-            write_numbered(rt, b"place ", place as u64, b"", types, command, given, sent)
+            write_numbered(
+                rt,
+                b"place ",
+                place as u64,
+                b"",
+                types,
+                command,
+                given,
+                sent,
+            )
         }
         Command::Unknown => {
             unknown_line(rt);
@@ -329,7 +352,13 @@ fn answer(rt: &(impl Print + Eprint + Alloc), types: BuiltIn, command: Command, 
 }
 
 // Answers the input that the buffers hold.
-fn answer_read(rt: &(impl Print + Eprint + Alloc), at: Progress, line: &[u8], given: &[u8], sent: &mut u64) -> bool
+fn answer_read(
+    rt: &(impl Print + Eprint),
+    at: Progress,
+    line: &[u8],
+    given: &[u8],
+    sent: &mut u64,
+) -> bool
     requires { sent.old ≡ 0 }
     ensures { (d m input : List ℕ) → length d ≡ 256 → length m ≡ 196608 → reading at line.now given.now ≡ reading_of d m input → InputSent input sent.new result }
 {

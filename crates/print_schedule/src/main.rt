@@ -31,7 +31,13 @@ fn compile_schedule(manifest: &[u8], device: &[u8], out: &mut [u8; 65535]) -> An
 // ---- Printing: `sent` bytes of the schedule of `manifest` and `device` are written out. Nothing but `write` changes `sent`, or writes to standard output.
 
 // Writes out what comes next, or tells on standard error that it cannot.
-fn write(rt: &(impl Print + Eprint + Alloc), text: &[u8], manifest: &[u8], device: &[u8], sent: &mut u64) -> bool
+fn write(
+    rt: &(impl Print + Eprint),
+    text: &[u8],
+    manifest: &[u8],
+    device: &[u8],
+    sent: &mut u64,
+) -> bool
     requires { ComesNext (schedule_text manifest.now device.now) sent.old text.now }
     ensures { result ≡ true → sent.new ≡ sent.old + length text.now }
 {
@@ -39,7 +45,14 @@ fn write(rt: &(impl Print + Eprint + Alloc), text: &[u8], manifest: &[u8], devic
 }
 
 // The last line, in its buffer.
-fn print_last(rt: &(impl Print + Eprint + Alloc), written: Written, line: &[u8], manifest: &[u8], device: &[u8], sent: &mut u64) -> bool
+fn print_last(
+    rt: &(impl Print + Eprint),
+    written: Written,
+    line: &[u8],
+    manifest: &[u8],
+    device: &[u8],
+    sent: &mut u64,
+) -> bool
     requires { LastLine (schedule_text manifest.now device.now) sent.old written line.now }
     ensures { AllSent manifest.now device.now sent.new result }
 {
@@ -49,7 +62,13 @@ fn print_last(rt: &(impl Print + Eprint + Alloc), written: Written, line: &[u8],
     }
 }
 
-fn print_steps(rt: &(impl Print + Eprint + Alloc), steps: u16, manifest: &[u8], device: &[u8], sent: &mut u64) -> bool
+fn print_steps(
+    rt: &(impl Print + Eprint),
+    steps: u16,
+    manifest: &[u8],
+    device: &[u8],
+    sent: &mut u64,
+) -> bool
     requires { Left (schedule_text manifest.now device.now) sent.old (steps_line steps) }
     ensures { AllSent manifest.now device.now sent.new result }
 {
@@ -60,7 +79,7 @@ fn print_steps(rt: &(impl Print + Eprint + Alloc), steps: u16, manifest: &[u8], 
 
 // The lines of a catalog, and the last one.
 fn print_lines(
-    rt: &(impl Print + Eprint + Alloc),
+    rt: &(impl Print + Eprint),
     catalog: &[u8],
     steps: u16,
     manifest: &[u8],
@@ -86,7 +105,14 @@ fn print_lines(
     }
 }
 
-fn print_catalog(rt: &(impl Print + Eprint + Alloc), catalog: &[u8], steps: u16, manifest: &[u8], device: &[u8], sent: &mut u64) -> bool
+fn print_catalog(
+    rt: &(impl Print + Eprint),
+    catalog: &[u8],
+    steps: u16,
+    manifest: &[u8],
+    device: &[u8],
+    sent: &mut u64,
+) -> bool
     requires { IsCatalog manifest.now device.now catalog.now steps × (sent.old ≡ 0) }
     ensures { AllSent manifest.now device.now sent.new result }
 {
@@ -95,7 +121,14 @@ fn print_catalog(rt: &(impl Print + Eprint + Alloc), catalog: &[u8], steps: u16,
     print_lines(rt, catalog, steps, manifest, device, &index, strings, sent)
 }
 
-fn print_refusal(rt: &(impl Print + Eprint + Alloc), reason: Reason, place: u16, manifest: &[u8], device: &[u8], sent: &mut u64) -> bool
+fn print_refusal(
+    rt: &(impl Print + Eprint),
+    reason: Reason,
+    place: u16,
+    manifest: &[u8],
+    device: &[u8],
+    sent: &mut u64,
+) -> bool
     requires { Left (schedule_text manifest.now device.now) sent.old (refusal_line (number_of reason) place) }
     ensures { AllSent manifest.now device.now sent.new result }
 {
@@ -105,7 +138,12 @@ fn print_refusal(rt: &(impl Print + Eprint + Alloc), reason: Reason, place: u16,
 }
 
 // Prints the schedule: true if all of it is written.
-fn print_schedule(rt: &(impl Print + Eprint + Alloc), manifest: &[u8], device: &[u8], sent: &mut u64) -> bool
+fn print_schedule(
+    rt: &(impl Print + Eprint),
+    manifest: &[u8],
+    device: &[u8],
+    sent: &mut u64,
+) -> bool
     requires { sent.old ≡ 0 }
     ensures { AllSent manifest.now device.now sent.new result }
 {
@@ -120,12 +158,20 @@ fn print_schedule(rt: &(impl Print + Eprint + Alloc), manifest: &[u8], device: &
             device,
             sent,
         ),
-        Answer::Refused { reason, place } => print_refusal(rt, reason, place, manifest, device, sent),
+        Answer::Refused { reason, place } => print_refusal(
+            rt, reason, place, manifest, device, sent,
+        ),
     }
 }
 
 // Prints the schedule of the input that the buffers hold.
-fn print_read(rt: &(impl Print + Eprint + Alloc), at: Progress, device: &[u8], manifest: &[u8], sent: &mut u64) -> bool
+fn print_read(
+    rt: &(impl Print + Eprint),
+    at: Progress,
+    device: &[u8],
+    manifest: &[u8],
+    sent: &mut u64,
+) -> bool
     requires { sent.old ≡ 0 }
     ensures { (d m input : List ℕ) → length d ≡ 256 → length m ≡ 65536 → reading at device.now manifest.now ≡ reading_of d m input → result ≡ true → sent.new ≡ length (schedule input) }
 {

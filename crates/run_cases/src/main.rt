@@ -164,7 +164,15 @@ fn read_bytes(
 }
 
 // Output and memory of the two lengths at the start of `lengths`.
-fn lend(rt: &impl Print, manifest: &[u8], device: &[u8], limit: u16, lengths: &[u8], lent: bool, types: &[u8]) {
+fn lend(
+    rt: &impl Print,
+    manifest: &[u8],
+    device: &[u8],
+    limit: u16,
+    lengths: &[u8],
+    lent: bool,
+    types: &[u8],
+) {
     let mut out = [0u8; 70000];
     let mut work = [0u8; 70000];
     let second = text::next_part(lengths, 0);
@@ -212,14 +220,28 @@ fn answer_text(rt: &impl Print, line: &[u8], converts: bool, lent: bool, types: 
 }
 
 // The text or the manifest from its digits.
-fn read_text(rt: &impl Print, digits: &[u8], converts: bool, lengths: &[u8], lent: bool, types: &[u8]) {
+fn read_text(
+    rt: &impl Print,
+    digits: &[u8],
+    converts: bool,
+    lengths: &[u8],
+    lent: bool,
+    types: &[u8],
+) {
     let mut given = [0u8; 70000];
     let size = text::read_hex(digits, &mut given);
     lend_to_text(rt, &given[..size], converts, lengths, lent, types);
 }
 
 // Output and memory of the two lengths at the start of `lengths`.
-fn lend_to_text(rt: &impl Print, given: &[u8], converts: bool, lengths: &[u8], lent: bool, types: &[u8]) {
+fn lend_to_text(
+    rt: &impl Print,
+    given: &[u8],
+    converts: bool,
+    lengths: &[u8],
+    lent: bool,
+    types: &[u8],
+) {
     let mut out = [0u8; 70000];
     let mut work = [0u8; 70000];
     let second = text::next_part(lengths, 0);
@@ -239,7 +261,13 @@ fn lend_to_text(rt: &impl Print, given: &[u8], converts: bool, lengths: &[u8], l
     }
 }
 
-fn convert_or_print(rt: &impl Print, given: &[u8], converts: bool, out: &mut [u8], work: &mut [u8]) {
+fn convert_or_print(
+    rt: &impl Print,
+    given: &[u8],
+    converts: bool,
+    out: &mut [u8],
+    work: &mut [u8],
+) {
     if converts {
         let answer = library::rigbanut_convert(given, out, work);
         write_text_answer(rt, answer, out);
@@ -249,7 +277,14 @@ fn convert_or_print(rt: &impl Print, given: &[u8], converts: bool, out: &mut [u8
     }
 }
 
-fn use_types(rt: &impl Print, types: &[u8], given: &[u8], converts: bool, out: &mut [u8], work: &mut [u8]) {
+fn use_types(
+    rt: &impl Print,
+    types: &[u8],
+    given: &[u8],
+    converts: bool,
+    out: &mut [u8],
+    work: &mut [u8],
+) {
     if converts {
         let answer = library::rigbanut_convert_with_types(types, given, out, work);
         write_text_answer(rt, answer, out);

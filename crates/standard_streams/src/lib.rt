@@ -6,7 +6,9 @@ ghost use Rattle.input.specs.Reading.{reading, reading_of};
 ghost use Rattle.standard_streams.specs.Reading.{Holds};
 
 use input::Progress;
+use std::fmt::{self, Write};
 use std::io::{self, Input, Read};
+use std::str;
 
 // How many pieces of input are read at most: enough for 4 GiB that come byte by byte.
 const MOST_PIECES: u64 = 4294967296;
@@ -33,6 +35,25 @@ pub fn first(bytes: &[u8], n: usize) -> &[u8]
 
 // ---- Messages
 
+// The start of a message, as much as there is room for.
+#[derive(Drop)]
+struct Message {
+    bytes: [u8; 256],
+    length: usize,
+}
+
+impl fmt::Write for Message {
+    fn write_str(&mut self, text: &str) -> fmt::Result {
+        for byte in text.as_bytes() {
+            if self.length < 256 {
+                self.bytes[self.length] = *byte;
+                self.length += 1;
+            }
+        }
+        Ok(())
+    }
+}
+
 // The system's words for an error, without the number behind them.
 fn without_number(text: &str) -> &str {
     match text.split_once(" (os error ") {
@@ -42,18 +63,26 @@ fn without_number(text: &str) -> &str {
 }
 
 // Tells on standard error why a stream failed. Where standard error fails too nobody is told.
-fn tell<R: Eprint + Alloc>(rt: &R, stream: &str, error: io::Error) {
-    let told = match format!(in rt.alloc(); "{error}") {
-        Ok(text) => eprintln!(rt; "{stream}: {}", without_number(&text)),
-        Err(_) => eprintln!(rt; "{stream}: {error}"),
+fn tell(rt: &impl Eprint, stream: &str, error: io::Error) {
+    let mut message = Message {
+        bytes: [0u8; 256],
+        length: 0,
     };
-    let _ = told;
+    let _ = write!(message, "{error}");
+    let text = str::from_utf8(first(&message.bytes, message.length)).unwrap_or("");
+    let _ = eprintln!(rt; "{stream}: {}", without_number(text));
 }
 
 // ---- Reading
 
 // Reads one piece of the input.
-fn read_piece<R: Eprint + Alloc>(rt: &R, source: &mut impl Read, at: Progress, line: &mut [u8], rest: &mut [u8]) -> Taken
+fn read_piece<R: Eprint>(
+    rt: &R,
+    source: &mut impl Read,
+    at: Progress,
+    line: &mut [u8],
+    rest: &mut [u8],
+) -> Taken
     ensures { (d m input : List ℕ) → reading at line.old rest.old ≡ reading_of d m input → Holds d m line.new rest.new result }
 {
     let mut piece = [0u8; 4096];
@@ -81,7 +110,7 @@ fn too_many_pieces(rt: &impl Eprint) -> Taken
 }
 
 // Reads the first line and the rest, to the input's end or until what follows makes no difference.
-pub fn read_all<R: Input + Eprint + Alloc>(rt: &R, line: &mut [u8], rest: &mut [u8]) -> Taken
+pub fn read_all<R: Input + Eprint>(rt: &R, line: &mut [u8], rest: &mut [u8]) -> Taken
     ensures { Holds line.old rest.old line.new rest.new result }
 {
     let mut source = rt.reader();
@@ -107,7 +136,7 @@ pub enum Whole {
 }
 
 // Reads all of standard input into the buffer, if it is shorter than that.
-pub fn read_whole<R: Input + Eprint + Alloc>(rt: &R, buffer: &mut [u8]) -> Whole {
+pub fn read_whole<R: Input + Eprint>(rt: &R, buffer: &mut [u8]) -> Whole {
     let mut source = rt.reader();
     let mut kept: usize = 0;
     while kept < buffer.len() {
@@ -126,7 +155,7 @@ pub fn read_whole<R: Input + Eprint + Alloc>(rt: &R, buffer: &mut [u8]) -> Whole
 // ---- Writing
 
 // Writes a text out and counts its bytes, or tells on standard error that it cannot.
-pub fn send<R: Print + Eprint + Alloc>(rt: &R, text: &[u8], sent: &mut u64) -> bool
+pub fn send<R: Print + Eprint>(rt: &R, text: &[u8], sent: &mut u64) -> bool
     requires { sent.old + length text.now < 18446744073709551616 }
     ensures { result ≡ true → sent.new ≡ sent.old + length text.now }
 {
