@@ -5,4 +5,4 @@ use lib.ListN.{length}
 use Rattle.explain_label.proofs.write.Goals as goal
 
 pub returns : goal.returns
-returns c = λ all. omega (arith, c.send.ensures all, c.requires.1, ap length c.requires.0.0)
+returns g c = λ all. omega (arith, c.send.ensures all, c.requires.1, ap length c.requires.0.0)

@@ -3,10 +3,10 @@ use Rattle.library.proofs.Words.{word_among, word_not_among, word_why_refused}
 use Rattle.library.proofs.explanation_word.Goals as goal
 
 pub returns-in-Among : goal.returns-in-Among
-returns-in-Among c = word_among c.explanation-1.given.1 c.part_number.ensures
+returns-in-Among c = word_among c.in-Among.is c.part_number.ensures
 
 pub returns-in-NotAmong : goal.returns-in-NotAmong
-returns-in-NotAmong c = word_not_among c.enum_told-1.given.1
+returns-in-NotAmong c = word_not_among c.in-NotAmong.is
 
 pub returns-in-Refused : goal.returns-in-Refused
-returns-in-Refused c = word_why_refused c.explanation-in-Refused-1.given.1 c.refusal_word.ensures
+returns-in-Refused c = word_why_refused c.in-Refused.is c.refusal_word.ensures

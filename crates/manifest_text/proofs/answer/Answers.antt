@@ -10,25 +10,25 @@ use Rattle.manifest_text.proofs.answer.Goals as goal
 
 pub write_answer-requires : goal.write_answer-requires
 unfolding Answers effect_text
-write_answer-requires c =
+write_answer-requires g c =
     let called = c.convert_given-converted.ensures in
-    record { answer = effect_text (convert (types_given c.args.types c.args.given.now) (bytes_given c.args.types c.args.given.now) 65535 65536); right = rw c.enum_told-1.given.1 refl; so = all_left (rw (called.0, called.1) refl) c.requires }
+    record { answer = effect_text (convert (types_given c.args.types c.args.given.now) (bytes_given c.args.types c.args.given.now) 65535 65536); right = rw c.in-Convert.is refl; so = all_left (rw (called.0, called.1) refl) c.requires }
 
 pub write_answer-requires-in-Print : goal.write_answer-requires-in-Print
 unfolding Answers effect_text
-write_answer-requires-in-Print c =
+write_answer-requires-in-Print g c =
     let called = c.print_given-printed.ensures in
-    record { answer = effect_text (print (types_given c.args.types c.args.given.now) (bytes_given c.args.types c.args.given.now) 65535 65536); right = rw c.enum_told-in-Print-1.given.1 refl; so = all_left (rw (called.0, called.1) refl) c.requires }
+    record { answer = effect_text (print (types_given c.args.types c.args.given.now) (bytes_given c.args.types c.args.given.now) 65535 65536); right = rw c.in-Print.is refl; so = all_left (rw (called.0, called.1) refl) c.requires }
 
 pub write_numbered-requires : goal.write_numbered-requires
 unfolding Answers place_line
-write_numbered-requires c =
+write_numbered-requires g c =
     let told = c.place_given-place in
     (record { answer = place_line told.result; right = record { place = told.result; told = told.ensures; line = refl }; so = all_left refl c.requires }, omega arith, omega arith)
 
 pub returns-in-Place : goal.returns-in-Place
-returns-in-Place c = λ all. same_so refl (sym c.command-1.given.1) refl (c.write_numbered.ensures all)
+returns-in-Place g c = λ all. same_so refl (sym c.in-Place.is) refl (c.write_numbered.ensures all)
 
 pub returns-in-Unknown : goal.returns-in-Unknown
 unfolding Answers
-returns-in-Unknown c = λ all. record { answer = []; right = rw c.enum_told-in-Unknown-1.given.1 refl; so = c.requires }
+returns-in-Unknown g c = λ all. record { answer = []; right = rw c.in-Unknown.is refl; so = c.requires }

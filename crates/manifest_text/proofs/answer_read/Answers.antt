@@ -5,7 +5,7 @@ use Rattle.manifest_text.proofs.Answering.{same_so, read_answer}
 use Rattle.manifest_text.proofs.answer_read.Goals as goal
 
 pub returns : goal.returns
-returns c =
+returns g c =
     let a = c.args in
     let line = c.first-named.ensures in
     λ d m input name text held all.

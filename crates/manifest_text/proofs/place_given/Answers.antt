@@ -6,8 +6,8 @@ use Rattle.manifest_text.proofs.place_given.Goals as goal
 
 pub returns-in-Eight : goal.returns-in-Eight
 unfolding chosen types_given bytes_given
-returns-in-Eight c = rw c.enum_told-1.given.1 c.field_place.ensures
+returns-in-Eight c = rw c.in-Eight.is c.field_place.ensures
 
 pub returns-in-Listed : goal.returns-in-Listed
 unfolding types_given bytes_given
-returns-in-Listed c = rw (c.types-1.given.1, ← c.first.ensures, ← c.past.ensures) (lent_place _ c.field_place-in-Listed.ensures)
+returns-in-Listed c = rw (c.in-Listed.is, ← c.first.ensures, ← c.past.ensures) (lent_place _ c.field_place-in-Listed.ensures)

@@ -7,12 +7,12 @@ use Rattle.manifest_text.proofs.Answering.{then_so}
 use Rattle.manifest_text.proofs.write_all.Goals as goal
 
 pub write-requires : goal.write-requires
-write-requires c =
-    then_so c.requires (λ a l. rw (c.first.ensures ∙ last_bytes l c.written-1.given.1) (last_next l))
+write-requires g c =
+    then_so c.requires (λ a l. rw (c.first.ensures ∙ last_bytes l c.in-Length.is) (last_next l))
 
 pub returns-in-Length : goal.returns-in-Length
-returns-in-Length c =
-    λ written. then_so c.requires (λ a l. c.write.ensures written ∙ rw (c.first.ensures ∙ last_bytes l c.written-1.given.1) (all_sent l))
+returns-in-Length g c =
+    λ written. then_so c.requires (λ a l. c.write.ensures written ∙ rw (c.first.ensures ∙ last_bytes l c.in-Length.is) (all_sent l))
 
 pub returns-in-TooLong : goal.returns-in-TooLong
-returns-in-TooLong c = λ e. let size = c.requires.so.size in let told = c.enum_told-1.given.1 in let z : ◌≡◌ {A = ℕ} 0 1 = cc in absurd (omega arith)
+returns-in-TooLong g c = λ e. let size = c.requires.so.size in let told = c.in-TooLong.is in let z : ◌≡◌ {A = ℕ} 0 1 = cc in absurd (omega arith)

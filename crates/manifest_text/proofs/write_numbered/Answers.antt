@@ -5,5 +5,5 @@ use Rattle.manifest_text.proofs.Answering.{then_so, numbered_short, numbered_som
 use Rattle.manifest_text.proofs.write_numbered.Goals as goal
 
 pub write_all-requires : goal.write_all-requires
-write_all-requires c =
+write_all-requires g c =
     then_so c.requires.0 (λ w l. last_line _ _ _ _ l (numbered_some _ _ _) (numbered_short _ _ _ c.requires.1 c.requires.2 (omega (arith, c.ranges.number))) (omega arith) c.numbered_text-written.ensures)

@@ -10,43 +10,40 @@ use Rattle.print_schedule.proofs.print_lines.Goals as goal
 
 pub loop-length-init : goal.loop-length-init
 unfolding start
-loop-length-init c = (c.requires, refl)
+loop-length-init g c = (c.requires, refl)
 
 pub slice_bounds-next_line-end : goal.slice_bounds-next_line-end
-slice_bounds-next_line-end c = sym c.loop-length.invariant.1
+slice_bounds-next_line-end g c = sym c.loop-length.invariant.1
 
 pub print_steps-requires : goal.print_steps-requires
-print_steps-requires c =
+print_steps-requires g c =
     let inv = c.loop-length.invariant in
     no_line _ _ _ _ _ _ inv.0 inv.1 c.next_line-made.ensures (λ e. ⊎_elim (λ p. omega arith) (λ q. ⊎_elim (λ p. omega arith) (λ p. omega arith) q) c.in_default.keys2)
 
 pub returns-in_default : goal.returns-in_default
-returns-in_default c = c.print_steps.ensures
+returns-in_default g c = c.print_steps.ensures
 
 pub slice_bounds-first-end : goal.slice_bounds-first-end
-slice_bounds-first-end c =
-    sym (c.next_line-made.auto.1.1.1.1.1.0 ∙ c.loop-length.invariant.1)
+slice_bounds-first-end g c =
+    sym (c.next_line-made.auto.line ∙ c.loop-length.invariant.1)
 
 pub write-requires : goal.write-requires
-write-requires c =
+write-requires g c =
     let inv = c.loop-length.invariant in
-    let made = c.made-1.given in
-    rw c.first.ensures (line_next _ _ _ _ _ _ inv.0 _ _ inv.1 c.next_line-made.auto.1.1.1.1.1.0 c.next_line-made.ensures made.1).comes
+    rw c.first.ensures (line_next _ _ _ _ _ _ inv.0 _ _ inv.1 c.next_line-made.auto.line c.next_line-made.ensures c.in-Text.is).comes
 
 pub returns-then-not-write : goal.returns-then-not-write
-returns-then-not-write c = λ no. let z : ◌≡◌ {A = ℕ} 0 1 = cc in absurd (omega arith)
+returns-then-not-write g c = λ no. let z : ◌≡◌ {A = ℕ} 0 1 = cc in absurd (omega arith)
 
 pub loop-length-smaller : goal.loop-length-smaller
-loop-length-smaller c =
+loop-length-smaller g c =
     let inv = c.loop-length.invariant in
-    let made = c.made-1.given in
-    let told = (line_next _ _ _ _ _ _ inv.0 _ _ inv.1 c.next_line-made.auto.1.1.1.1.1.0 c.next_line-made.ensures made.1).told.told in
+    let told = (line_next _ _ _ _ _ _ inv.0 _ _ inv.1 c.next_line-made.auto.line c.next_line-made.ensures c.in-Text.is).told.told in
     omega (arith, told.attribute, told.rises)
 
 pub loop-length-preserved : goal.loop-length-preserved
-loop-length-preserved c =
+loop-length-preserved g c =
     let inv = c.loop-length.invariant in
-    let made = c.made-1.given in
-    let kept = c.next_line-made.auto.1.1.1.1.1.0 in
-    let then = (line_next _ _ _ _ _ _ inv.0 _ _ inv.1 kept c.next_line-made.ensures made.1).then in
+    let kept = c.next_line-made.auto.line in
+    let then = (line_next _ _ _ _ _ _ inv.0 _ _ inv.1 kept c.next_line-made.ensures c.in-Text.is).then in
     (rw (c.write.ensures (not-false _ c.if-not-write.false-raw), c.first.ensures) then, kept ∙ inv.1)

@@ -8,7 +8,7 @@ use Rattle.print_schedule.specs.Printing.{schedule_text, LinesLeft}
 use Rattle.print_schedule.proofs.print_lines.Given as goal
 
 abbrev pub invariant-loop-length : goal.invariant-loop-length
-invariant-loop-length l = LinesLeft (schedule_text l.manifest l.device) l.sent (strings_by l.manifest l.index l.strings) l.catalog l.at (steps_line l.steps) × (length l.line ≡ 2048)
+invariant-loop-length g l = LinesLeft (schedule_text l.manifest l.device) l.sent (strings_by l.manifest l.index l.strings) l.catalog l.at (steps_line l.steps) × (length l.line ≡ 2048)
 
 abbrev pub decreases-loop-length : goal.decreases-loop-length
-decreases-loop-length l = length l.catalog + 1 - l.at.attribute
+decreases-loop-length g l = length l.catalog + 1 - l.at.attribute

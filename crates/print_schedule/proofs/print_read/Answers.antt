@@ -5,7 +5,7 @@ use Rattle.print_schedule.proofs.Printing.{read_text_lem}
 use Rattle.print_schedule.proofs.print_read.Goals as goal
 
 pub returns : goal.returns
-returns c =
+returns g c =
     let a = c.args in
     λ d m input name text held all.
     c.print_schedule.ensures all ∙ rw (c.first.ensures, c.first-2.ensures) (ap length (read_text_lem d m input a.at a.device.now a.manifest.now name text held))

@@ -6,22 +6,22 @@ use Rattle.run_cases.proofs.Texts.{within_first}
 use Rattle.run_cases.proofs.answer_all.Goals as goal
 
 pub loop-rounds-init : goal.loop-rounds-init
-loop-rounds-init c = (omega arith, refl, refl)
+loop-rounds-init g c = (omega arith, refl, refl)
 
 pub read_more-full-requires : goal.read_more-full-requires
-read_more-full-requires c = c.loop-rounds.invariant.0
+read_more-full-requires g c = c.loop-rounds.invariant.0
 
 pub slice_bounds-answer_lines-end : goal.slice_bounds-answer_lines-end
-slice_bounds-answer_lines-end c = c.read_more-full.ensures
+slice_bounds-answer_lines-end g c = c.read_more-full.ensures
 
 pub slice_bounds-answer_lines-end-in-loop-rounds : goal.slice_bounds-answer_lines-end-in-loop-rounds
-slice_bounds-answer_lines-end-in-loop-rounds c = sym (length-take-le _ _ c.read_more-full.ensures)
+slice_bounds-answer_lines-end-in-loop-rounds g c = sym (length-take-le _ _ c.read_more-full.ensures)
 
 pub keep_rest-kept-requires : goal.keep_rest-kept-requires
-keep_rest-kept-requires c = (within_first _ _ _ c.read_more-full.ensures c.answer_lines-done.ensures, c.read_more-full.ensures)
+keep_rest-kept-requires g c = (within_first _ _ _ c.read_more-full.ensures c.answer_lines-done.ensures, c.read_more-full.ensures)
 
 pub shape_of-input : goal.shape_of-input
-shape_of-input c = c.loop-rounds.invariant.1
+shape_of-input g c = c.loop-rounds.invariant.1
 
 pub shape_of-spare : goal.shape_of-spare
-shape_of-spare c = c.loop-rounds.invariant.2
+shape_of-spare g c = c.loop-rounds.invariant.2

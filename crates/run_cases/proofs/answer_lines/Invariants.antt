@@ -4,7 +4,7 @@ use lib.ListN.{length}
 use Rattle.run_cases.proofs.answer_lines.Given as goal
 
 abbrev pub invariant-loop-at : goal.invariant-loop-at
-invariant-loop-at l = l.at ≤ length l.lines
+invariant-loop-at g l = l.at ≤ length l.lines
 
 abbrev pub decreases-loop-at : goal.decreases-loop-at
-decreases-loop-at l = length l.lines - l.at
+decreases-loop-at g l = length l.lines - l.at
