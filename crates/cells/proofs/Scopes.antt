@@ -6,18 +6,18 @@ use native.Mathlib.Omega.{arith}
 use lib.Dec.{eqb, ltb}
 use borrow.Author.Tests.{eqb-true, eqb-false, ltb-true, ltb-false, ne_eqb, lt-ltb, le-ltb}
 use Rattle.wire.specs.Bytes.{pick}
-use Rattle.rules.specs.State.{Scope, topScope, nodeScope, class_scope, body_scope, same_scope, Cell, no_cell, Cells}
+use Rattle.rules.specs.State.{Scope, top_scope, node_scope, class_scope, body_scope, same_scope, Cell, no_cell, Cells}
 use Rattle.rules.proofs.Lists.{scope_same, scope_only}
 use Rattle.cells.specs.Scopes.{scope_number, scope_of, numbered}
 use Rattle.cells.specs.Memory.{by_scope}
 
 -- what holds in each of the four ranges holds of the scope of a number
-pub scope_cases : (P : Scope → Type 0) (a : ℕ) → (a ≡ 0 → P topScope) → (a ≡ 1 → P nodeScope) → (2 ≤ a → a < 1026 → P (class_scope (a - 2)))
+pub scope_cases : (P : Scope → Type 0) (a : ℕ) → (a ≡ 0 → P top_scope) → (a ≡ 1 → P node_scope) → (2 ≤ a → a < 1026 → P (class_scope (a - 2)))
     → (1026 ≤ a → P (body_scope (a - 1026))) → P (scope_of a)
 unfolding scope_of
 scope_cases P a top node class body = go (eqb a 0) refl (eqb a 1) refl (ltb a 1026) refl
   where
-    go : (x : Bool) → eqb a 0 ≡ x → (y : Bool) → eqb a 1 ≡ y → (z : Bool) → ltb a 1026 ≡ z → P (pick x topScope (pick y nodeScope (pick z (class_scope (a - 2)) (body_scope (a - 1026)))))
+    go : (x : Bool) → eqb a 0 ≡ x → (y : Bool) → eqb a 1 ≡ y → (z : Bool) → ltb a 1026 ≡ z → P (pick x top_scope (pick y node_scope (pick z (class_scope (a - 2)) (body_scope (a - 1026)))))
     go true e y f z g = top (eqb-true a 0 e)
     go false e true f z g = node (eqb-true a 1 f)
     go false e false f true g =
@@ -46,18 +46,18 @@ body_scope_lem n =
     let back : 1026 + n - 1026 ≡ n = omega arith in
     rw (ne_eqb (1026 + n) 0 (λ e. omega arith), ne_eqb (1026 + n) 1 (λ e. omega arith), le-ltb (1026 + n) 1026 (omega arith), back)
 
-pub top_scope : scope_of 0 ≡ topScope
+pub top_scope_lem : scope_of 0 ≡ top_scope
 unfolding scope_of
-top_scope = refl
+top_scope_lem = refl
 
-pub node_scope : scope_of 1 ≡ nodeScope
+pub node_scope_lem : scope_of 1 ≡ node_scope
 unfolding scope_of
-node_scope = refl
+node_scope_lem = refl
 
 pub scope_back : (s : Scope) → numbered s ≡ true → scope_of (scope_number s) ≡ s
 unfolding scope_number numbered
-scope_back topScope e = top_scope
-scope_back nodeScope e = node_scope
+scope_back top_scope e = top_scope_lem
+scope_back node_scope e = node_scope_lem
 scope_back (class_scope c) e = class_scope_lem c (ltb-true c 1024 e)
 scope_back (body_scope n) e = body_scope_lem n
 

@@ -6,7 +6,7 @@ use Rattle.labels.specs.Sets.{◌∪◌}
 use Rattle.values.specs.declared.Reason.TheVariants.{AssignedAgain, CellLimit}
 use Rattle.wire.specs.Bytes.{pick}
 use Rattle.rules.specs.Outcome.{Outcome, refused, done, ◌>>=◌}
-use Rattle.rules.specs.State.{Scope, Base, topBase, nodeBase, DeclaredClass, Cell, no_cell, Cells, same_scope, mark_into, count, Entry, State, cells_for, one_if}
+use Rattle.rules.specs.State.{Scope, Base, top_base, node_base, DeclaredClass, Cell, no_cell, Cells, same_scope, mark_into, count, Entry, State, cells_for, one_if}
 use Rattle.cells.specs.declared.Found.{Found}
 use Rattle.cells.specs.declared.Found.TheVariants.{At, Nothing}
 use Rattle.cells.specs.declared.Stored.{Stored}
@@ -41,8 +41,8 @@ used_of w = used_in (slots_of w)
 -- ---- Names
 
 unfoldable pub base_for : (is_node : Bool) → Base
-base_for true = nodeBase
-base_for false = topBase
+base_for true = node_base
+base_for false = top_base
 
 unfoldable pub class_from : (state parent : ℕ) → Option DeclaredClass
 class_from t q = pick (eqb t 0) none (some (record { parent = scope_of q; base = base_for (eqb t 2) }))

@@ -47,7 +47,7 @@ use Rattle.evaluator.specs.Answers.{refused_by}
 use Rattle.evaluator.proofs.Names.{ready_first}
 use Rattle.resources.specs.declared.Filled.{Filled}
 use Rattle.resources.specs.declared.Filled.TheVariants.{Done, Refused}
-use Rattle.execution.specs.Executed.{Able, Stage, state_with, Ends, refused_so as endsRefused, done_so as endsDone, AbleAfter, Executes, begun}
+use Rattle.execution.specs.Executed.{Able, Stage, state_with, Ends, refused_so as ends_refused, done_so as ends_done, AbleAfter, Executes, begun}
 use Rattle.definitions.specs.Prepared.{Prepares, Blank, NodeBlock}
 use Rattle.definitions.specs.declared.Gathered.{Gathered}
 use Rattle.definitions.specs.declared.Gathered.TheVariants as Gathers
@@ -99,8 +99,8 @@ statement_kind t e a b c = rw (ne_eqb t 0x30 a, ne_eqb t 0x32 b, ne_eqb t 0x34 c
 module _ {m w out : List ℕ} {left : ℕ} {c : Option ℕ} {ps : List ℕ} {k : Known} {ask : Question} {o : Outcome State} where
   then_items : {a : Filled} → Ends m w out left k ask o a → ItemsEnd m w out left c ps k ask (o >>= λ st. run_places m c ps k st) a
   unfolding ◌>>=◌
-  then_items (endsRefused e) = refused_so (ap (λ (x : Outcome State). x >>= λ st. run_places m c ps k st) e)
-  then_items (endsDone es e s) = goes_on es (ap (λ (x : Outcome State). x >>= λ st. run_places m c ps k st) e) s
+  then_items (ends_refused e) = refused_so (ap (λ (x : Outcome State). x >>= λ st. run_places m c ps k st) e)
+  then_items (ends_done es e s) = goes_on es (ap (λ (x : Outcome State). x >>= λ st. run_places m c ps k st) e) s
 
 items_same : {m w out : List ℕ} {left : ℕ} {c : Option ℕ} {ps : List ℕ} {k : Known} {ask : Question} {o o' : Outcome State} {a : Filled} → o ≡ o' → ItemsEnd m w out left c ps k ask o' a → ItemsEnd m w out left c ps k ask o a
 items_same e i = rw e i

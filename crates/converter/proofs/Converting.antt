@@ -12,7 +12,7 @@ use Prim.Native.Nat.{ℕ, ◌+◌, ◌<◌, ◌≤◌}
 use Rattle.values.specs.declared.Reason.{Reason}
 use Rattle.values.specs.declared.Reason.TheVariants.{MemoryTooShort, OutsideNotation, PastLine255}
 use Rattle.rules.specs.EditRule.{IsBytes}
-use Rattle.rules.specs.Fields.{none as noFields, write, write_all}
+use Rattle.rules.specs.Fields.{none as fields_end, write, write_all}
 use Rattle.rules.specs.Outcome.{Outcome, refused, done, ◌>>=◌, refuse_if}
 use Rattle.rules.proofs.Lists.{either_left, either_right}
 use Rattle.rules.specs.Compile.{checked}
@@ -87,7 +87,7 @@ module _ (types : Types) (t : List ℕ) {out out₁ out' work work₁ work' : Li
 
 module _ (types : Types) {t table : List ℕ} {count fill : ℕ} (x : Measured types t table count fill) where
   abbrev pub item_bytes : List ℕ
-  item_bytes = write_all (numbered_onto (strings t table count) x.items noFields)
+  item_bytes = write_all (numbered_onto (strings t table count) x.items fields_end)
 
   abbrev manifest : List ℕ
   manifest = manifest_bytes (tokens t) x.items

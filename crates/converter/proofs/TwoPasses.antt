@@ -10,7 +10,7 @@ use borrow.Rule.Slice.PartMut.{put_mid, post_of}
 use Prim.Native.Nat.{ℕ, ◌-◌, ◌≤◌, ◌<◌}
 use Rattle.values.specs.declared.Reason.TheVariants.{OutsideNotation}
 use Rattle.rules.specs.EditRule.{IsBytes}
-use Rattle.rules.specs.Fields.{none as noFields, write_all}
+use Rattle.rules.specs.Fields.{none as fields_end, write_all}
 use Rattle.rules.specs.Outcome.{refused, done}
 use Rattle.rules.specs.Types.{Types}
 use Rattle.notation.specs.Lexing.{tokens}
@@ -102,7 +102,7 @@ module _ (types : Types) {t table : List ℕ} {count before : ℕ} {out : List �
       let measured : Measured types t table count f.fill = f.measured in
       let same_table : strings t table' n ≡ strings t table count = x.table_is ∙ table_stays types f in
       let same_items : x.items ≡ measured.items = done_same (sym x.read ∙ items_again types f) in
-      let same : write_all (numbered_onto (strings t table' n) x.items noFields) ≡ item_bytes types measured = ap (λ (T : List (List ℕ)). write_all (numbered_onto T x.items noFields)) same_table ∙ ap (λ (ks : Nodes). write_all (numbered_onto (strings t table count) ks noFields)) same_items in
+      let same : write_all (numbered_onto (strings t table' n) x.items fields_end) ≡ item_bytes types measured = ap (λ (T : List (List ℕ)). write_all (numbered_onto T x.items fields_end)) same_table ∙ ap (λ (ks : Nodes). write_all (numbered_onto (strings t table count) ks fields_end)) same_items in
       let size : fill ≡ f.fill = x.fill_is ∙ ap length same ∙ sym measured.fill_is in
       ap (λ (n : ℕ). take n part) (sym size) ∙ x.written (omega arith) (rw (sym same) at (items_bytes types f)) ∙ same
 

@@ -2,7 +2,7 @@
 use Rattle.std.specs.Prelude.{ℕ, ◌≤◌, ◌<◌, ◌≡◌, List, [], false, length, take}
 use Rattle.std.proofs.Math.Option.{none}
 use Rattle.rules.specs.EditRule.{IsBytes}
-use Rattle.rules.specs.Fields.{none as noFields, write_all}
+use Rattle.rules.specs.Fields.{none as fields_end, write_all}
 use Rattle.rules.specs.Outcome.{done}
 use Rattle.rules.specs.Types.{Types}
 use Rattle.notation.specs.declared.Answer.{Answer}
@@ -31,7 +31,7 @@ pub record Measured (types : Types) (t table : List ℕ) (count fill : ℕ) : Ty
   pub early : late_among items ≡ none
   pub table_is : strings t table count ≡ table_behind (tokens t) []
   pub enterable : Enterable t table count
-  pub fill_is : fill ≡ length (write_all (numbered_onto (strings t table count) items noFields))
+  pub fill_is : fill ≡ length (write_all (numbered_onto (strings t table count) items fields_end))
   pub low : fill ≤ 1000000
 
 -- its manifest fits, and its numbers are bytes; the items come behind the table

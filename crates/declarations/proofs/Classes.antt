@@ -18,7 +18,7 @@ use Rattle.places.specs.At.{item_at, parent_at, after_parent_at, parameters_at, 
 use Rattle.places.proofs.Items.{class_definition_opens, parent_given, parent_none, after_given, after_none}
 use Rattle.cells.specs.Scopes.{scope_of}
 use Rattle.cells.specs.Memory.{base_for, classes_of, state_of, Becomes}
-use Rattle.cells.proofs.Scopes.{class_scope_lem, top_scope, node_scope}
+use Rattle.cells.proofs.Scopes.{class_scope_lem, top_scope_lem, node_scope_lem}
 use Rattle.memory.specs.declared.Context.{Context as Here}
 use Rattle.memory.specs.Contexts.{context_of}
 use Rattle.memory.specs.Names.{placed, at_node}
@@ -71,8 +71,8 @@ module _ (m : List ℕ) (q : ℕ) {b : ℕ} (read : b ≡ byte m q) where
   scope_base node other = rw (no_parent_lem other) (go node)
     where
       go : (node : Bool) → scope_of (one_if node) ≡ base_scope (base_for node)
-      go true = node_scope
-      go false = top_scope
+      go true = node_scope_lem
+      go false = top_scope_lem
 
   -- class_base
   pub base_own : (w : List ℕ) (node : Bool) → (b ≡ 0x35 → ⊥) → base_for node ≡ base_with (parent_at m q) (base_for node) (classes_of w)

@@ -23,7 +23,7 @@ use Rattle.places.specs.At.{item_at}
 use Rattle.places.proofs.Items.{type_definition_opens, class_definition_opens}
 use Rattle.cells.specs.Layout.{put_at}
 use Rattle.cells.specs.Memory.{definition_of, built_in_of, Names, names_of, Becomes}
-use Rattle.memory.specs.Names.{with_definition as definedAs}
+use Rattle.memory.specs.Names.{with_definition as defined_as}
 use Rattle.summaries.proofs.Summaries.{summarized_still}
 use Rattle.evaluator.specs.Known.{DefinedAt, undefined, type_at, class_at, KnownIn}
 use Rattle.declarations.specs.Standing.{Set, Defined, defined}
@@ -122,13 +122,13 @@ module _ (m : List ℕ) (p : ℕ) (s : ItemStands m p) (n : ℕ) (ds : List Defi
   found_here (class_definition d) (inl e) tree h = let o = same_definition tree (type_definition_opens s.stands.stands e).tree in let z : ◌≡◌ {A = ℕ} 0 1 = cc in absurd (omega arith)
   found_here (class_definition d) (inr e) tree h = rw (class_here n d ds h, type_past_class n ds d, no_type) (class_at s.after s.stands e tree)
 
-module _ (m w w' : List ℕ) (p : ℕ) (set : Set m w) (s : ItemStands m p) (i : IsDefinition m p) {x y : ℕ} (named : x ≡ two m (p + 3)) (at_p : y ≡ p) (size : length w' ≡ length w) (become : Becomes w w' (λ st. st) (definedAs x y)) where
+module _ (m w w' : List ℕ) (p : ℕ) (set : Set m w) (s : ItemStands m p) (i : IsDefinition m p) {x y : ℕ} (named : x ≡ two m (p + 3)) (at_p : y ≡ p) (size : length w' ≡ length w) (become : Becomes w w' (λ st. st) (defined_as x y)) where
   built_ins_kept : (n : ℕ) → built_in_of w' n ≡ built_in_of w n
-  unfolding names_of definedAs
+  unfolding names_of defined_as
   built_ins_kept n = ap (λ (ns : Names). ns.built_ins n) become.names
 
   definition_put : (n : ℕ) → definition_of w' n ≡ pick (eqb n x) y (definition_of w n)
-  unfolding names_of definedAs put_at
+  unfolding names_of defined_as put_at
   definition_put n = ap (λ (ns : Names). ns.definitions n) become.names
 
   definition_here : (n : ℕ) → eqb n x ≡ true → definition_of w' n ≡ p

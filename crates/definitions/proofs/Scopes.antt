@@ -55,8 +55,8 @@ manifest_small m c =
 
 -- every state that the run of a sound manifest passes is tidy (rules/proofs/Scopes.antt), so in it more than 1,026 scopes change no read and a body's
 -- scope is empty when it is entered; here for the state at its end
-pub manifest_tidy : (struck_out : Constant → Bool) (types : Types) (m device : List ℕ) (limit outputLength : ℕ) → check m ≡ Sound → All (Tidy everywhere) (run_manifest struck_out types (manifest_of m) device limit outputLength)
+pub manifest_tidy : (struck_out : Constant → Bool) (types : Types) (m device : List ℕ) (limit output_length : ℕ) → check m ≡ Sound → All (Tidy everywhere) (run_manifest struck_out types (manifest_of m) device limit output_length)
 unfolding run_manifest known_with
-manifest_tidy struck_out types m device limit outputLength c =
+manifest_tidy struck_out types m device limit output_length c =
     all_bind (gathered_each (λ d. small_definition_lem) (is_built_in types (manifest_of m).strings) (manifest_small m c) none_left) λ ds small.
-    items_tidy (known_with struck_out types (manifest_of m).strings ds) small (items_for_each (manifest_of m).strings device (manifest_small m c)) (start limit outputLength) (start_tidy limit outputLength)
+    items_tidy (known_with struck_out types (manifest_of m).strings ds) small (items_for_each (manifest_of m).strings device (manifest_small m c)) (start limit output_length) (start_tidy limit output_length)

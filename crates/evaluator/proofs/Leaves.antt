@@ -18,7 +18,7 @@ use Rattle.places.proofs.Open.{level}
 use Rattle.places.proofs.Expressions.{constant_opens, variable_opens, top_variable_opens, class_variable_opens, OperationAt, operation_opens, NegationAt, negation_opens, AttributeReadAt, attribute_read_opens, SelectorAt, selector_opens}
 use Rattle.cells.specs.Scopes.{scope_of}
 use Rattle.cells.specs.Memory.{cells_of, classes_of, base_for, state_of}
-use Rattle.cells.proofs.Scopes.{top_scope}
+use Rattle.cells.proofs.Scopes.{top_scope_lem}
 use Rattle.memory.specs.declared.Scope.{Scope}
 use Rattle.memory.specs.Contexts.{context_in}
 use Rattle.evaluator.specs.declared.Evaluated.{Evaluated}
@@ -87,7 +87,7 @@ module _ (m w out : List ℕ) (fill : ℕ) (scope : Scope) (d p : ℕ) where
     unfolding evaluate state_of
     says_top {n} is name e s = record {
       says = λ k path es n' r h.
-          e ∙ read_one p (cells_of w) n (classes_of w) (base_for false) (scope_of 0) ∙ (λ i. read_in p (cells_of w) (name i) (top_scope i ∷ [])) ∙ sym (ap (evaluate k (context_in scope path) (state_of w es n' r)) (top_variable_opens s.stands (sym tag ∙ is)));
+          e ∙ read_one p (cells_of w) n (classes_of w) (base_for false) (scope_of 0) ∙ (λ i. read_in p (cells_of w) (name i) (top_scope_lem i ∷ [])) ∙ sym (ap (evaluate k (context_in scope path) (state_of w es n' r)) (top_variable_opens s.stands (sym tag ∙ is)));
     }
 
     pub says_class : {q n : ℕ} {a : Outcome Labelled} → t ≡ 0x15 → q ≡ two m (p + 3) → n ≡ two m (p + 5) → ((k : Known) → KnownIn m w k → a ≡ class_read k p (cells_of w) q n) → StandsAs m d ExpressionKind p → Said a

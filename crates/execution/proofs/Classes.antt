@@ -45,7 +45,7 @@ use Rattle.declarations.specs.declared.Class.TheVariants.{At, Refused as NotFoun
 use Rattle.declarations.specs.declared.StartedClass.{StartedClass}
 use Rattle.declarations.specs.declared.StartedClass.TheVariants.{Body, Refused as NotStarted}
 use Rattle.declarations.specs.Standing.{NamesKnown, Set}
-use Rattle.declarations.specs.Classes.{Checked, check_class, ClassStands, FoundStands, FoundAs, refused_so as notFound, found_so, ChecksClass, Entered, started_as, BodyStands, StartsClass}
+use Rattle.declarations.specs.Classes.{Checked, check_class, ClassStands, FoundStands, FoundAs, refused_so as not_found, found_so, ChecksClass, Entered, started_as, BodyStands, StartsClass}
 use Rattle.declarations.proofs.Laws.{class_runs, include_runs, class_enters}
 use Rattle.execution.specs.Executed.{Able, Stage, state_with, Ends, refused_so, done_so, AbleAfter, Executes, Enters, asked}
 use Rattle.execution.proofs.Ends.{ended_done, ended_refused, ends_same, stage_kept, refuses, stops, goes_on, able_after}
@@ -217,7 +217,7 @@ module _ {m t w : List ℕ} {levels p q first end : ℕ} {again : Bool} {found :
       (go (subst (FoundAs m (check_class k again p q gs (state_with w out fill left es))) is (checks.says k es _ _ gs g.ready.known gives alikes))))
     where
       go : {o : Outcome Checked} → FoundAs m o (NotFound why) → o ≡ refused_by why
-      go (notFound e) = e
+      go (not_found e) = e
 
   module _ {d : ℕ} (is : found ≡ At d) (gs : List Given) (gives : Gives t gs) (alikes : Alike m gs (fields_in m first end)) (empty : again ≡ false → gs ≡ []) where
     found_class : (left : ℕ) {out : List ℕ} {fill : ℕ} {k : Known} {ask : Question} (c : Context) {es : List Entry} → Stage m w out fill k ask es → FoundClass m k n p q d again gs c (state_with w out fill left es)

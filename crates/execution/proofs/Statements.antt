@@ -53,7 +53,7 @@ use Rattle.provenance.specs.Notes.{Question, NotesResource}
 use Rattle.provenance.proofs.Notes.{noted_same}
 use Rattle.resources.specs.declared.Filled.{Filled}
 use Rattle.resources.specs.declared.Filled.TheVariants.{Done, Refused}
-use Rattle.resources.specs.Entries.{Within, Means, refused_so as refusedThere, done_so as doneThere}
+use Rattle.resources.specs.Entries.{Within, Means, refused_so as refused_there, done_so as done_there}
 use Rattle.resources.specs.Entries as resources
 use Rattle.declarations.specs.Standing.{NamesKnown}
 use Rattle.declarations.proofs.Laws.{set_kept, known_kept}
@@ -119,19 +119,19 @@ module _ {m w v out : List ℕ} {fill d p : ℕ} {here : Here} (notes : NotesRes
   }
 
 module _ {m w v out out' : List ℕ} {d p fill room : ℕ} {here : Here} {built : Bool} {name : ℕ} (able : Able m w out fill) (s : StandsAs m d StatementKind p) (tag : byte m p ≡ 0x25) (notes : NotesResource m w v out fill here d p) (size : length v ≡ length w)
-    (named : name ≡ two m (p + 3)) (isBuilt : built ≡ built_in_of v name) (is_room : room ≡ room_in (length out) - fill) {a : Filled} (runs : resources.Runs m v out out' fill room here d p built a) (n levels : ℕ) where
+    (named : name ≡ two m (p + 3)) (is_built : built ≡ built_in_of v name) (is_room : room ≡ room_in (length out) - fill) {a : Filled} (runs : resources.Runs m v out out' fill room here d p built a) (n levels : ℕ) where
   abbrev statement_run : Known → Context → State → Outcome State
   statement_run k = run k (declaration k levels) (statement_at m d p)
 
   meant : (k : Known) (ask : Question) (es : List Entry) → Stage m w out fill k ask es → Means v out' fill room n es (statement_run k (context_of here) (state_with w out fill n es)) a
   meant k ask es stage =
-      rw (sym is_room) (subst (λ (st : State). Means v out' fill room n es (statement_run k (context_of here) st) a) (notes.set.state es n room) (runs.says s.stands tag (rw (sym named) isBuilt) k (declaration k levels) es n (ready_noted notes stage.ready)))
+      rw (sym is_room) (subst (λ (st : State). Means v out' fill room n es (statement_run k (context_of here) st) a) (notes.set.state es n room) (runs.says s.stands tag (rw (sym named) is_built) k (declaration k levels) es n (ready_noted notes stage.ready)))
 
   pub resource_refused : {why : Refusal} → a ≡ Refused why → Executes m w v out out' fill n n (context_of here) a statement_run
   resource_refused {why} is = rw is (refuses why (omega arith) λ k ask es stage. refused_so_lem (rw is at (meant k ask es stage)))
     where
       refused_so_lem : {es : List Entry} {o : Outcome State} → Means v out' fill room n es o (Refused why) → o ≡ refused_by why
-      refused_so_lem (refusedThere e) = e
+      refused_so_lem (refused_there e) = e
 
   -- the new fill point is within the output
   pub resource_within : {f : ℕ} → a ≡ Done f → (f ≤ length out') × (f ≤ 65535)
@@ -159,7 +159,7 @@ module _ {m w v out out' : List ℕ} {d p fill room : ℕ} {here : Here} {built 
 
     done_so_lem : (k : Known) (ask : Question) (es : List Entry) → Stage m w out fill k ask es → Means v out' fill room n es (statement_run k (context_of here) (state_with w out fill n es)) (Done f) → DoneAs m w' out' f n k ask (statement_run k (context_of here) (state_with w out fill n es))
     unfolding Within
-    done_so_lem k ask es stage (doneThere x e written once) =
+    done_so_lem k ask es stage (done_there x e written once) =
         let within : Within fill room (Done f) = rw is at runs.within in
         let long = runs.kept.long in
         let ready : Ready m v out fill k es = ready_noted notes stage.ready in

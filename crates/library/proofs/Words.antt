@@ -15,7 +15,7 @@ use Rattle.rules.specs.Why.{Told}
 use Rattle.values.proofs.Reasons.{number_range}
 use Rattle.notation.specs.declared.Answer.{Answer as TextAnswer}
 use Rattle.notation.specs.declared.Answer.TheVariants.{Written, Refused as RefusedText}
-use Rattle.notation.specs.Convert.{Effect, accepted as written, refusal, said as saidOfText}
+use Rattle.notation.specs.Convert.{Effect, accepted as written, refusal, said as said_of_text}
 use Rattle.library.specs.Called.{word_of, text_word, Tells, explanation_word, Answers}
 
 pub word_accepted : {a : Answer} {n s : ℕ} → a ≡ Catalog n s → s * 65536 + n ≡ word_of (said a)
@@ -27,17 +27,17 @@ unfolding word_of said
 word_refused e h = h ∙ sym (ap (λ (a : Answer). word_of (said a)) e)
 
 -- the same of the text tools
-pub word_written : {a : TextAnswer} {n : ℕ} → a ≡ Written n → n ≡ text_word (saidOfText a)
-unfolding text_word saidOfText
-word_written e = sym (ap (λ (a : TextAnswer). text_word (saidOfText a)) e)
+pub word_written : {a : TextAnswer} {n : ℕ} → a ≡ Written n → n ≡ text_word (said_of_text a)
+unfolding text_word said_of_text
+word_written e = sym (ap (λ (a : TextAnswer). text_word (said_of_text a)) e)
 
-pub word_text_refused : {a : TextAnswer} {r : Reason} {p k : ℕ} → a ≡ RefusedText r p → k ≡ number_of r * 4294967296 + p → k ≡ text_word (saidOfText a)
-unfolding text_word saidOfText
-word_text_refused e h = h ∙ sym (ap (λ (a : TextAnswer). text_word (saidOfText a)) e)
+pub word_text_refused : {a : TextAnswer} {r : Reason} {p k : ℕ} → a ≡ RefusedText r p → k ≡ number_of r * 4294967296 + p → k ≡ text_word (said_of_text a)
+unfolding text_word said_of_text
+word_text_refused e h = h ∙ sym (ap (λ (a : TextAnswer). text_word (said_of_text a)) e)
 
 -- what a call leaves, told with a word
-pub tells : {wanted : Effect} {answer : TextAnswer} {out work : List ℕ} {word : ℕ} → record { answer = answer; output_after = out; memory_after = work } ≡ wanted → word ≡ text_word (saidOfText answer) → Tells wanted out work word
-tells e told = record { told = told ∙ ap (λ (w : Effect). text_word (saidOfText w.answer)) e; output = ap (λ (w : Effect). w.output_after) e; memory = ap (λ (w : Effect). w.memory_after) e }
+pub tells : {wanted : Effect} {answer : TextAnswer} {out work : List ℕ} {word : ℕ} → record { answer = answer; output_after = out; memory_after = work } ≡ wanted → word ≡ text_word (said_of_text answer) → Tells wanted out work word
+tells e told = record { told = told ∙ ap (λ (w : Effect). text_word (said_of_text w.answer)) e; output = ap (λ (w : Effect). w.output_after) e; memory = ap (λ (w : Effect). w.memory_after) e }
 
 -- the same of the why tool
 pub word_among : {x : Explanation} {part : SetPart} {k place : ℕ} → x ≡ Among part place → k ≡ part_number part → k * 65536 + place ≡ explanation_word x

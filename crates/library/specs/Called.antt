@@ -7,7 +7,7 @@ use Rattle.values.specs.Numbers.{Said, accepted, refused, said, number_of, part_
 use Rattle.rules.specs.Why.{Told}
 use Rattle.rules.specs.Types.{Types}
 use Rattle.compiler.specs.Compiled.{Compiles}
-use Rattle.notation.specs.Convert.{Effect, accepted as written, refusal, said as saidOfText}
+use Rattle.notation.specs.Convert.{Effect, accepted as written, refusal, said as said_of_text}
 use Rattle.notation.specs.Convert as texts
 
 -- accepted: the steps in the bits from 16 on, the catalog's length in the lowest 16; refused: the number in the bits from 32 on, the place
@@ -31,7 +31,7 @@ text_word (refusal k p) = k * 4294967296 + p
 
 -- the word is that of the answer, and the bytes lent are as they are after it
 pub record Tells (effect : Effect) (output_after memory_after : List ℕ) (word : ℕ) : Type 0 where
-  pub told : word ≡ text_word (saidOfText effect.answer)
+  pub told : word ≡ text_word (said_of_text effect.answer)
   pub output : output_after ≡ effect.output_after
   pub memory : memory_after ≡ effect.memory_after
 

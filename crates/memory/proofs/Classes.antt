@@ -11,11 +11,11 @@ use borrow.Author.Tests.{eqb-true, ne_eqb}
 use Rattle.wire.specs.Bytes.{pick, byte, two}
 use Rattle.wire.specs.Numbers.{high_bytes}
 use Rattle.wire.specs.Runs.{over}
-use Rattle.rules.specs.State.{Base, topBase, nodeBase, base_scope, DeclaredClass, parent_of_class, parent_of, Entry, is_declared, mark_declared, one_if}
+use Rattle.rules.specs.State.{Base, top_base, node_base, base_scope, DeclaredClass, parent_of_class, parent_of, Entry, is_declared, mark_declared, one_if}
 use Rattle.cells.specs.Layout.{record_at, put_at, NameRecord, name_at, records_of, name_class, name_parent}
 use Rattle.cells.specs.Scopes.{scope_of}
 use Rattle.cells.specs.Memory.{base_for, class_from, class_in, definition_in, built_in_in, classes_of, definition_of, built_in_of, names_of, state_of, Becomes}
-use Rattle.cells.proofs.Scopes.{scope_cases, top_scope, node_scope}
+use Rattle.cells.proofs.Scopes.{scope_cases, top_scope_lem, node_scope_lem}
 use Rattle.memory.specs.declared.Above.TheVariants.{At, Nothing}
 use Rattle.memory.specs.Names.{class_state, placed, scope_above, is_node, at_node}
 use Rattle.memory.proofs.Records.{record_in_lem, by_record, Filed, and_then, class_to, parent_to, class_filed, parent_filed, slots_kept, rest_kept, read_kept, read_put, names_are, state_is}
@@ -91,8 +91,8 @@ unfolding at_node is_node base_for
 base_told c d e = rw e (go d.base)
   where
     go : (b : Base) → base_for (is_node b) ≡ b
-    go topBase = refl
-    go nodeBase = refl
+    go top_base = refl
+    go node_base = refl
 
 -- parent_of
 module _ (w : List ℕ) (b : Bool) (a : ℕ) where
@@ -102,15 +102,15 @@ module _ (w : List ℕ) (b : Bool) (a : ℕ) where
 
   pub above_node : a ≡ 1 → scope_above (At 0) ≡ parent_of (classes_of w) (base_for b) (scope_of a)
   unfolding scope_above parent_of
-  above_node e = scope_cases (λ s. some (scope_of 0) ≡ parent_of (classes_of w) (base_for b) s) a (λ p. absurd (omega arith)) (λ _. ap some top_scope) (λ p q. absurd (omega arith)) (λ p. absurd (omega arith))
+  above_node e = scope_cases (λ s. some (scope_of 0) ≡ parent_of (classes_of w) (base_for b) s) a (λ p. absurd (omega arith)) (λ _. ap some top_scope_lem) (λ p q. absurd (omega arith)) (λ p. absurd (omega arith))
 
   pub above_body : {r : ℕ} → 1026 ≤ a → r ≡ one_if b → scope_above (At r) ≡ parent_of (classes_of w) (base_for b) (scope_of a)
   unfolding scope_above parent_of one_if base_for base_scope
   above_body {r} h e = scope_cases (λ s. some (scope_of r) ≡ parent_of (classes_of w) (base_for b) s) a (λ p. absurd (omega arith)) (λ p. absurd (omega arith)) (λ p q. absurd (omega arith)) (λ p. ap some (ap scope_of e ∙ base b))
     where
       base : (b : Bool) → scope_of (one_if b) ≡ base_scope (base_for b)
-      base true = node_scope
-      base false = top_scope
+      base true = node_scope_lem
+      base false = top_scope_lem
 
   -- a class: its record is that of the name a - 2
   above_class : (o : Option DeclaredClass) → 2 ≤ a → a < 1026 → classes_of w (a - 2) ≡ o → parent_of (classes_of w) (base_for b) (scope_of a) ≡ parent_of_class o

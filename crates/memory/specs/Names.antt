@@ -2,7 +2,7 @@
 use Rattle.std.specs.Prelude.{ℕ, ◌+◌, ◌-◌, ◌≤◌, ◌<◌, ◌≡◌, List, [], eqb, ltb, Bool, true, false}
 use Rattle.wire.specs.Bytes.{pick, two}
 use Rattle.std.proofs.Math.Option.{Option, none, some}
-use Rattle.rules.specs.State.{Scope, Base, topBase, nodeBase, DeclaredClass, Entry}
+use Rattle.rules.specs.State.{Scope, Base, top_base, node_base, DeclaredClass, Entry}
 use Rattle.rules.specs.Compile.{room_in, start}
 use Rattle.cells.specs.Layout.{words_at, summary_at, head_at, index_at, put_at, rest_of}
 use Rattle.cells.specs.Scopes.{scope_of}
@@ -20,7 +20,7 @@ unfoldable pub with_built_in : (name : ℕ) → Bool → Names → Names
 with_built_in k v ns = record { definitions = ns.definitions; built_ins = put_at k v ns.built_ins }
 
 -- the state of a class that is declared: 1 with base top, 2 with base node
-unfoldable pub class_state : (baseIsNode : Bool) → ℕ
+unfoldable pub class_state : (base_is_node : Bool) → ℕ
 class_state true = 2
 class_state false = 1
 
@@ -28,7 +28,7 @@ class_state false = 1
 unfoldable pub no_names : Names
 no_names = record { definitions = λ k. 0; built_ins = λ k. false }
 
-abbrev pub placed : (parent : ℕ) → (baseIsNode : Bool) → DeclaredClass
+abbrev pub placed : (parent : ℕ) → (base_is_node : Bool) → DeclaredClass
 placed q b = record { parent = scope_of q; base = base_for b }
 
 -- the scope that an answer names by its number
@@ -37,8 +37,8 @@ scope_above (At q) = some (scope_of q)
 scope_above Nothing = none
 
 unfoldable pub is_node : Base → Bool
-is_node topBase = false
-is_node nodeBase = true
+is_node top_base = false
+is_node node_base = true
 
 -- whether a class is declared with base node
 unfoldable pub at_node : Option DeclaredClass → Bool

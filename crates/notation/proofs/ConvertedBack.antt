@@ -67,14 +67,14 @@ module _ (types : Types) {m : List ℕ} {xs : List Lexeme} {ks : Nodes} (b : Bui
   written_named = written_tree types (text_whole types xs ks b.good items_read) late_not ∙ b.same
 
 -- a text of these tokens is converted, where the output has room for the manifest
-pub converted_back : (types : Types) {m : List ℕ} {xs : List Lexeme} {ks : Nodes} → BuildsTreeOf types m xs ks → check_types types ≡ Sound → (given : List ℕ) (outputLength memoryLength : ℕ) → length m ≤ outputLength → 65536 ≤ memoryLength → length given ≤ 65535 → tokens given ≡ xs →
-    (converted types given outputLength memoryLength ≡ done (manifest_bytes xs ks)) × (named_tree (manifest_bytes xs ks) ≡ named_tree m)
+pub converted_back : (types : Types) {m : List ℕ} {xs : List Lexeme} {ks : Nodes} → BuildsTreeOf types m xs ks → check_types types ≡ Sound → (given : List ℕ) (output_length memory_length : ℕ) → length m ≤ output_length → 65536 ≤ memory_length → length given ≤ 65535 → tokens given ≡ xs →
+    (converted types given output_length memory_length ≡ done (manifest_bytes xs ks)) × (named_tree (manifest_bytes xs ks) ≡ named_tree m)
 unfolding converted checked ◌>>=◌ refuse_if refuse_at too_long
-converted_back types {m} {xs} {ks} b listed given outputLength memoryLength room memory l e =
+converted_back types {m} {xs} {ks} b listed given output_length memory_length room memory l e =
     let short = b.short in
     let written = written_short types b in
-    let enough : ltb memoryLength 65536 ≡ false = le-ltb memoryLength 65536 memory in
+    let enough : ltb memory_length 65536 ≡ false = le-ltb memory_length 65536 memory in
     let fits : ltb 65535 (length given) ≡ false = le-ltb 65535 (length given) l in
     let whole : ltb 65535 (length (manifest_bytes xs ks)) ≡ false = le-ltb 65535 (length (manifest_bytes xs ks)) (omega arith) in
-    let holds : ltb outputLength (length (manifest_bytes xs ks)) ≡ false = le-ltb outputLength (length (manifest_bytes xs ks)) (omega arith) in
+    let holds : ltb output_length (length (manifest_bytes xs ks)) ≡ false = le-ltb output_length (length (manifest_bytes xs ks)) (omega arith) in
     (rw (enough, listed, fits, e, items_read types b, late_not types b, whole, holds), written_named types b)

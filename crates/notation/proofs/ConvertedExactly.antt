@@ -25,17 +25,17 @@ abbrev pub parts_of : Build → Nodes
 parts_of (build b (frame p t h ks) fs) = ks
 
 -- the grammar gives the text a tree; document 01's limits hold: strings, lines of constants, lengths of text and manifest; memory and output suffice; and m is the tree written
-pub record Meant (types : Types) (given : List ℕ) (outputLength memoryLength : ℕ) (m : List ℕ) : Type 0 where
+pub record Meant (types : Types) (given : List ℕ) (output_length memory_length : ℕ) (m : List ℕ) : Type 0 where
   pub tree : Build
   pub reads : Reads types manifest (tokens given) start tree
   pub few_strings : crowded_at (tokens given) [] ≡ none
   pub early_lines : late_among (parts_of tree) ≡ none
-  pub memory : 65536 ≤ memoryLength
+  pub memory : 65536 ≤ memory_length
   pub listed : check_types types ≡ Sound
   pub text_length : length given ≤ 65535
   pub same : manifest_bytes (tokens given) (parts_of tree) ≡ m
   pub manifest_length : length m ≤ 65535
-  pub output_fits : length m ≤ outputLength
+  pub output_fits : length m ≤ output_length
 
 -- what was read whole
 record Whole (e : Ended) (crowded : Option ℕ) (items : Nodes) : Type 0 where
@@ -52,24 +52,24 @@ read_whole (fault p) none items e = refused_not_done e
 read_whole (fault p) (some q) items e = refused_not_done e
 
 -- THE LAW: what converting gives is meant
-pub converted_meant : (types : Types) (given m : List ℕ) (outputLength memoryLength : ℕ) → converted types given outputLength memoryLength ≡ done m → Meant types given outputLength memoryLength m
+pub converted_meant : (types : Types) (given m : List ℕ) (output_length memory_length : ℕ) → converted types given output_length memory_length ≡ done m → Meant types given output_length memory_length m
 unfolding text_items too_long
-converted_meant types given m outputLength memoryLength e =
-    let s = converted_steps types given m outputLength memoryLength e in
+converted_meant types given m output_length memory_length e =
+    let s = converted_steps types given m output_length memory_length e in
     let written : List ℕ = manifest_bytes (tokens given) s.items in
     let w = read_whole (reading types (tokens given)) (crowded_at (tokens given) []) s.items s.read in
-    let long = subst (λ (n : List ℕ). too_long n outputLength ≡ false) s.same s.long in
+    let long = subst (λ (n : List ℕ). too_long n output_length ≡ false) s.same s.long in
     record {
       tree = w.tree;
       reads = reading_sound types (tokens given) w.tree w.read;
       few_strings = w.few;
       early_lines = rw w.parts s.late;
-      memory = ltb-false memoryLength 65536 s.memory;
+      memory = ltb-false memory_length 65536 s.memory;
       listed = s.listed;
       text_length = ltb-false 65535 (length given) s.short;
       same = rw w.parts s.same;
-      manifest_length = ltb-false 65535 (length m) (either_left (ltb 65535 (length m)) (ltb outputLength (length m)) long);
-      output_fits = ltb-false outputLength (length m) (either_right (ltb 65535 (length m)) (ltb outputLength (length m)) long);
+      manifest_length = ltb-false 65535 (length m) (either_left (ltb 65535 (length m)) (ltb output_length (length m)) long);
+      output_fits = ltb-false output_length (length m) (either_right (ltb 65535 (length m)) (ltb output_length (length m)) long);
     }
 
 parts_read : (f : Build) → read_text (built f) none ≡ done (parts_of f)
@@ -77,10 +77,10 @@ unfolding read_text
 parts_read (build b (frame p t h ks) fs) = refl
 
 -- THE LAW: what is meant is what converting gives
-pub meant_converted : (types : Types) (given m : List ℕ) (outputLength memoryLength : ℕ) → Meant types given outputLength memoryLength m → converted types given outputLength memoryLength ≡ done m
+pub meant_converted : (types : Types) (given m : List ℕ) (output_length memory_length : ℕ) → Meant types given output_length memory_length m → converted types given output_length memory_length ≡ done m
 unfolding converted checked text_items too_long ◌>>=◌ refuse_if refuse_at
-meant_converted types given m outputLength memoryLength x =
+meant_converted types given m output_length memory_length x =
     let written : List ℕ = manifest_bytes (tokens given) (parts_of x.tree) in
     let few : ltb 65535 (length written) ≡ false = le-ltb 65535 (length written) (rw x.same x.manifest_length) in
-    let fits : ltb outputLength (length written) ≡ false = le-ltb outputLength (length written) (rw x.same x.output_fits) in
-    rw (converted, le-ltb memoryLength 65536 x.memory, x.listed, le-ltb 65535 (length given) x.text_length, reading_complete types x.reads, x.few_strings, parts_read x.tree, x.early_lines, few, fits) (ap done x.same)
+    let fits : ltb output_length (length written) ≡ false = le-ltb output_length (length written) (rw x.same x.output_fits) in
+    rw (converted, le-ltb memory_length 65536 x.memory, x.listed, le-ltb 65535 (length given) x.text_length, reading_complete types x.reads, x.few_strings, parts_read x.tree, x.early_lines, few, fits) (ap done x.same)

@@ -11,7 +11,7 @@ use Rattle.rules.specs.Format.{form_of, size, head_size, three}
 use Rattle.rules.specs.Catalog.{high_bytes}
 use Rattle.rules.specs.Check.{check}
 use Rattle.rules.specs.EditRule.{IsBytes}
-use Rattle.rules.specs.Fields.{Field, field, Fields, none as noFields, more, read_all, wrap, write, write_all, head_of, tag_of, inner, first, others}
+use Rattle.rules.specs.Fields.{Field, field, Fields, none as fields_end, more, read_all, wrap, write, write_all, head_of, tag_of, inner, first, others}
 use Rattle.rules.specs.Ranges.{Each}
 use Rattle.rules.specs.Read.{strings_from, manifest_from, manifest_of}
 use Rattle.rules.specs.declared.Kind.TheVariants.{Table, Item}
@@ -85,7 +85,7 @@ module _ (table : List (List ℕ)) where
     unfolding numbered node_length write_all
 
     node_written : (k : Node) → length (write (numbered table k)) ≡ node_length k
-    node_written (node p t h ks) = omega (arith, field_length p t (head_bytes table h) (numbered_onto table ks noFields), head_written h, nodes_written ks noFields)
+    node_written (node p t h ks) = omega (arith, field_length p t (head_bytes table h) (numbered_onto table ks fields_end), head_written h, nodes_written ks fields_end)
 
     nodes_written : (ks : Nodes) (rest : Fields) → length (write_all (numbered_onto table ks rest)) ≡ nodes_length ks + length (write_all rest)
     nodes_written empty rest = omega arith
@@ -100,12 +100,12 @@ string_length s = 3 + length s
 strings_written : (ss : List (List ℕ)) → length (write_all (string_fields ss)) ≡ total string_length ss
 unfolding string_fields write_all total
 strings_written [] = refl
-strings_written (s ∷ ss) = omega (arith, length-append (write (field 0 0x02 s noFields)) (write_all (string_fields ss)), field_length 0 0x02 s noFields, strings_written ss)
+strings_written (s ∷ ss) = omega (arith, length-append (write (field 0 0x02 s fields_end)) (write_all (string_fields ss)), field_length 0 0x02 s fields_end, strings_written ss)
 
 -- fields take at least as much as the strings among them
 strings_within : (ks : Fields) → total string_length (strings_from ks) ≤ length (write_all ks)
 unfolding strings_from write_all total tag_of head_of
-strings_within noFields = omega arith
+strings_within fields_end = omega arith
 strings_within (more (field p t h js) ks) = go (eqb t 0x02) (strings_within ks)
   where
     go : (b : Bool) → total string_length (strings_from ks) ≤ length (write_all ks) → total string_length (elim b [ true ↦ h ∷ strings_from ks | false ↦ strings_from ks ]) ≤ length (write (field p t h js) ++ write_all ks)
@@ -185,8 +185,8 @@ pub no_longer : (m : List ℕ) → IsBytes m → check m ≡ Sound → (table : 
 unfolding manifest_fields write_all manifest_of manifest_from named_tree
 no_longer m bytes w table up all ks same =
     let strings : List (List ℕ) = (manifest_of m).strings in
-    let items : Fields = numbered_onto table ks noFields in
+    let items : Fields = numbered_onto table ks fields_end in
     let whole : length (write_all (read_all m)) ≡ length m = ap length (written_back m bytes w) in
     let tree : nodes_length ks ≡ nodes_length (named_tree m) = sym (nodes_unplaced ks) ∙ ap nodes_length same in
     let table_field : Field = field 0 0x01 [] (string_fields table) in
-    omega (arith, whole, tree, (manifest_taken (read_all m) (all_listed m bytes w)).enough, part_weighs string_length table strings up (strings_rise m bytes w) all, length-append (write table_field) (write_all items), field_length 0 0x01 [] (string_fields table), strings_written table, nodes_written table ks noFields)
+    omega (arith, whole, tree, (manifest_taken (read_all m) (all_listed m bytes w)).enough, part_weighs string_length table strings up (strings_rise m bytes w) all, length-append (write table_field) (write_all items), field_length 0 0x01 [] (string_fields table), strings_written table, nodes_written table ks fields_end)

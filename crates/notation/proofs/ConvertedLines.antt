@@ -26,8 +26,8 @@ pub record LinesAsLabels (types : Types) (given m : List ℕ) : Type 0 where
   pub tree : named_tree m ≡ unplaced_all items
 
 -- converting gives such a manifest
-pub converted_lines : (types : Types) (given m : List ℕ) (outputLength memoryLength : ℕ) → IsBytes given → converted types given outputLength memoryLength ≡ done m → LinesAsLabels types given m
-converted_lines types given m outputLength memoryLength b e =
-    let s = converted_steps types given m outputLength memoryLength e in
+pub converted_lines : (types : Types) (given m : List ℕ) (output_length memory_length : ℕ) → IsBytes given → converted types given output_length memory_length ≡ done m → LinesAsLabels types given m
+converted_lines types given m output_length memory_length b e =
+    let s = converted_steps types given m output_length memory_length e in
     let w = text_whole types (tokens given) s.items (tokens_good given b) s.read in
     record { items = s.items; whole = w.whole; labels = label_is_line types given s.items w.whole; written = s.same; tree = subst (λ (n : List ℕ). named_tree n ≡ unplaced_all s.items) s.same (written_tree types w s.late) }

@@ -5,7 +5,7 @@ use mathlib.Core.List.{List, []}
 use mathlib.Core.Option.{none, some}
 use lib.ListN.{length}
 use Rattle.rules.specs.EditRule.{IsBytes}
-use Rattle.rules.specs.Fields.{Fields, none as noFields, read_all, write_all, inner, first, others}
+use Rattle.rules.specs.Fields.{Fields, none as fields_end, read_all, write_all, inner, first, others}
 use Rattle.rules.specs.Outcome.{done}
 use Rattle.rules.specs.Read.{strings_from, manifest_from, manifest_of}
 use Rattle.rules.proofs.TypedBack.{unplaced_all}
@@ -36,7 +36,7 @@ strings_of_lem table items = strings_back table
 -- going over its items stops nowhere
 items_passed : (types : Types) (table : List (List ℕ)) → length table ≤ 1024 → {l : ℕ} {items : Nodes} → AllRise 0 items l → AllFormed types (Numbered table) items → over_all types table (others (manifest_fields table items)) 0 ≡ past l
 unfolding manifest_fields others over
-items_passed types table few r all = over_nodes types table few r all noFields
+items_passed types table few r all = over_nodes types table few r all fields_end
 
 -- a text that is read whole gives a manifest that can be printed
 manifest_printable : (types : Types) (xs : List Lexeme) (items : Nodes) → ReadWhole types xs items → late_among items ≡ none → Lines 0 xs → unprintable_at types (manifest_bytes xs items) ≡ none
@@ -55,8 +55,8 @@ manifest_printable types xs items r late lines =
     rw strings (not_stopped (over_all types table (others read) 0) rise.last last)
 
 -- what converting gives can be printed, apart from its length
-pub converted_printable : (types : Types) (given m : List ℕ) (outputLength memoryLength : ℕ) → IsBytes given → converted types given outputLength memoryLength ≡ done m → unprintable_at types m ≡ none
-converted_printable types given m outputLength memoryLength b e =
-    let s = converted_steps types given m outputLength memoryLength e in
+pub converted_printable : (types : Types) (given m : List ℕ) (output_length memory_length : ℕ) → IsBytes given → converted types given output_length memory_length ≡ done m → unprintable_at types m ≡ none
+converted_printable types given m output_length memory_length b e =
+    let s = converted_steps types given m output_length memory_length e in
     let w = text_whole types (tokens given) s.items (tokens_good given b) s.read in
     subst (λ (n : List ℕ). unprintable_at types n ≡ none) s.same (manifest_printable types (tokens given) s.items w s.late (lines_rise given))

@@ -12,7 +12,7 @@ use Rattle.values.specs.declared.Reason.TheVariants.{MemoryTooShort, OutsideNota
 use Rattle.rules.specs.Format.{three, allowed, take, follow, forms, form_in, form_of, size, head_size, may_end, part_may_end, piece_right}
 use Rattle.rules.specs.Check.{check}
 use Rattle.rules.specs.EditRule.{IsBytes}
-use Rattle.rules.specs.Fields.{Field, field, none as noFields, write, write_all, head_of, tag_of, inner, first, others}
+use Rattle.rules.specs.Fields.{Field, field, none as fields_end, write, write_all, head_of, tag_of, inner, first, others}
 use Rattle.rules.specs.Outcome.{done, refuse_if}
 use Rattle.rules.specs.Ranges.{Each, none_left, also}
 use Rattle.rules.specs.Read.{strings_from}
@@ -89,7 +89,7 @@ strings_complete d (suc c) (s ∷ table) l (also t all) =
     let others = strings_complete d c table (omega arith) all in
     let some_left : eqb (suc c) 0 ≡ false = ne_eqb (suc c) 0 (λ e. omega arith) in
     let less : suc c - 1 ≡ c = omega arith in
-    record { last = others.last; reached = rw (some_left, less) others.reached; ends = others.ends; each = also_field {k = field 0 0x02 s noFields} (record { tag = omega arith; head = t; fields = same }) others.each }
+    record { last = others.last; reached = rw (some_left, less) others.reached; ends = others.ends; each = also_field {k = field 0 0x02 s fields_end} (record { tag = omega arith; head = t; fields = same }) others.each }
 
 -- they are read as themselves
 pub strings_back : (table : List (List ℕ)) → strings_from (string_fields table) ≡ table
@@ -116,8 +116,8 @@ module _ (types : Types) {xs : List Lexeme} {items : Nodes} (r : ReadWhole types
   items_has = has_many_second types (has_none_lem types) r.listed
 
   -- they are right to write, and their names are known
-  items_ready : AllReady types table r.few 32 (numbered_onto table items noFields)
-  items_ready = all_ready types table r.few 32 (λ k f l e. node_ready types table r.few 32 k f l e) items_has.all r.deep late noFields (record { right = no_field; names = none_known })
+  items_ready : AllReady types table r.few 32 (numbered_onto table items fields_end)
+  items_ready = all_ready types table r.few 32 (λ k f l e. node_ready types table r.few 32 k f l e) items_has.all r.deep late fields_end (record { right = no_field; names = none_known })
 
   -- the manifest is as listed
   pub manifest_complete : Complete (Right 32) manifest_parts (manifest_fields table items)
@@ -127,7 +127,7 @@ module _ (types : Types) {xs : List Lexeme} {items : Nodes} (r : ReadWhole types
       let head : HeadIs (form_of 0x01) [] = record { count = refl; bytes = no_bytes; first = refl; second = refl } in
       record {
         last = three Over (Many Item) Over;
-        reached = numbered_after types table r.few (three Over (Many Item) Over) items noFields ∙ rw items_has.leads;
+        reached = numbered_after types table r.few (three Over (Many Item) Over) items fields_end ∙ rw items_has.leads;
         ends = refl;
         each = also_field {k = field 0 0x01 [] (string_fields table)} (record { tag = omega arith; head = head; fields = strings }) items_ready.right;
       }
@@ -152,7 +152,7 @@ module _ (types : Types) {xs : List Lexeme} {items : Nodes} (r : ReadWhole types
   unfolding manifest_bytes manifest_fields write_all
   manifest_begun =
       let table_field : Field = field 0 0x01 [] (string_fields table) in
-      let sum = length-append (write table_field) (write_all (numbered_onto table items noFields)) in
+      let sum = length-append (write table_field) (write_all (numbered_onto table items fields_end)) in
       let there = write_nonempty table_field in
       omega arith
 
@@ -196,49 +196,49 @@ pub record Manifest (m : List ℕ) : Type 0 where
   pub bytes : IsBytes m
 
 -- a text is converted: it is read whole, no constant is late, and what is written is not too long
-pub record Steps (types : Types) (given m : List ℕ) (outputLength memoryLength : ℕ) : Type 0 where
-  pub memory : ltb memoryLength 65536 ≡ false
+pub record Steps (types : Types) (given m : List ℕ) (output_length memory_length : ℕ) : Type 0 where
+  pub memory : ltb memory_length 65536 ≡ false
   pub listed : check_types types ≡ Sound
   pub short : ltb 65535 (length given) ≡ false
   pub items : Nodes
   pub read : text_items types (tokens given) ≡ done items
   pub late : late_among items ≡ none
-  pub long : too_long (manifest_bytes (tokens given) items) outputLength ≡ false
+  pub long : too_long (manifest_bytes (tokens given) items) output_length ≡ false
   pub same : manifest_bytes (tokens given) items ≡ m
 
 -- these are the steps of a converting that ends well
-pub converted_steps : (types : Types) (given m : List ℕ) (outputLength memoryLength : ℕ) → converted types given outputLength memoryLength ≡ done m → Steps types given m outputLength memoryLength
+pub converted_steps : (types : Types) (given m : List ℕ) (output_length memory_length : ℕ) → converted types given output_length memory_length ≡ done m → Steps types given m output_length memory_length
 unfolding converted
-converted_steps types given m outputLength memoryLength e =
-    let one = both_done_lem (refuse_if (ltb memoryLength 65536) MemoryTooShort 0) _ m e in
+converted_steps types given m output_length memory_length e =
+    let one = both_done_lem (refuse_if (ltb memory_length 65536) MemoryTooShort 0) _ m e in
     let types-checked = both_done_lem (checked (check_types types)) _ m one.behind in
     let two = both_done_lem (refuse_if (ltb 65535 (length given)) OutsideNotation 0) _ m types-checked.behind in
     let three = both_done_lem (text_items types (tokens given)) _ m two.behind in
     let four = both_done_lem (refuse_at (late_among three.between) PastLine255) _ m three.behind in
-    let five = both_done_lem (refuse_if (too_long (manifest_bytes (tokens given) three.between) outputLength) OutsideNotation 0) _ m four.behind in
+    let five = both_done_lem (refuse_if (too_long (manifest_bytes (tokens given) three.between) output_length) OutsideNotation 0) _ m four.behind in
     let last = five.behind in
     record {
-      memory = not_refused (ltb memoryLength 65536) MemoryTooShort 0 one.before;
+      memory = not_refused (ltb memory_length 65536) MemoryTooShort 0 one.before;
       listed = checked_sound (check_types types) types-checked.before;
       short = not_refused (ltb 65535 (length given)) OutsideNotation 0 two.before;
       items = three.between;
       read = three.before;
       late = not_refused_at (late_among three.between) PastLine255 four.before;
-      long = not_refused (too_long (manifest_bytes (tokens given) three.between) outputLength) OutsideNotation 0 five.before;
+      long = not_refused (too_long (manifest_bytes (tokens given) three.between) output_length) OutsideNotation 0 five.before;
       same = cc;
     }
 
 -- what converting gives passes the check
-pub converted_manifest : (types : Types) (given m : List ℕ) (outputLength memoryLength : ℕ) → IsBytes given → converted types given outputLength memoryLength ≡ done m → Manifest m
+pub converted_manifest : (types : Types) (given m : List ℕ) (output_length memory_length : ℕ) → IsBytes given → converted types given output_length memory_length ≡ done m → Manifest m
 unfolding too_long
-converted_manifest types given m outputLength memoryLength b e =
-    let s = converted_steps types given m outputLength memoryLength e in
+converted_manifest types given m output_length memory_length b e =
+    let s = converted_steps types given m output_length memory_length e in
     let w = text_whole types (tokens given) s.items (tokens_good given b) s.read in
     let written : List ℕ = manifest_bytes (tokens given) s.items in
-    let short = ltb-false 65535 (length written) (either_left (ltb 65535 (length written)) (ltb outputLength (length written)) s.long) in
+    let short = ltb-false 65535 (length written) (either_left (ltb 65535 (length written)) (ltb output_length (length written)) s.long) in
     let all : Manifest written = record { sound = manifest_sound types w s.late; begun = manifest_begun types w s.late; short = short; bytes = manifest_bytes_lem types w s.late (omega arith) } in
     subst Manifest s.same all
 
 -- so it passes the check
-pub converted_sound : (types : Types) (given m : List ℕ) (outputLength memoryLength : ℕ) → IsBytes given → converted types given outputLength memoryLength ≡ done m → check m ≡ Sound
-converted_sound types given m outputLength memoryLength b e = (converted_manifest types given m outputLength memoryLength b e).sound
+pub converted_sound : (types : Types) (given m : List ℕ) (output_length memory_length : ℕ) → IsBytes given → converted types given output_length memory_length ≡ done m → check m ≡ Sound
+converted_sound types given m output_length memory_length b e = (converted_manifest types given m output_length memory_length b e).sound

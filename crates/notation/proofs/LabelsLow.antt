@@ -13,7 +13,7 @@ use Rattle.rules.specs.Bytes
 use Rattle.rules.specs.Bytes.{pick, end_of, fields_in}
 use Rattle.rules.specs.Format.{is_constant, form_of, size, head_size}
 use Rattle.rules.specs.EditRule.{IsBytes}
-use Rattle.rules.specs.Fields.{Field, field, Fields, none as noFields, more, read_each, read_body, read_field, read_all, others}
+use Rattle.rules.specs.Fields.{Field, field, Fields, none as fields_end, more, read_each, read_body, read_field, read_all, others}
 use Rattle.rules.specs.Read.{manifest_of}
 use Rattle.rules.specs.declared.Piece.{Piece as ListedPiece}
 use Rattle.rules.specs.declared.Piece.TheVariants.{Nothing, Label, Integer, Boolean, Operator, Name}
@@ -35,7 +35,7 @@ mutual
     bytewise : {p t : ℕ} {h : List ℕ} {ks : Fields} → IsBytes h → AllBytewise ks → Bytewise (field p t h ks)
 
   data AllBytewise : Fields → Type 0 where
-    none_bytewise : AllBytewise noFields
+    none_bytewise : AllBytewise fields_end
     also_bytewise : {k : Field} {ks : Fields} → Bytewise k → AllBytewise ks → AllBytewise (more k ks)
 
 -- the fields read of bytes are so

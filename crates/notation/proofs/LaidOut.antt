@@ -113,7 +113,7 @@ close_marks = right_round ∷ right_square ∷ left_square ∷ comma ∷ colon �
 by_first : (Q : List ℕ → Type 0) (before : Option ℕ) (n v w : ℕ) (t : Token) (r : List ℕ) → ((s : List ℕ) → Q (0x0a ∷ s)) → ((s : List ℕ) → Q (0x20 ∷ s))
     → Each (λ k. t ≡ mark k → Q (mark_spelling k ++ r)) close_marks → no_space_behind before ≡ false → Q (gap before n v (kind t) w ++ (spelling t ++ r))
 unfolding spelling no_space_before
-by_first Q before n v w t r onFeed onSpace onMark h = go (gap before n v (kind t) w) (gap_opens before n v (kind t) w h)
+by_first Q before n v w t r on_feed on_space on_mark h = go (gap before n v (kind t) w) (gap_opens before n v (kind t) w h)
   where
     closing : (t : Token) → Each (λ k. t ≡ mark k → Q (mark_spelling k ++ r)) close_marks → no_space_before (kind t) ≡ true → Q (spelling t ++ r)
     closing (word w) e i = false_not_true i
@@ -125,9 +125,9 @@ by_first Q before n v w t r onFeed onSpace onMark h = go (gap before n v (kind t
     closing (mark k) e i = of_each (λ j. mark k ≡ mark j → Q (mark_spelling j ++ r)) k close_marks i e refl
 
     go : (g : List ℕ) → Opens g (kind t) → Q (g ++ (spelling t ++ r))
-    go g (feed s e) = rw e (onFeed (s ++ (spelling t ++ r)))
-    go g (space s e) = rw e (onSpace (s ++ (spelling t ++ r)))
-    go g (nothing e i) = rw e (closing t onMark i)
+    go g (feed s e) = rw e (on_feed (s ++ (spelling t ++ r)))
+    go g (space s e) = rw e (on_space (s ++ (spelling t ++ r)))
+    go g (nothing e i) = rw e (closing t on_mark i)
 
 -- what follows a token that asks for a space ends it
 stops_behind : (xs : List Lexeme) (k n v : ℕ) → no_space_behind (some k) ≡ false → stops (laid_out xs (some k) n v) ≡ true

@@ -12,10 +12,10 @@ use lib.Seq.{take-length}
 use Rattle.rules.specs.Bytes.{two}
 use Rattle.rules.specs.Format.{form_of, size}
 use Rattle.rules.specs.Compile.{string_at}
-use Rattle.rules.specs.Fields.{field, Fields, none as noFields, more, read_all, head_of, tag_of, inner, first, others}
+use Rattle.rules.specs.Fields.{field, Fields, none as fields_end, more, read_all, head_of, tag_of, inner, first, others}
 use Rattle.rules.specs.Read.{strings_from, manifest_from, manifest_of}
 use Rattle.rules.specs.declared.Piece.{Piece as ListedPiece}
-use Rattle.rules.proofs.TypedBack.{unplaced as unplacedField, unplaced_all as unplacedFields}
+use Rattle.rules.proofs.TypedBack.{unplaced as unplaced_field, unplaced_all as unplaced_fields}
 use Rattle.rules.specs.Types.{Types}
 use Rattle.notation.specs.Tokens.{Lexeme}
 use Rattle.notation.specs.Building.{Piece, byte, Node, node, Nodes, empty, ◌▸◌}
@@ -63,7 +63,7 @@ module _ (types : Types) (table : List (List ℕ)) (small : length table ≤ 102
     unfolding numbered named unplaced
 
     node_back : {k : Node} → Formed types (Numbered table) k → named table (numbered table k) ≡ unplaced k
-    node_back (formed {t = t} small-tag head contents all) = ap₂ (λ (h : List Piece) (ks : Nodes). node 0 t h ks) (whole_head t head) (nodes_back all noFields)
+    node_back (formed {t = t} small-tag head contents all) = ap₂ (λ (h : List Piece) (ks : Nodes). node 0 t h ks) (whole_head t head) (nodes_back all fields_end)
 
     nodes_back : {ks : Nodes} → AllFormed types (Numbered table) ks → (rest : Fields) → named_onto table (numbered_onto table ks rest) empty ≡ named_onto table rest (unplaced_all ks)
     nodes_back none_formed rest = refl
@@ -73,14 +73,14 @@ module _ (types : Types) (table : List (List ℕ)) (small : length table ≤ 102
 -- ---- The manifest
 
 -- the strings of a table do not depend on places
-strings_unplaced : (ks : Fields) → strings_from (unplacedFields ks) ≡ strings_from ks
-unfolding strings_from unplacedField tag_of head_of
-strings_unplaced noFields = refl
+strings_unplaced : (ks : Fields) → strings_from (unplaced_fields ks) ≡ strings_from ks
+unfolding strings_from unplaced_field tag_of head_of
+strings_unplaced fields_end = refl
 strings_unplaced (more (field p t h js) ks) = ap (λ (ss : List (List ℕ)). elim (eqb t 0x02) [ true ↦ h ∷ ss | false ↦ ss ]) (strings_unplaced ks)
 
-table_unplaced : (ks : Fields) → strings_from (inner (first (unplacedFields ks))) ≡ strings_from (inner (first ks))
-unfolding unplacedField first inner
-table_unplaced noFields = refl
+table_unplaced : (ks : Fields) → strings_from (inner (first (unplaced_fields ks))) ≡ strings_from (inner (first ks))
+unfolding unplaced_field first inner
+table_unplaced fields_end = refl
 table_unplaced (more (field p t h js) ks) = strings_unplaced js
 
 module _ (types : Types) {xs : List Lexeme} {items : Nodes} (r : ReadWhole types xs items) (late : late_among items ≡ none) where
@@ -88,7 +88,7 @@ module _ (types : Types) {xs : List Lexeme} {items : Nodes} (r : ReadWhole types
   table = table_behind xs []
 
   -- what is written is read as the fields, but for places
-  fields_back : unplacedFields (read_all (manifest_bytes xs items)) ≡ unplacedFields (manifest_fields table items)
+  fields_back : unplaced_fields (read_all (manifest_bytes xs items)) ≡ unplaced_fields (manifest_fields table items)
   unfolding manifest_bytes
   fields_back = read_back (manifest_fields table items) (manifest_complete types r late)
 
@@ -104,8 +104,8 @@ module _ (types : Types) {xs : List Lexeme} {items : Nodes} (r : ReadWhole types
   written_items =
       sym (onto_unplaced table (others (read_all (manifest_bytes xs items))) empty)
       ∙ ap (λ (ks : Fields). named_onto table ks empty) (sym (others_unplaced (read_all (manifest_bytes xs items))) ∙ ap others fields_back ∙ others_unplaced (manifest_fields table items))
-      ∙ onto_unplaced table (numbered_onto table items noFields) empty
-      ∙ nodes_back types table r.few (items_has types r late).all noFields
+      ∙ onto_unplaced table (numbered_onto table items fields_end) empty
+      ∙ nodes_back types table r.few (items_has types r late).all fields_end
 
   -- its tree is that of the text, but for places
   pub written_tree : named_tree (manifest_bytes xs items) ≡ unplaced_all items

@@ -13,7 +13,7 @@ use Rattle.rules.specs.Format.{is_constant, size, head_size, form_of, follow, pi
 use Rattle.rules.specs.Catalog.{high_bytes}
 use Rattle.rules.specs.Compile.{string_number}
 use Rattle.rules.specs.EditRule.{IsBytes}
-use Rattle.rules.specs.Fields.{Fields, none as noFields, more, tag_of}
+use Rattle.rules.specs.Fields.{Fields, none as fields_end, more, tag_of}
 use Rattle.rules.specs.declared.Parts.{Parts}
 use Rattle.rules.specs.declared.Piece.{Piece as ListedPiece}
 use Rattle.rules.specs.declared.Rest.{Rest}
@@ -150,10 +150,10 @@ module _ (types : Types) (table : List (List ℕ)) where
     right_head l h bare i = i
     right_head l h (whole e m) i = i
 
-    right_inner : (d : ℕ) {x : Rest} {js : Nodes} → Contents x js → All (Right d) (numbered_onto table js noFields) → RightInner (Right d) x (numbered_onto table js noFields)
+    right_inner : (d : ℕ) {x : Rest} {js : Nodes} → Contents x js → All (Right d) (numbered_onto table js fields_end) → RightInner (Right d) x (numbered_onto table js fields_end)
     unfolding numbered_onto after
     right_inner d bare all = same
-    right_inner d (whole {ps = ps} {last = last} {js = js} e m) all = record { last = last; reached = numbered_after ps js noFields ∙ rw e; ends = m; each = all }
+    right_inner d (whole {ps = ps} {last = last} {js = js} e m) all = record { last = last; reached = numbered_after ps js fields_end ∙ rw e; ends = m; each = all }
 
     -- each constant's label is a byte, and so are those in the fields
     record NotLate (t : ℕ) (h : List Piece) (ks : Nodes) : Type 0 where
@@ -175,7 +175,7 @@ module _ (types : Types) (table : List (List ℕ)) where
     node_ready (suc d) (node p t h js) (formed small-tag head contents all) l e =
         let n = not_late p t h js e in
         let facts = head_facts head n.here in
-        let inner = all_ready d (λ k f l e. node_ready d k f l e) all (omega arith) n.inside noFields (record { right = no_field; names = none_known }) in
+        let inner = all_ready d (λ k f l e. node_ready d k f l e) all (omega arith) n.inside fields_end (record { right = no_field; names = none_known }) in
         let is : HeadIs (form_of t) (head_bytes table h) = record { count = facts.count; bytes = facts.bytes; first = facts.first; second = facts.second } in
         record {
           right = record { tag = small-tag; head = right_head (form_of t) (head_bytes table h) contents is; fields = right_inner d contents inner.right };

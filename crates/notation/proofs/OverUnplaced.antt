@@ -7,7 +7,7 @@ use mathlib.Core.Option.{Option, none, some}
 use lib.Dec.{eqb}
 use Rattle.rules.specs.Bytes.{pick, byte as byte_at}
 use Rattle.rules.specs.Format.{is_constant}
-use Rattle.rules.specs.Fields.{Field, field, Fields, none as noFields, more, head_of, tag_of, inner, first}
+use Rattle.rules.specs.Fields.{Field, field, Fields, none as fields_end, more, head_of, tag_of, inner, first}
 use Rattle.rules.specs.Read.{strings_from}
 use Rattle.rules.proofs.TypedBack.{unplaced, unplaced_all}
 use Rattle.rules.specs.Types.{Types}
@@ -17,7 +17,7 @@ use Rattle.notation.proofs.NeedsKept.{none_not_some, same_result}
 -- the strings of some fields
 pub strings_unplaced : (ks : Fields) → strings_from (unplaced_all ks) ≡ strings_from ks
 unfolding strings_from unplaced tag_of head_of
-strings_unplaced noFields = refl
+strings_unplaced fields_end = refl
 strings_unplaced (more (field p t h js) ks) = go (eqb t 0x02) (strings_unplaced ks)
   where
     go : (b : Bool) → strings_from (unplaced_all ks) ≡ strings_from ks → ◌≡◌ {A = List (List ℕ)} (elim b [ true ↦ h ∷ strings_from (unplaced_all ks) | false ↦ strings_from (unplaced_all ks) ]) (elim b [ true ↦ h ∷ strings_from ks | false ↦ strings_from ks ])
@@ -27,7 +27,7 @@ strings_unplaced (more (field p t h js) ks) = go (eqb t 0x02) (strings_unplaced 
 -- those of the first of some fields
 pub table_unplaced : (ks : Fields) → strings_from (inner (first (unplaced_all ks))) ≡ strings_from (inner (first ks))
 unfolding unplaced first inner
-table_unplaced noFields = refl
+table_unplaced fields_end = refl
 table_unplaced (more (field p t h js) ks) = strings_unplaced js
 
 -- the label of the last constant, where going over fields stops nowhere
@@ -77,5 +77,5 @@ module _ (types : Types) (strings : List (List ℕ)) where
         pick_same (label_right strings l t h && (names_spellable strings t h && type_right types strings t h)) 0 p _ _ (over_all_unplaced ks (pick (is_constant t) (byte_at h 0) l))
 
     pub over_all_unplaced : (ks : Fields) (l : ℕ) → label_after (over_all types strings (unplaced_all ks) l) ≡ label_after (over_all types strings ks l)
-    over_all_unplaced noFields l = refl
+    over_all_unplaced fields_end l = refl
     over_all_unplaced (more k ks) l = going_same (over types strings (unplaced k) l) (over types strings k l) (over_all types strings (unplaced_all ks)) (over_all types strings ks) (over_unplaced k l) (λ i. over_all_unplaced ks i)

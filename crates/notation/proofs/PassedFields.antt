@@ -13,7 +13,7 @@ use Rattle.rules.specs.Bytes.{pick, two}
 use Rattle.rules.specs.Format.{forms, form_in, form_of, size, is_constant}
 use Rattle.rules.specs.Catalog.{high_bytes}
 use Rattle.rules.specs.Compile.{string_at}
-use Rattle.rules.specs.Fields.{Field, field, Fields, none as noFields, more}
+use Rattle.rules.specs.Fields.{Field, field, Fields, none as fields_end, more}
 use Rattle.rules.specs.Tree.{Constant}
 use Rattle.rules.specs.Tree
 use Rattle.rules.specs.Ranges.{FitsValue, fits_integer}
@@ -232,7 +232,7 @@ module _ (types : Types) (strings : List (List ℕ)) where
   value_fits (String n) f = tt
   value_fits (Boolean b) f = tt
 
-  label_passed : (t l k : ℕ) (h : List ℕ) (z : ℕ) (g : ℕ → Gone) → is_constant t ≡ true → names_spellable strings t (k ∷ h) ≡ true → type_right types strings t (k ∷ h) ≡ true → going (over types strings (field 0 t (k ∷ h) noFields) l) g ≡ past z → (l ≤ k) × (g k ≡ past z)
+  label_passed : (t l k : ℕ) (h : List ℕ) (z : ℕ) (g : ℕ → Gone) → is_constant t ≡ true → names_spellable strings t (k ∷ h) ≡ true → type_right types strings t (k ∷ h) ≡ true → going (over types strings (field 0 t (k ∷ h) fields_end) l) g ≡ past z → (l ≤ k) × (g k ≡ past z)
   unfolding over label_right
   label_passed t l k h z g c n y e =
       let test = passed_test (leb l k && true) (past k) 0 z g (rw (over, c, n, y) at e) in

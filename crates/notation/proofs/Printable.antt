@@ -11,7 +11,7 @@ use Rattle.rules.specs.Bytes.{pick, byte as byte_at, two}
 use Rattle.rules.specs.Format.{is_constant, size, forms, form_in, form_of}
 use Rattle.rules.specs.Types.{Types}
 use Rattle.rules.specs.Compile.{string_at, is_built_in}
-use Rattle.rules.specs.Fields.{field, Fields, none as noFields, more}
+use Rattle.rules.specs.Fields.{field, Fields, none as fields_end, more}
 use Rattle.rules.specs.declared.Piece.{Piece as ListedPiece}
 use Rattle.rules.specs.declared.Piece.TheVariants.{Nothing, Label, Integer, Boolean, Operator, Name}
 use Rattle.rules.proofs.Lists.{both_left, both_right, both_true, or_true_right}
@@ -138,10 +138,10 @@ module _ (types : Types) (table : List (List ℕ)) (small : length table ≤ 102
 
     over_node : {i j : ℕ} {k : Node} → Rises i k j → Formed types (Numbered table) k → over types table (numbered table k) i ≡ past j
     over_node {i} {j} (rises_plain {p = p} {t = t} {h = h} {ks = ks} c r) (formed s head contents all) =
-        field_passed p t i (head_bytes table h) (numbered_onto table ks noFields) (label_plain i t (head_bytes table h) c) (names_spelled t head) (type_told t head refl) ∙ rw c (over_nodes r all noFields)
+        field_passed p t i (head_bytes table h) (numbered_onto table ks fields_end) (label_plain i t (head_bytes table h) c) (names_spelled t head) (type_told t head refl) ∙ rw c (over_nodes r all fields_end)
     over_node {i} {j} (rises_constant {p = p} {t = t} {h = h} c e l) (formed s head contents all) =
         let label : byte_at (head_bytes table h) 0 ≡ j = label_first t head refl c ∙ e in
-        field_passed p t i (head_bytes table h) noFields (label_constant i t (head_bytes table h) (omega arith)) (names_spelled t head) (type_told t head refl) ∙ rw (c, label)
+        field_passed p t i (head_bytes table h) fields_end (label_constant i t (head_bytes table h) (omega arith)) (names_spelled t head) (type_told t head refl) ∙ rw (c, label)
 
     pub over_nodes : {i j : ℕ} {ks : Nodes} → AllRise i ks j → AllFormed types (Numbered table) ks → (rest : Fields) → over_all types table (numbered_onto table ks rest) i ≡ over_all types table rest j
     over_nodes none_rise none_formed rest = refl

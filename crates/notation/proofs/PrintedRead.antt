@@ -5,7 +5,7 @@ use mathlib.Core.List.{List, [], ◌∷◌, ◌++◌}
 use mathlib.Core.Option.{none}
 use native.Mathlib.Omega.{arith}
 use Rattle.rules.specs.Check.{check}
-use Rattle.rules.specs.Fields.{Field, field, Fields, none as noFields, more, read_all, others}
+use Rattle.rules.specs.Fields.{Field, field, Fields, none as fields_end, more, read_all, others}
 use Rattle.rules.specs.Tree.{Item}
 use Rattle.rules.specs.Read.{manifest_of}
 use Rattle.rules.specs.Compile.{string_at}
@@ -60,7 +60,7 @@ mutual
   named_bare strings (field p t h ks) = ap (λ (js : Nodes). node 0 t (named_head strings t h) js) (onto_bare strings ks empty)
 
   onto_bare : (strings : List (List ℕ)) (ks : Fields) (js : Nodes) → unplaced_all (named_onto strings ks js) ≡ named_onto strings ks (unplaced_all js)
-  onto_bare strings noFields js = refl
+  onto_bare strings fields_end js = refl
   onto_bare strings (more k ks) js = onto_bare strings ks (js ▸ named strings k) ∙ ap (λ (n : Node). named_onto strings ks (unplaced_all js ▸ n)) (named_bare strings k)
 
 -- ---- The law

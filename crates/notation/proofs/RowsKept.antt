@@ -15,7 +15,7 @@ use Rattle.notation.specs.Tokens.{word, number, text, variable, top_variable, cl
 use Rattle.notation.specs.Lexing.{find}
 use Rattle.notation.specs.Building.{Piece, byte, Node, node, Nodes, empty, ◌▸◌, Frame, frame, Build, build, Action, begin, around, instead, constant, constant_node}
 use Rattle.notation.specs.Grammar.{Entry, arm, attribute, parameter, Symbol, sign, a_name, expression, operators, read_or_word, close_bracket, one, maybe, further, statements, block, otherwise, branches, items, class_rest, parameters, default_value, a_constant, inherits, parent, devices, device, more_devices, ends, Row, row, operand_rows, constant_rows, pattern_rows, entry_rows, statement_rows, in_block, item_rows, class_rows, device_rows, node_rows, operator_bytes, or_zero, operator_byte, operator_row, operator_in, binds, row_of}
-use Rattle.notation.proofs.Formed.{Of, further as furtherField, a_string}
+use Rattle.notation.proofs.Formed.{Of, further as further_field, a_string}
 use Rattle.notation.proofs.FormedNodes.{word_in, leaf_of, constant_expression, constant_pattern_lem, statement_item, operation_of, negation_of, read_of, selector_of, arm_of, default_of_lem, block_of, assignment_of, conditional_of, choice_of, branch_of, resource_of, attribute_of_lem, class_of, include_of, device_of, node_of, default_node_of, definition_of_lem, parameter_of, parameter_with_default_of, parent_of, class_definition_of, class_with_parent_of}
 use Rattle.notation.proofs.FormedTokens.{Good, word_spelled, variable_spelled, text_spelled, constant_of, variable_of}
 use Rattle.notation.proofs.Needs.{Bare, bare_word, Default, by_default, BeforeAll, DoingAll}
@@ -150,8 +150,8 @@ module _ (types : Types) (S : List ℕ → Type 0) (Q : Build → Type 0) (x : L
     -- branches
     branch_rows : EachRow branches (pattern_rows 0x24 (sign colon ∷ block ∷ ends ∷ branches ∷ []))
     branch_rows = (
-      (λ e w y p js m. w js (furtherField (branch_of types (default_of_lem types) p) m)),
-      constant_rows_lem branches (begin 0x24 ∷ []) (sign colon ∷ block ∷ ends ∷ branches ∷ []) (λ c n e w y p js m. w js (furtherField (branch_of types (constant_pattern_lem types (constant_here e n)) p) m)),
+      (λ e w y p js m. w js (further_field (branch_of types (default_of_lem types) p) m)),
+      constant_rows_lem branches (begin 0x24 ∷ []) (sign colon ∷ block ∷ ends ∷ branches ∷ []) (λ c n e w y p js m. w js (further_field (branch_of types (constant_pattern_lem types (constant_here e n)) p) m)),
     )
 
     -- statements, where s may come again behind each
@@ -176,19 +176,19 @@ module _ (types : Types) (S : List ℕ → Type 0) (Q : Build → Type 0) (x : L
     -- statements of a block
     block_rows : EachRow statements in_block
     block_rows = (
-      (λ e w v o is n js m. w js (furtherField (class_of types o n) m)),
-      statement_rows_lem statements (λ w i o js m. w js (furtherField o m)),
+      (λ e w v o is n js m. w js (further_field (class_of types o n) m)),
+      statement_rows_lem statements (λ w i o js m. w js (further_field o m)),
     )
 
     -- items
     item_rows_lem : EachRow items item_rows
     item_rows_lem = (
-      (λ e w i o js m. w js (furtherField o m)),
+      (λ e w i o js m. w js (further_field o m)),
       (
-        (λ e w. ((λ d y i o js m. w js (furtherField (by_default_of types y o) m)), λ d o is n i p js m. w js (furtherField (node_of types o n p) m))),
+        (λ e w. ((λ d y i o js m. w js (further_field (by_default_of types y o) m)), λ d o is n i p js m. w js (further_field (node_of types o n p) m))),
         (
-          (λ e w v o is n i p js m. w js (furtherField (definition_of_lem types o n p) m)),
-          statement_rows_lem items (λ w i o js m. w js (furtherField (statement_item types o) m)),
+          (λ e w v o is n i p js m. w js (further_field (definition_of_lem types o n p) m)),
+          statement_rows_lem items (λ w i o js m. w js (further_field (statement_item types o) m)),
         ),
       ),
     )
@@ -248,7 +248,7 @@ module _ (types : Types) (S : List ℕ → Type 0) (Q : Build → Type 0) (x : L
   row_kept read_or_word (ks ▸ i) ds ss e = λ w. taken_row (ks ▸ i) read_or_word ds ss e (bare_row ks i w.0, tt) w
   row_kept close_bracket ks ds ss e = taken_row ks close_bracket ds ss e ((λ e w. w), tt)
   row_kept (one y) ks ds ss e = taken_row ks (one y) ds ss e (entry_rows_lem ks y)
-  row_kept (maybe y) ks ds ss e = taken_row ks (maybe y) ds ss e (rows_from ks (one y) (maybe y) (λ w i o js m. w js (furtherField o m)) (entry_rows y) (entry_rows_lem ks y))
+  row_kept (maybe y) ks ds ss e = taken_row ks (maybe y) ds ss e (rows_from ks (one y) (maybe y) (λ w i o js m. w js (further_field o m)) (entry_rows y) (entry_rows_lem ks y))
   row_kept (further y) ks ds ss e = taken_row ks (further y) ds ss e ((λ e w. w), tt)
   row_kept statements ks ds ss e = taken_row ks statements ds ss e (block_rows ks)
   row_kept block ks ds ss e = taken_row ks block ds ss e ((λ e w js m. w _ (block_of types m)), tt)
@@ -263,5 +263,5 @@ module _ (types : Types) (S : List ℕ → Type 0) (Q : Build → Type 0) (x : L
   row_kept parent ks ds ss e = taken_row ks parent ds ss e ((λ e w. w _ (parent_of types (word_spelled types (token_of x) good e))), tt)
   row_kept devices ks ds ss e = taken_row ks devices ds ss e (node_rows_lem ks)
   row_kept device ks ds ss e = taken_row ks device ds ss e (device_rows_lem ks)
-  row_kept more_devices ks ds ss e = taken_row ks more_devices ds ss e ((λ e w i o js m. w js (furtherField o m)), tt)
+  row_kept more_devices ks ds ss e = taken_row ks more_devices ds ss e ((λ e w i o js m. w js (further_field o m)), tt)
   row_kept ends ks ds ss e = none_not_some e

@@ -5,7 +5,7 @@ use mathlib.Core.Bool.{Bool, true, false}
 use mathlib.Core.List.{List, [], ◌∷◌, map}
 use native.Mathlib.Omega.{arith}
 use lib.Dec.{eqb, ltb, lit<}
-use lib.ListN.{length, take as takeBytes, drop, length-take}
+use lib.ListN.{length, take as take_bytes, drop, length-take}
 use lib.Seq.{slice, take-nil, get_or-drop}
 use borrow.Author.Tests.{ltb-true, ltb-false, leb-true, eqb-true, eqb-false}
 use Rattle.wire.proofs.Fields.{no_fields, field_first}
@@ -33,10 +33,10 @@ use Rattle.notation.proofs.WrittenNames.{Rising, no_string, one_string, next_str
 -- ---- Texts
 
 -- bytes taken of bytes are bytes
-pub taken_bytes : (n : ℕ) (m : List ℕ) → IsBytes m → IsBytes (takeBytes n m)
+pub taken_bytes : (n : ℕ) (m : List ℕ) → IsBytes m → IsBytes (take_bytes n m)
 taken_bytes n m b = record { below = λ i. go n m b.below i }
   where
-    go : (n : ℕ) (m : List ℕ) → ((i : ℕ) → byte m i < 256) → (i : ℕ) → byte (takeBytes n m) i < 256
+    go : (n : ℕ) (m : List ℕ) → ((i : ℕ) → byte m i < 256) → (i : ℕ) → byte (take_bytes n m) i < 256
     go zero m b i = lit< tt
     go (suc n) [] b i = lit< tt
     go (suc n) (x ∷ m) b zero = b 0
@@ -47,8 +47,8 @@ pub later_bytes : (a : ℕ) (m : List ℕ) → IsBytes m → IsBytes (drop a m)
 later_bytes a m b = record { below = λ i. rw (get_or-drop a m i 0) (b.below (a + i)) }
 
 -- a body cut out by its ends is the text taken by its length
-cut : (a n : ℕ) (m : List ℕ) → slice a (a + n) m ≡ takeBytes n (drop a m)
-cut zero n m = let z : 0 + n ≡ n = omega arith in ap (λ (k : ℕ). takeBytes k m) z
+cut : (a n : ℕ) (m : List ℕ) → slice a (a + n) m ≡ take_bytes n (drop a m)
+cut zero n m = let z : 0 + n ≡ n = omega arith in ap (λ (k : ℕ). take_bytes k m) z
 cut (suc a) n [] = ap (drop (suc a)) (take-nil (suc a + n)) ∙ sym (take-nil n)
 cut (suc a) n (x ∷ m) = let s : suc a + n ≡ suc (a + n) = omega arith in ap (λ (k : ℕ). slice (suc a) k (x ∷ m)) s ∙ cut a n m
 

@@ -7,7 +7,7 @@ use mathlib.Core.List.{List, [], ◌∷◌}
 use mathlib.Core.Option.{Option, none, some}
 use Rattle.rules.specs.Format.{forms, form_in, form_of, allowed, three}
 use Rattle.rules.specs.Check.{check}
-use Rattle.rules.specs.Fields.{Field, field, Fields, none as noFields, more, head_of, tag_of, inner, others}
+use Rattle.rules.specs.Fields.{Field, field, Fields, none as fields_end, more, head_of, tag_of, inner, others}
 use Rattle.rules.specs.Tree.{Expression, constant, variable, top_variable, class_variable, operation, negation, attribute_read, selector, Arms, no_arm, arm, default_arm, AttributeField, Statement, assignment, conditional, choice, built_in_resource, defined_resource, class_with_attributes, include, Block, end, next, Branches, no_branch, branch, default_branch, Parameter, Parent, type_definition, class_definition, Devices, named, by_default, Item, statement, definition}
 use Rattle.rules.specs.Tree
 use Rattle.rules.specs.Read.{manifest_of}
@@ -85,11 +85,11 @@ each_within d k a = each_inside (form_of (tag_of k)).rest (opened d k a).fields
 
 -- there is a field
 abbrev SomeField : Fields → Type 0
-SomeField noFields = ⊥
+SomeField fields_end = ⊥
 SomeField (more k ks) = Unit {0}
 
 -- nothing twice is nothing
-both_ended : {ks rest : Fields} → Same ks rest → Same rest noFields → Same ks noFields
+both_ended : {ks rest : Fields} → Same ks rest → Same rest fields_end → Same ks fields_end
 both_ended same e = e
 
 module _ {P : Field → Type 0} where
@@ -108,11 +108,11 @@ module _ {P : Field → Type 0} where
   some_behind (one t p) o = some_field o
 
   -- all fields are of the kind of which any number may come
-  each_kind : {k : Kind} {ks rest : Fields} → ManyOf P k ks rest → Same rest noFields → All (λ f. (allowed k (tag_of f) ≡ true) × P f) ks
+  each_kind : {k : Kind} {ks rest : Fields} → ManyOf P k ks rest → Same rest fields_end → All (λ f. (allowed k (tag_of f) ≡ true) × P f) ks
   each_kind none_of_many same = no_field
   each_kind (one_of_many t p s) e = also_field (t, p) (each_kind s e)
 
-  kinds_behind : {k j : Kind} {ks rest last : Fields} → OneOf P k ks rest → ManyOf P j rest last → Same last noFields → All (λ f. (allowed j (tag_of f) ≡ true) × P f) (others ks)
+  kinds_behind : {k j : Kind} {ks rest last : Fields} → OneOf P k ks rest → ManyOf P j rest last → Same last fields_end → All (λ f. (allowed j (tag_of f) ≡ true) × P f) (others ks)
   unfolding others
   kinds_behind (one t p) s e = each_kind s e
 
@@ -125,10 +125,10 @@ module _ {P : Field → Type 0} where
 -- ---- Expressions
 
 abbrev default_field : Field
-default_field = field 0 0x1b [] noFields
+default_field = field 0 0x1b [] fields_end
 
 abbrev arm_field : (pattern value : Field) → Field
-arm_field f g = field 0 0x1a [] (more f (more g noFields))
+arm_field f g = field 0 0x1a [] (more f (more g fields_end))
 
 -- the expression of an arm
 arm_value : (d : ℕ) (f g : Field) → Listed d (arm_field f g) → Fine (lower d) ExpressionKind g
@@ -170,7 +170,7 @@ attributes_whole : (fs : List AttributeField) (d : ℕ) → All (Listed d) (attr
 unfolding attribute_fields tag_of head_of inner form_of form_in forms
 attributes_whole [] d x = tt
 attributes_whole (f ∷ fs) d x =
-    let k : Field = field 0 0x26 (high_bytes 2 f.name) (more (expression_field f.expression) noFields) in
+    let k : Field = field 0 0x26 (high_bytes 2 f.name) (more (expression_field f.expression) fields_end) in
     (expression_whole f.expression (lower d) (first_kind (opened d k (all_first x)).fields.in_first), attributes_whole fs d (all_others x))
 
 -- ---- Statements and blocks
@@ -184,9 +184,9 @@ unfolding tag_of head_of inner form_of form_in forms
 statements_in d b x = let parts = (opened d (block_field b) x).fields in each_kind parts.in_first (both_ended parts.in_second parts.in_third)
 
 -- the statements of a branch
-branch_statements : (d : ℕ) (f : Field) (b : Block) → Listed d (field 0 0x24 [] (more f (more (block_field b) noFields))) → All (Fine (lower (lower d)) StatementKind) (block_fields b)
+branch_statements : (d : ℕ) (f : Field) (b : Block) → Listed d (field 0 0x24 [] (more f (more (block_field b) fields_end))) → All (Fine (lower (lower d)) StatementKind) (block_fields b)
 unfolding inner
-branch_statements d f b x = statements_in (lower d) b (all_first (all_others (each_within d (field 0 0x24 [] (more f (more (block_field b) noFields))) x)))
+branch_statements d f b x = statements_in (lower d) b (all_first (all_others (each_within d (field 0 0x24 [] (more f (more (block_field b) fields_end))) x)))
 
 module _ (types : Types) (S : ℕ → List ℕ) where
   mutual
@@ -248,7 +248,7 @@ module _ {P : Field → Type 0} where
   behind_devices by_default ks x = all_others x
 
   -- a node has a device, or is the default one
-  some_device : (ds : Devices) (b : Block) {rest : Fields} → NamesOf P (devices_fields ds (more (block_field b) noFields)) rest → SomeDevice ds
+  some_device : (ds : Devices) (b : Block) {rest : Fields} → NamesOf P (devices_fields ds (more (block_field b) fields_end)) rest → SomeDevice ds
   unfolding devices_fields device_fields
   some_device (named []) b x = no_block_first x
   some_device (named (n ∷ ns)) b x = tt
@@ -268,7 +268,7 @@ statement_kind (Statement.unreadable p) e = e
 
 module _ (types : Types) (S : ℕ → List ℕ) where
   -- a block that is the last part of a field
-  body_whole : (d : ℕ) (b : Block) → All (Listed d) (more (block_field b) noFields) → TypesRightBlock types S b → WholeBlock types S b
+  body_whole : (d : ℕ) (b : Block) → All (Listed d) (more (block_field b) fields_end) → TypesRightBlock types S b → WholeBlock types S b
   body_whole d b x r = block_whole types S b (lower d) (statements_in d b (all_first x)) r
 
   item_whole : (i : Item) (d : ℕ) → Fine d ItemKind (item_field i) → TypesRightItem types S i → WholeItem types S i
@@ -276,10 +276,10 @@ module _ (types : Types) (S : ℕ → List ℕ) where
   item_whole (statement s) d x r = statement_whole types S s d (statement_kind s x.0, x.1) r
   item_whole (Item.node ds b) d x r =
       let k : Field = item_field (Item.node ds b) in
-      (some_device ds b (opened d k x.1).fields.in_first, body_whole (lower d) b (behind_devices ds (more (block_field b) noFields) (each_within d k x.1)) r)
-  item_whole (definition (type_definition c)) d x r = body_whole (lower d) c.body (behind_parameters c.parameters (more (block_field c.body) noFields) (each_within d (item_field (definition (type_definition c))) x.1)) r
+      (some_device ds b (opened d k x.1).fields.in_first, body_whole (lower d) b (behind_devices ds (more (block_field b) fields_end) (each_within d k x.1)) r)
+  item_whole (definition (type_definition c)) d x r = body_whole (lower d) c.body (behind_parameters c.parameters (more (block_field c.body) fields_end) (each_within d (item_field (definition (type_definition c))) x.1)) r
   item_whole (definition (class_definition c)) d x r =
-      let last : Fields = more (block_field c.body) noFields in
+      let last : Fields = more (block_field c.body) fields_end in
       body_whole (lower d) c.body (behind_parameters c.parameters last (behind_parent c.parent (parameter_fields c.parameters last) (each_within d (item_field (definition (class_definition c))) x.1))) r
 
   items_whole : (is : List Item) (d : ℕ) → All (Fine d ItemKind) (item_fields is) → TypesRight types S is → EachOf (WholeItem types S) is

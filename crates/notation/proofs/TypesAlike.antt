@@ -7,7 +7,7 @@ use mathlib.Core.Option.{Option, none, some}
 use lib.Dec.{eqb}
 use Rattle.rules.specs.Bytes.{pick, byte, two}
 use Rattle.rules.specs.Format.{is_constant}
-use Rattle.rules.specs.Fields.{Field, field, Fields, none as noFields, more}
+use Rattle.rules.specs.Fields.{Field, field, Fields, none as fields_end, more}
 use Rattle.rules.specs.Evaluate.{any}
 use Rattle.rules.specs.Types.{Types, the_eight, lent, eight_as_list, built_in_types, check_types}
 use Rattle.rules.specs.Compile.{same_bytes, string_at, is_built_in}
@@ -100,7 +100,7 @@ module _ (types types' : Types) (same : (w : List ℕ) → any (same_bytes w) (b
         ap₂ (λ (b : Bool) (g : Gone). pick (label_right strings l t h && (names_spellable strings t h && b)) g (stops p)) (type_alike strings t h) (over_all_alike strings ks (pick (is_constant t) (byte h 0) l))
 
     over_all_alike : (strings : List (List ℕ)) (ks : Fields) (l : ℕ) → over_all types strings ks l ≡ over_all types' strings ks l
-    over_all_alike strings noFields l = refl
+    over_all_alike strings fields_end l = refl
     over_all_alike strings (more k ks) l = rw (over_alike strings k l) (go (over types' strings k l) λ m. over_all_alike strings ks m)
       where
         go : (g : Gone) → ((m : ℕ) → over_all types strings ks m ≡ over_all types' strings ks m) → going g (over_all types strings ks) ≡ going g (over_all types' strings ks)
@@ -114,13 +114,13 @@ module _ (types types' : Types) (same : (w : List ℕ) → any (same_bytes w) (b
   -- ---- The calls
 
   module _ (verdict : check_types types ≡ check_types types') where
-    pub convert_alike : (given : List ℕ) (outputLength memoryLength : ℕ) → convert types given outputLength memoryLength ≡ convert types' given outputLength memoryLength
+    pub convert_alike : (given : List ℕ) (output_length memory_length : ℕ) → convert types given output_length memory_length ≡ convert types' given output_length memory_length
     unfolding convert converted
-    convert_alike given outputLength memoryLength = rw (verdict, items_alike _) refl
+    convert_alike given output_length memory_length = rw (verdict, items_alike _) refl
 
-    pub print_alike : (manifest : List ℕ) (outputLength memoryLength : ℕ) → print types manifest outputLength memoryLength ≡ print types' manifest outputLength memoryLength
+    pub print_alike : (manifest : List ℕ) (output_length memory_length : ℕ) → print types manifest output_length memory_length ≡ print types' manifest output_length memory_length
     unfolding print printed_text
-    print_alike manifest outputLength memoryLength = rw (verdict, unprintable_alike manifest) refl
+    print_alike manifest output_length memory_length = rw (verdict, unprintable_alike manifest) refl
 
 -- ---- The eight
 
@@ -129,8 +129,8 @@ unfolding built_in_types
 eight_agree w = eight_same w
 
 -- THE LAW: a call without a list is the call with the eight
-pub convert_eight : (given : List ℕ) (outputLength memoryLength : ℕ) → convert the_eight given outputLength memoryLength ≡ convert (lent eight_as_list) given outputLength memoryLength
+pub convert_eight : (given : List ℕ) (output_length memory_length : ℕ) → convert the_eight given output_length memory_length ≡ convert (lent eight_as_list) given output_length memory_length
 convert_eight = convert_alike the_eight (lent eight_as_list) eight_agree (eight_alike []).verdict
 
-pub print_eight : (manifest : List ℕ) (outputLength memoryLength : ℕ) → print the_eight manifest outputLength memoryLength ≡ print (lent eight_as_list) manifest outputLength memoryLength
+pub print_eight : (manifest : List ℕ) (output_length memory_length : ℕ) → print the_eight manifest output_length memory_length ≡ print (lent eight_as_list) manifest output_length memory_length
 print_eight = print_alike the_eight (lent eight_as_list) eight_agree (eight_alike []).verdict

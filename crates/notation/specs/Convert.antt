@@ -7,7 +7,7 @@ use Rattle.values.specs.Numbers.{number_of}
 use Rattle.rules.specs.Bytes.{pick}
 use Rattle.rules.specs.Format.{is_constant}
 use Rattle.rules.specs.Check.{ascends}
-use Rattle.rules.specs.Fields.{Field, field, Fields, none as noFields, more, write_all}
+use Rattle.rules.specs.Fields.{Field, field, Fields, none as fields_end, more, write_all}
 use Rattle.rules.specs.Catalog.{high_bytes}
 use Rattle.rules.specs.Compile.{string_number, checked}
 use Rattle.rules.specs.Outcome.{Outcome, refused, done, ◌>>=◌, refuse_if}
@@ -66,19 +66,19 @@ module _ (table : List (List ℕ)) where
   -- a field; and fields, with what follows them
   unfoldable mutual
     pub numbered : Node → Field
-    numbered (node p t h ks) = field p t (head_bytes h) (numbered_onto ks noFields)
+    numbered (node p t h ks) = field p t (head_bytes h) (numbered_onto ks fields_end)
 
     pub numbered_onto : Nodes → Fields → Fields
     numbered_onto empty rest = rest
     numbered_onto (ks ▸ k) rest = numbered_onto ks (more (numbered k) rest)
 
 unfoldable pub string_fields : List (List ℕ) → Fields
-string_fields [] = noFields
-string_fields (s ∷ strings) = more (field 0 0x02 s noFields) (string_fields strings)
+string_fields [] = fields_end
+string_fields (s ∷ strings) = more (field 0 0x02 s fields_end) (string_fields strings)
 
 -- "one field 01, then items"
 unfoldable pub manifest_fields : (table : List (List ℕ)) → Nodes → Fields
-manifest_fields table items = more (field 0 0x01 [] (string_fields table)) (numbered_onto table items noFields)
+manifest_fields table items = more (field 0 0x01 [] (string_fields table)) (numbered_onto table items fields_end)
 
 -- ---- Refusals
 
@@ -113,8 +113,8 @@ refuse_at none r = done tt
 refuse_at (some p) r = refused r p
 
 -- "over 65,535 bytes or does not fit the output"
-unfoldable pub too_long : List ℕ → (outputLength : ℕ) → Bool
-too_long written outputLength = ltb 65535 (length written) || ltb outputLength (length written)
+unfoldable pub too_long : List ℕ → (output_length : ℕ) → Bool
+too_long written output_length = ltb 65535 (length written) || ltb output_length (length written)
 
 -- ---- The whole
 
@@ -127,14 +127,14 @@ unfoldable pub manifest_bytes : List Lexeme → Nodes → List ℕ
 manifest_bytes xs items = write_all (manifest_fields (table_behind xs []) items)
 
 -- 1; 28; 24 of the text's length; 24; 25; 24 of the manifest's length
-unfoldable pub converted : Types → (given : List ℕ) → (outputLength memoryLength : ℕ) → Outcome (List ℕ)
-converted types given outputLength memoryLength = do
-  _ ← refuse_if (ltb memoryLength 65536) MemoryTooShort 0
+unfoldable pub converted : Types → (given : List ℕ) → (output_length memory_length : ℕ) → Outcome (List ℕ)
+converted types given output_length memory_length = do
+  _ ← refuse_if (ltb memory_length 65536) MemoryTooShort 0
   _ ← checked (check_types types)
   _ ← refuse_if (ltb 65535 (length given)) OutsideNotation 0
   items ← text_items types (tokens given)
   _ ← refuse_at (late_among items) PastLine255
-  _ ← refuse_if (too_long (manifest_bytes (tokens given) items) outputLength) OutsideNotation 0
+  _ ← refuse_if (too_long (manifest_bytes (tokens given) items) output_length) OutsideNotation 0
   done (manifest_bytes (tokens given) items)
 
 -- ---- What a call of a text tool leaves
@@ -144,9 +144,9 @@ answer_of (refused reason place) = Refused reason place
 answer_of (done written) = Written (length written)
 
 -- "a refusal leaves all output zero"; behind what is written the output is zero
-unfoldable pub output_of : (outputLength : ℕ) → Outcome (List ℕ) → List ℕ
-output_of outputLength (refused reason place) = replicate outputLength 0
-output_of outputLength (done written) = written ++ replicate (outputLength - length written) 0
+unfoldable pub output_of : (output_length : ℕ) → Outcome (List ℕ) → List ℕ
+output_of output_length (refused reason place) = replicate output_length 0
+output_of output_length (done written) = written ++ replicate (output_length - length written) 0
 
 -- the answer, and all bytes of the output and of the memory lent to the call, as they are after it
 pub record Effect : Type 0 where
@@ -154,11 +154,11 @@ pub record Effect : Type 0 where
   pub output_after : List ℕ
   pub memory_after : List ℕ
 
-unfoldable pub effect_of : (outputLength memoryLength : ℕ) → Outcome (List ℕ) → Effect
-effect_of outputLength memoryLength o = record { answer = answer_of o; output_after = output_of outputLength o; memory_after = replicate memoryLength 0 }
+unfoldable pub effect_of : (output_length memory_length : ℕ) → Outcome (List ℕ) → Effect
+effect_of output_length memory_length o = record { answer = answer_of o; output_after = output_of output_length o; memory_after = replicate memory_length 0 }
 
-unfoldable pub convert : Types → (given : List ℕ) → (outputLength memoryLength : ℕ) → Effect
-convert types given outputLength memoryLength = effect_of outputLength memoryLength (converted types given outputLength memoryLength)
+unfoldable pub convert : Types → (given : List ℕ) → (output_length memory_length : ℕ) → Effect
+convert types given output_length memory_length = effect_of output_length memory_length (converted types given output_length memory_length)
 
 -- an answer in the papers' numbers: the length, or number and place
 pub data Said : Type 0 where

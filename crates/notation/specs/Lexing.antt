@@ -109,7 +109,7 @@ pub data Mode : Type 0 where
   behind_dollar_colon : (p l : ℕ) → Mode  -- $:
   behind_top : (p l : ℕ) → Mode  -- $::
   in_top : (p l : ℕ) → List ℕ → Mode  -- $::x
-  behind_top_colon : (p l : ℕ) → List ℕ → (colonPlace colonLine : ℕ) → Mode  -- $::a and a colon
+  behind_top_colon : (p l : ℕ) → List ℕ → (colon_place colon_line : ℕ) → Mode  -- $::a and a colon
   behind_class : (p l : ℕ) → List ℕ → Mode  -- $::a::
   in_class_variable : (p l : ℕ) → (class name : List ℕ) → Mode  -- $::a::x
   behind_minus : (p l : ℕ) → Mode  -- - where an operand may begin

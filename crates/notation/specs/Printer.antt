@@ -7,7 +7,7 @@ use Rattle.rules.specs.Format.{form_of, size, is_constant}
 use Rattle.rules.specs.declared.Piece.{Piece}
 use Rattle.rules.specs.declared.Piece.TheVariants.{Nothing, Label, Integer, Boolean, Operator, Name}
 use Rattle.rules.specs.Check.{check}
-use Rattle.rules.specs.Fields.{Field, field, Fields, none as noFields, more, read_all, others}
+use Rattle.rules.specs.Fields.{Field, field, Fields, none as fields_end, more, read_all, others}
 use Rattle.rules.specs.Read.{manifest_of}
 use Rattle.rules.specs.Tree.{Manifest}
 use Rattle.rules.specs.Types.{Types, check_types}
@@ -79,7 +79,7 @@ module _ (types : Types) (strings : List (List ℕ)) where
         (stops p)
 
     pub over_all : Fields → (l : ℕ) → Gone
-    over_all noFields l = past l
+    over_all fields_end l = past l
     over_all (more k ks) l = going (over k l) (over_all ks)
 
 -- the items, which come behind the table
@@ -95,15 +95,15 @@ unfoldable pub text_of : Manifest → List ℕ
 text_of m = laid_out (tokens_of m) none 0 0
 
 -- 1; 28; 2; 3 and 4; 5; 26; 26 of the text's length
-unfoldable pub printed_text : Types → (manifest : List ℕ) → (outputLength memoryLength : ℕ) → Outcome (List ℕ)
-printed_text types manifest outputLength memoryLength = do
-  _ ← refuse_if (ltb memoryLength 65536) MemoryTooShort 0
+unfoldable pub printed_text : Types → (manifest : List ℕ) → (output_length memory_length : ℕ) → Outcome (List ℕ)
+printed_text types manifest output_length memory_length = do
+  _ ← refuse_if (ltb memory_length 65536) MemoryTooShort 0
   _ ← checked (check_types types)
   _ ← refuse_if (eqb (length manifest) 0 || ltb 65535 (length manifest)) ManifestLength 0
   _ ← checked (check manifest)
   _ ← refuse_at (unprintable_at types manifest) Unprintable
-  _ ← refuse_if (too_long (text_of (manifest_of manifest)) outputLength) Unprintable 0
+  _ ← refuse_if (too_long (text_of (manifest_of manifest)) output_length) Unprintable 0
   done (text_of (manifest_of manifest))
 
-unfoldable pub print : Types → (manifest : List ℕ) → (outputLength memoryLength : ℕ) → Effect
-print types manifest outputLength memoryLength = effect_of outputLength memoryLength (printed_text types manifest outputLength memoryLength)
+unfoldable pub print : Types → (manifest : List ℕ) → (output_length memory_length : ℕ) → Effect
+print types manifest output_length memory_length = effect_of output_length memory_length (printed_text types manifest output_length memory_length)

@@ -9,7 +9,7 @@ use Prim.Native.Nat.{ℕ, suc, ◌+◌, max}
 use Rattle.wire.specs.Runs.{over}
 use Rattle.wire.proofs.Laws.{over_length}
 use Rattle.rules.specs.Catalog.{high_bytes}
-use Rattle.rules.specs.Fields.{field, Fields, none as noFields, more, wrap, write, write_all}
+use Rattle.rules.specs.Fields.{field, Fields, none as fields_end, more, wrap, write, write_all}
 use Rattle.rules.proofs.Within.{false_not_true}
 use Rattle.notation.specs.Building.{Piece, byte, name, Node, node, Nodes, empty, ◌▸◌, tallest, Frame, frame, Build, build}
 use Rattle.notation.specs.Convert.{piece_bytes, head_bytes, numbered, numbered_onto}
@@ -40,7 +40,7 @@ module _ (T U : List (List ℕ)) where
 
     node_same : (k : Node) → length (write (numbered T k)) ≡ length (write (numbered U k))
     node_same (node p t h ks) =
-        omega (arith, field_length p t (head_bytes T h) (numbered_onto T ks noFields), field_length p t (head_bytes U h) (numbered_onto U ks noFields), head_same h, nodes_same ks noFields noFields refl)
+        omega (arith, field_length p t (head_bytes T h) (numbered_onto T ks fields_end), field_length p t (head_bytes U h) (numbered_onto U ks fields_end), head_same h, nodes_same ks fields_end fields_end refl)
 
     nodes_same : (ks : Nodes) (a b : Fields) → length (write_all a) ≡ length (write_all b) → length (write_all (numbered_onto T ks a)) ≡ length (write_all (numbered_onto U ks b))
     nodes_same empty a b e = e
@@ -49,7 +49,7 @@ module _ (T U : List (List ℕ)) where
 
   parts_same : (ks : Nodes) → length (parts_bytes T ks) ≡ length (parts_bytes U ks)
   unfolding parts_bytes
-  parts_same ks = nodes_same ks noFields noFields refl
+  parts_same ks = nodes_same ks fields_end fields_end refl
 
   around_same : (fs : List Frame) → length (around_bytes T fs) ≡ length (around_bytes U fs)
   unfolding around_bytes

@@ -11,7 +11,7 @@ use borrow.Author.Tests.{leb-true}
 use Prim.Native.Nat.{ℕ, zero, suc, ◌+◌, ◌*◌, ◌≤◌}
 use Rattle.wire.specs.Numbers.{high_bytes}
 use Rattle.rules.specs.Bytes.{pick}
-use Rattle.rules.specs.Fields.{none as noFields, wrap, write, write_all}
+use Rattle.rules.specs.Fields.{none as fields_end, wrap, write, write_all}
 use Rattle.rules.specs.Types.{Types}
 use Rattle.notation.specs.Tokens.{word, number, text, variable, top_variable, class_variable, mark, Lexeme, lexeme, kind, token_of, place_of, question, left_brace, right_brace}
 use Rattle.notation.specs.Building.{Piece, byte, name, Node, node, Nodes, empty, ◌▸◌, height, leaf, spelled, resource_tag, constant_node, variable_node, behind_label, in_front, Frame, frame, Build, build, Action, begin, begin_resource, around, instead, close, constant, read, named, parent_first, void, enter, leave, added, added_first, begun, act, acts}
@@ -82,7 +82,7 @@ module _ (types : Types) (table : List (List ℕ)) where
 
   node_size_lem : (p t : ℕ) (h : List Piece) (ks : Nodes) → node_size (node p t h ks) ≡ 3 + head_size h + parts_size ks
   unfolding write wrap numbered parts_bytes
-  node_size_lem p t h ks = omega (arith, length-append (head_bytes table h) (write_all (numbered_onto table ks noFields)))
+  node_size_lem p t h ks = omega (arith, length-append (head_bytes table h) (write_all (numbered_onto table ks fields_end)))
 
   no_parts_lem : parts_size empty ≡ 0
   unfolding write numbered parts_bytes

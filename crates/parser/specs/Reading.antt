@@ -3,7 +3,7 @@ use Rattle.std.specs.Prelude.{ℕ, ◌+◌, ◌*◌, ◌≤◌, ◌<◌, ◌≡�
 use Rattle.values.specs.declared.Reason.TheVariants.{OutsideNotation}
 use Rattle.rules.specs.Bytes.{pick}
 use Rattle.rules.specs.EditRule.{IsBytes}
-use Rattle.rules.specs.Fields.{none as noFields, write_all}
+use Rattle.rules.specs.Fields.{none as fields_end, write_all}
 use Rattle.rules.specs.Outcome.{refused, done}
 use Rattle.rules.specs.Types.{Types}
 use Rattle.notation.specs.Tokens.{Lexeme, kind, token_of, place_of, operand_behind, left_square, end_of_text, malformed}
@@ -139,9 +139,9 @@ pub record ReadWhole (types : Types) (t : List ℕ) (before : List (List ℕ)) (
   pub rising : Rising (strings t table count)
   pub few : count ≤ 1024
   pub late_is : late ≡ late_number (late_among items)
-  pub fill_is : fill ≡ length (write_all (numbered_onto (strings t table count) items noFields))
+  pub fill_is : fill ≡ length (write_all (numbered_onto (strings t table count) items fields_end))
   pub low : fill ≤ 1000000
-  pub written : fill ≤ length out → IsBytes (write_all (numbered_onto (strings t table count) items noFields)) → take fill out ≡ write_all (numbered_onto (strings t table count) items noFields)
+  pub written : fill ≤ length out → IsBytes (write_all (numbered_onto (strings t table count) items fields_end)) → take fill out ≡ write_all (numbered_onto (strings t table count) items fields_end)
 
 -- it is refused at a place
 pub record ReadFault (types : Types) (t : List ℕ) (before : List (List ℕ)) (place : ℕ) : Type 0 where

@@ -14,7 +14,7 @@ use Rattle.wire.specs.Runs.{bytes_at}
 use Rattle.rules.specs.Format.{allowed, forms, form_in, form_of, size, head_size, three, piece_right, bytes_right}
 use Rattle.rules.specs.Fields.{Field, field, Fields, none, read_each, read_body, read_field, inner, first, others}
 use Rattle.rules.specs.Tree.{Constant, Expression, constant, variable, top_variable, class_variable, operation, negation, attribute_read, selector, Arms, arm, default_arm, place_of}
-use Rattle.rules.specs.Read.{entry_for, value_from, constant_from, operator_from, is_default, ExpressionTag, a_constant, a_variable, aTopVariable, aClassVariable, anOperation, aNegation, anAttributeRead, aSelector, noExpression, expression_tags, arm_from, arms_from, expression_by, expression_in}
+use Rattle.rules.specs.Read.{entry_for, value_from, constant_from, operator_from, is_default, ExpressionTag, a_constant, a_variable, a_top_variable, a_class_variable, an_operation, a_negation, an_attribute_read, a_selector, no_expression, expression_tags, arm_from, arms_from, expression_by, expression_in}
 use Rattle.rules.specs.declared.Kind.{Kind}
 use Rattle.rules.specs.declared.Kind.TheVariants.{Constant as ConstantKind, Expression as ExpressionKind, Pattern, Arm}
 use Rattle.rules.specs.declared.Part.TheVariants.{Over, One}
@@ -80,18 +80,18 @@ placed_read m (suc d) p = go (head_size (form_of (byte m p))) (form_of (byte m p
 placed_expression : (p d : ℕ) {k : Field} → Placed p k → place_of (expression_in d k) ≡ p
 unfolding expression_in expression_by place_of constant_from
 placed_expression p zero placed = refl
-placed_expression p (suc d) (placed {t = t} {h = h} {ks = ks}) = go (entry_for expression_tags noExpression t)
+placed_expression p (suc d) (placed {t = t} {h = h} {ks = ks}) = go (entry_for expression_tags no_expression t)
   where
     go : (x : ExpressionTag) → place_of (expression_by (expression_in d) (field p t h ks) p h ks x) ≡ p
     go a_constant = refl
     go a_variable = refl
-    go aTopVariable = refl
-    go aClassVariable = refl
-    go anOperation = refl
-    go aNegation = refl
-    go anAttributeRead = refl
-    go aSelector = refl
-    go noExpression = refl
+    go a_top_variable = refl
+    go a_class_variable = refl
+    go an_operation = refl
+    go a_negation = refl
+    go an_attribute_read = refl
+    go a_selector = refl
+    go no_expression = refl
 
 -- the expression at p has the place p
 pub expression_place : (m : List ℕ) (d p : ℕ) → place_of (expression_at m d p) ≡ p
@@ -101,7 +101,7 @@ expression_place m d p = placed_expression p d (placed_read m d p)
 -- ---- Expressions without parts
 
 -- the expression read at p, opened once
-expression_read : (m : List ℕ) (d b p t : ℕ) (h : List ℕ) (ks : Fields) → d ≡ suc b → read_field m d p ≡ field p t h ks → expression_at m d p ≡ expression_by (expression_in b) (field p t h ks) p h ks (entry_for expression_tags noExpression t)
+expression_read : (m : List ℕ) (d b p t : ℕ) (h : List ℕ) (ks : Fields) → d ≡ suc b → read_field m d p ≡ field p t h ks → expression_at m d p ≡ expression_by (expression_in b) (field p t h ks) p h ks (entry_for expression_tags no_expression t)
 unfolding expression_at expression_in
 expression_read m d b p t h ks l r = ap₂ expression_in l r
 
@@ -109,7 +109,7 @@ pub constant_opens : {m : List ℕ} {d p : ℕ} → StandsAs m d ConstantKind p 
 unfolding form_of form_in forms head_size size expression_by entry_for expression_tags
 constant_opens {m} {d} {p} s = by_tag (byte m p) (constant_tag_lem (byte m p) s.kind) refl
   where
-    finish : (t h : ℕ) → entry_for expression_tags noExpression t ≡ a_constant → OpenedLeaf m d p t h → expression_at m d p ≡ constant (constant_at m p)
+    finish : (t h : ℕ) → entry_for expression_tags no_expression t ≡ a_constant → OpenedLeaf m d p t h → expression_at m d p ≡ constant (constant_at m p)
     finish t h e o =
         expression_read m d (d - 1) p t (bytes_at m (p + 3) h) none (level s.stands) o.read
         ∙ ap (expression_by (expression_in (d - 1)) (field p t (bytes_at m (p + 3) h) none) p (bytes_at m (p + 3) h) none) e

@@ -14,9 +14,9 @@ use Rattle.wire.proofs.Fields.{no_fields, field_first}
 use Rattle.wire.proofs.Laws.{run_part}
 use Rattle.rules.specs.Format.{allowed, forms, form_in, form_of, size, head_size, three}
 use Rattle.rules.specs.Check.{shape, text, string_places, check}
-use Rattle.rules.specs.Fields.{Field, field, Fields, none as noFields, more, read_each, read_body, read_field, read_all, head_of, tag_of, inner, first, others}
+use Rattle.rules.specs.Fields.{Field, field, Fields, none as fields_end, more, read_each, read_body, read_field, read_all, head_of, tag_of, inner, first, others}
 use Rattle.rules.specs.Tree.{Parent, type_definition, class_definition, named, by_default, Item, statement, node, definition}
-use Rattle.rules.specs.Read.{entry_for, is_default, statement_in, block_in, block_from, default_from, parameter_from, parameters_from, last_of, last_block, parent_from, after_parent, names_from, devices_from, aStatement, item_tags, item_by, item_from, items_from, strings_from, manifest_from, manifest_of}
+use Rattle.rules.specs.Read.{entry_for, is_default, statement_in, block_in, block_from, default_from, parameter_from, parameters_from, last_of, last_block, parent_from, after_parent, names_from, devices_from, a_statement, item_tags, item_by, item_from, items_from, strings_from, manifest_from, manifest_of}
 use Rattle.rules.specs.declared.Kind.{Kind}
 use Rattle.rules.specs.declared.Kind.TheVariants.{Table, Text, Constant as ConstantKind, Statement as StatementKind, Block as BlockKind, Parameter as ParameterKind, Parent as ParentKind, Item as ItemKind, Device}
 use Rattle.rules.specs.declared.Part.TheVariants.{Over, One, UpTo, Many, Names}
@@ -39,13 +39,13 @@ other_tag t u v e n = rw (eqb-true t u e) n
 
 -- ---- Statements outside others
 
-item_statement : (k : Field) → entry_for item_tags aStatement (tag_of k) ≡ aStatement → item_from k ≡ statement (statement_in block_from k)
+item_statement : (k : Field) → entry_for item_tags a_statement (tag_of k) ≡ a_statement → item_from k ≡ statement (statement_in block_from k)
 unfolding item_from item_by tag_of
 item_statement (field p t h ks) e = ap (item_by (field p t h ks) p h ks) e
 
 pub statement_item : {m : List ℕ} {p : ℕ} → StandsAs m 32 StatementKind p → item_at m p ≡ statement (statement_at m 32 p)
 unfolding item_at statement_at block_from
-statement_item {m} {p} s = item_statement (read_field m 32 p) (ap (entry_for item_tags aStatement) (tag_read s.stands) ∙ statement_entry (statement_tag_lem (byte m p) s.kind))
+statement_item {m} {p} s = item_statement (read_field m 32 p) (ap (entry_for item_tags a_statement) (tag_read s.stands) ∙ statement_entry (statement_tag_lem (byte m p) s.kind))
 
 -- ---- Parameters
 
@@ -104,7 +104,7 @@ last_after : {m : List ℕ} {d q r e : ℕ} {k : Kind} → q < e → Siblings m 
 unfolding last_of read_each
 last_after {m} {d} {q = q} {e = e} l i b j = rw (field_first m q e l) (last_read i b (read_field m d q))
 
-block_read : (m : List ℕ) (d r : ℕ) (ks : Fields) → d ≤ 32 → last_of (first noFields) ks ≡ read_field m d r → last_block ks ≡ block_at m d r
+block_read : (m : List ℕ) (d r : ℕ) (ks : Fields) → d ≤ 32 → last_of (first fields_end) ks ≡ read_field m d r → last_block ks ≡ block_at m d r
 unfolding last_block block_from
 block_read m d r ks l h = ap (block_in 32) h ∙ block_at_lem m d 32 r l
 
@@ -120,7 +120,7 @@ parameters_block s = let i = many_part s in record { to = i.to; parameters = i.s
 -- ---- Definitions
 
 -- the item read at p, opened
-item_read : (m : List ℕ) (p t : ℕ) (h : List ℕ) (ks : Fields) → read_field m 32 p ≡ field p t h ks → item_at m p ≡ item_by (field p t h ks) p h ks (entry_for item_tags aStatement t)
+item_read : (m : List ℕ) (p t : ℕ) (h : List ℕ) (ks : Fields) → read_field m 32 p ≡ field p t h ks → item_at m p ≡ item_by (field p t h ks) p h ks (entry_for item_tags a_statement t)
 unfolding item_at item_from
 item_read m p t h ks r = ap item_from r
 
@@ -139,7 +139,7 @@ type_definition_opens {m} {p} s e =
     let ks : Fields = read_each (read_field m 31) (fields_in m (p + 5) (end_of m p)) in
     let name = run_two m (p + 3) 2 0 (p + 3) (omega arith) (omega arith) in
     let parameters = parameters_read x.parameters x.body.block x.body.before in
-    let body = block_read m 31 x.to ks (omega arith) (last_read x.parameters x.body (first noFields)) in
+    let body = block_read m 31 x.to ks (omega arith) (last_read x.parameters x.body (first fields_end)) in
     record {
       block = x.to;
       tree = item_read m p 0x32 _ _ o.read ∙ λ i. definition (type_definition (record { place = p; name = name i; parameters = parameters i; body = body i }));
@@ -203,7 +203,7 @@ class_definition_opens {m} {p} s e = go (perhaps_part o.parts)
     ks : Fields
     ks = read_each (read_field m 31) (fields_in m (p + 5) (end_of m p))
 
-    finish : (q : ℕ) → Stands m 31 (p + 5) → (x : ParametersBlock m 31 q (end_of m p)) → parent_from (first ks) ≡ parent_at m (p + 5) → after_parent_at m (p + 5) ≡ q → after_parent (parent_from (first ks)) ks ≡ read_each (read_field m 31) (fields_in m q (end_of m p)) → last_of (first noFields) ks ≡ read_field m 31 x.to → ClassDefinitionAt m p
+    finish : (q : ℕ) → Stands m 31 (p + 5) → (x : ParametersBlock m 31 q (end_of m p)) → parent_from (first ks) ≡ parent_at m (p + 5) → after_parent_at m (p + 5) ≡ q → after_parent (parent_from (first ks)) ks ≡ read_each (read_field m 31) (fields_in m q (end_of m p)) → last_of (first fields_end) ks ≡ read_field m 31 x.to → ClassDefinitionAt m p
     finish q t x parent start after last =
         let name = run_two m (p + 3) 2 0 (p + 3) (omega arith) (omega arith) in
         let parameters = ap parameters_from after ∙ parameters_read x.parameters x.body.block x.body.before ∙ ap (λ (n : ℕ). parameters_at m (fields_in m n x.to)) (sym start) in
@@ -222,7 +222,7 @@ class_definition_opens {m} {p} s e = go (perhaps_part o.parts)
         let tag : eqb (byte m (p + 5)) 0x35 ≡ true = t.kind in
         let read : parent_from (first ks) ≡ some (record { place = p + 5; name = two m (p + 5 + 3) }) = ap parent_from (first_read (read_field m 31) m (p + 5) (end_of m p) l) ∙ parent_there_lem t in
         let after : after_parent (parent_from (first ks)) ks ≡ others ks = ap (λ (q : Option Parent). after_parent q ks) read in
-        finish (end_of m (p + 5)) t.stands x (read ∙ sym (parent_given m (p + 5) tag)) (after_given m (p + 5) tag) (after ∙ others_read (read_field m 31) m (p + 5) (end_of m p) l) (last_after l x.parameters x.body (first noFields))
+        finish (end_of m (p + 5)) t.stands x (read ∙ sym (parent_given m (p + 5) tag)) (after_given m (p + 5) tag) (after ∙ others_read (read_field m 31) m (p + 5) (end_of m p) l) (last_after l x.parameters x.body (first fields_end))
     go (not_there r) =
         let x = parameters_block r in
         let n = not_parent x.parameters x.body in
@@ -232,7 +232,7 @@ class_definition_opens {m} {p} s e = go (perhaps_part o.parts)
         let tag : eqb (tag_of (read_field m 31 (p + 5))) 0x35 ≡ false = ap (λ (t : ℕ). eqb t 0x35) (tag_read n.stands) ∙ n.other in
         let read : parent_from (first ks) ≡ none = ap parent_from (first_read (read_field m 31) m (p + 5) (end_of m p) l) ∙ no_parent_lem (read_field m 31 (p + 5)) tag in
         let after : after_parent (parent_from (first ks)) ks ≡ ks = ap (λ (q : Option Parent). after_parent q ks) read in
-        finish (p + 5) n.stands x (read ∙ sym (parent_none m (p + 5) n.other)) (after_none m (p + 5) n.other) after (last_read x.parameters x.body (first noFields))
+        finish (p + 5) n.stands x (read ∙ sym (parent_none m (p + 5) n.other)) (after_none m (p + 5) n.other) after (last_read x.parameters x.body (first fields_end))
 
 -- ---- Nodes
 
@@ -277,7 +277,7 @@ node_opens {m} {p} s e = go (names_part o.parts)
     ks : Fields
     ks = read_each (read_field m 31) (fields_in m (p + 3) (end_of m p))
 
-    tree : (r : ℕ) → devices_from ks ≡ devices_at m (p + 3) r → last_of (first noFields) ks ≡ read_field m 31 r → item_at m p ≡ node (devices_at m (p + 3) r) (block_at m 31 r)
+    tree : (r : ℕ) → devices_from ks ≡ devices_at m (p + 3) r → last_of (first fields_end) ks ≡ read_field m 31 r → item_at m p ≡ node (devices_at m (p + 3) r) (block_at m 31 r)
     tree r names last = item_read m p 0x30 _ _ o.read ∙ ap₂ node names (block_read m 31 r ks (omega arith) last)
 
     -- whether the first field is a default
@@ -289,14 +289,14 @@ node_opens {m} {p} s e = go (names_part o.parts)
         let b = block_ends r in
         let tag : eqb (byte m (p + 3)) 0x1b ≡ true = ap (λ (x : ℕ). eqb x 0x1b) u in
         let read : devices_from ks ≡ by_default = when_true (is_default (first ks)) by_default (named (names_from ks)) (tested t l ∙ tag) in
-        let last = last_after {k = Device} l ended b (first noFields) in
+        let last = last_after {k = Device} l ended b (first fields_end) in
         record { block = end_of m (p + 3); tree = tree (end_of m (p + 3)) (read ∙ sym (default_devices m (p + 3) (end_of m (p + 3)) tag)) last; first = t; default = λ h. refl; devices = λ h. false_not_true (sym h ∙ tag); body = b }
     go (devices l t i) =
         let b = block_ends i.after in
         let all = i.siblings in
         let tag : eqb (byte m (p + 3)) 0x1b ≡ false = other_tag (byte m (p + 3)) 0x31 0x1b t.kind refl in
         let read : devices_from ks ≡ named (names_from ks) = when_false (is_default (first ks)) by_default (named (names_from ks)) (tested t.stands l ∙ tag) in
-        record { block = i.to; tree = tree i.to (read ∙ ap named (names_read all b) ∙ sym (named_devices m (p + 3) i.to tag)) (last_read all b (first noFields)); first = t.stands; default = λ h. false_not_true (sym tag ∙ h); devices = λ h. all; body = b }
+        record { block = i.to; tree = tree i.to (read ∙ ap named (names_read all b) ∙ sym (named_devices m (p + 3) i.to tag)) (last_read all b (first fields_end)); first = t.stands; default = λ h. false_not_true (sym tag ∙ h); devices = λ h. all; body = b }
 
 -- ---- The whole manifest
 

@@ -9,7 +9,7 @@ use Rattle.wire.specs.Bytes.{byte, two}
 use Rattle.rules.specs.Format.{form_of, head_size}
 use Rattle.rules.specs.Fields.{Field, field, Fields, none, more, read_each, read_body, read_field, inner, first, others}
 use Rattle.rules.specs.Tree.{Expression, operation, negation, attribute_read, selector, Arms, arm, default_arm, conditional, choice, Block, next, Branches, branch, default_branch}
-use Rattle.rules.specs.Read.{entry_for, is_default, constant_from, operator_from, ExpressionTag, a_constant, a_variable, aTopVariable, aClassVariable, anOperation, aNegation, anAttributeRead, aSelector, noExpression, expression_tags, arm_from, arms_from, expression_by, expression_in, expression_from, StatementTag, anAssignment, aConditional, aChoice, aResource, aDefined, aClass, anInclude, noStatement, statement_tags, branch_from, branches_from, statement_by, statement_in, statements_from, block_in}
+use Rattle.rules.specs.Read.{entry_for, is_default, constant_from, operator_from, ExpressionTag, a_constant, a_variable, a_top_variable, a_class_variable, an_operation, a_negation, an_attribute_read, a_selector, no_expression, expression_tags, arm_from, arms_from, expression_by, expression_in, expression_from, StatementTag, an_assignment, a_conditional, a_choice, a_resource, a_defined, a_class, an_include, no_statement, statement_tags, branch_from, branches_from, statement_by, statement_in, statements_from, block_in}
 use Rattle.rules.specs.declared.Rest.{Rest}
 use Rattle.rules.specs.declared.Rest.TheVariants.{Only, Text, Fields as Inner}
 
@@ -83,13 +83,13 @@ module _ {d : ℕ} (f g : Field → Expression) (agree : (k : Field) → Deep d 
   unfolding expression_by
   same_expression k p h a a_constant = refl
   same_expression k p h a a_variable = refl
-  same_expression k p h a aTopVariable = refl
-  same_expression k p h a aClassVariable = refl
-  same_expression k p h a anOperation = ap₂ (operation p (operator_from (byte h 0))) (agree _ (deep_first a)) (agree _ (deep_first (deep_others a)))
-  same_expression k p h a aNegation = ap (negation p) (agree _ (deep_first a))
-  same_expression k p h a anAttributeRead = ap (attribute_read p (two h 0) (two h 2)) (agree _ (deep_first a))
-  same_expression k p h a aSelector = ap₂ (selector p) (agree _ (deep_first a)) (same_arms (deep_others a))
-  same_expression k p h a noExpression = refl
+  same_expression k p h a a_top_variable = refl
+  same_expression k p h a a_class_variable = refl
+  same_expression k p h a an_operation = ap₂ (operation p (operator_from (byte h 0))) (agree _ (deep_first a)) (agree _ (deep_first (deep_others a)))
+  same_expression k p h a a_negation = ap (negation p) (agree _ (deep_first a))
+  same_expression k p h a an_attribute_read = ap (attribute_read p (two h 0) (two h 2)) (agree _ (deep_first a))
+  same_expression k p h a a_selector = ap₂ (selector p) (agree _ (deep_first a)) (same_arms (deep_others a))
+  same_expression k p h a no_expression = refl
 
 module _ {d : ℕ} (f g : Field → Block) (agree : (k : Field) → Deep d k → f k ≡ g k) where
   same_branch : (b : Bool) {ks : Fields} → DeepAll d ks → {s t : Branches} → s ≡ t → branch_from f b ks s ≡ branch_from g b ks t
@@ -104,18 +104,18 @@ module _ {d : ℕ} (f g : Field → Block) (agree : (k : Field) → Deep d k →
 
   same_statement_by : (p : ℕ) (h : List ℕ) {ks : Fields} → DeepAll d ks → (t : StatementTag) → statement_by f p h ks t ≡ statement_by g p h ks t
   unfolding statement_by
-  same_statement_by p h a anAssignment = refl
-  same_statement_by p h {ks} a aConditional = ap₂ (conditional p (expression_from (first ks))) (agree _ (deep_first (deep_others a))) (agree _ (deep_first (deep_others (deep_others a))))
-  same_statement_by p h {ks} a aChoice = ap (choice p (expression_from (first ks))) (same_branches (deep_others a))
-  same_statement_by p h a aResource = refl
-  same_statement_by p h a aDefined = refl
-  same_statement_by p h a aClass = refl
-  same_statement_by p h a anInclude = refl
-  same_statement_by p h a noStatement = refl
+  same_statement_by p h a an_assignment = refl
+  same_statement_by p h {ks} a a_conditional = ap₂ (conditional p (expression_from (first ks))) (agree _ (deep_first (deep_others a))) (agree _ (deep_first (deep_others (deep_others a))))
+  same_statement_by p h {ks} a a_choice = ap (choice p (expression_from (first ks))) (same_branches (deep_others a))
+  same_statement_by p h a a_resource = refl
+  same_statement_by p h a a_defined = refl
+  same_statement_by p h a a_class = refl
+  same_statement_by p h a an_include = refl
+  same_statement_by p h a no_statement = refl
 
   same_statement : (k : Field) → Deep d k → statement_in f k ≡ statement_in g k
   unfolding statement_in inner
-  same_statement (field p t h ks) a = same_statement_by p h (deep_inner a) (entry_for statement_tags noStatement t)
+  same_statement (field p t h ks) a = same_statement_by p h (deep_inner a) (entry_for statement_tags no_statement t)
 
   same_statements : {ks : Fields} → DeepAll d ks → statements_from (statement_in f) ks ≡ statements_from (statement_in g) ks
   unfolding statements_from
@@ -147,7 +147,7 @@ unfolding expression_in
 expression_level d below j k x y f (blank {p = p}) = blank_expression j k p
 expression_level d below zero k x y f (deep a) = absurd (omega arith)
 expression_level d below (suc j) zero x y f (deep a) = absurd (omega arith)
-expression_level d below (suc j) (suc k) x y f (deep {p = p} {t = t} {h = h} {ks = ks} a) = same_expression (expression_in j) (expression_in k) (below j k (omega arith) (omega arith)) (field p t h ks) p h a (entry_for expression_tags noExpression t)
+expression_level d below (suc j) (suc k) x y f (deep {p = p} {t = t} {h = h} {ks = ks} a) = same_expression (expression_in j) (expression_in k) (below j k (omega arith) (omega arith)) (field p t h ks) p h a (entry_for expression_tags no_expression t)
 
 expression_levels : (d : ℕ) → ExpressionLevels d
 expression_levels zero j k x y f (blank {p = p}) = blank_expression j k p

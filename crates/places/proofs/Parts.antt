@@ -296,7 +296,7 @@ names_part {m} {d} {p} {b} {c} {q} {e} s = go (first_part s)
 
 -- ---- From one sibling to the next
 
--- before the end a sibling stands at q, and its siblings from its end on; `field-first` of `wire` says the same of the list of places
+-- before the end a sibling stands at q, and its siblings from its end on; `field_first` of `wire` says the same of the list of places
 pub record FirstSibling (m : List ℕ) (d : ℕ) (k : Kind) (q e : ℕ) : Type 0 where
   pub here : StandsAs m d k q
   pub after : Siblings m d k (end_of m q) e

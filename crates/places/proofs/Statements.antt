@@ -11,7 +11,7 @@ use Rattle.wire.specs.Bytes.{pick, byte, two, end_of, fields_in}
 use Rattle.rules.specs.Format.{allowed, forms, form_in, form_of, size, head_size, three}
 use Rattle.rules.specs.Fields.{Field, field, Fields, more, read_each, read_field, tag_of, inner, first, others}
 use Rattle.rules.specs.Tree.{Constant, Expression, AttributeField, Statement, assignment, conditional, choice, built_in_resource, defined_resource, class_with_attributes, include, Block, next, Branches, branch, default_branch}
-use Rattle.rules.specs.Read.{entry_for, is_default, expression_from, attribute_from, attributes_from, StatementTag, anAssignment, aConditional, aChoice, aResource, aDefined, aClass, anInclude, noStatement, statement_tags, branch_from, branches_from, statement_by, statement_in, statements_from, block_in}
+use Rattle.rules.specs.Read.{entry_for, is_default, expression_from, attribute_from, attributes_from, StatementTag, an_assignment, a_conditional, a_choice, a_resource, a_defined, a_class, an_include, no_statement, statement_tags, branch_from, branches_from, statement_by, statement_in, statements_from, block_in}
 use Rattle.rules.specs.Run.{statement_place}
 use Rattle.rules.specs.declared.Kind.TheVariants.{Expression as ExpressionKind, Pattern, Statement as StatementKind, Block as BlockKind, Branch, Attribute}
 use Rattle.rules.specs.declared.Part.TheVariants.{Over, One, Many}
@@ -67,24 +67,24 @@ attributes_read {m} {d} s = all_read attributes_from (attributes_at m d) s refl 
 -- ---- Statements
 
 -- the statement read at p, opened
-statement_read : (m : List ℕ) (d p t : ℕ) (h : List ℕ) (ks : Fields) → read_field m d p ≡ field p t h ks → statement_at m d p ≡ statement_by (block_in d) p h ks (entry_for statement_tags noStatement t)
+statement_read : (m : List ℕ) (d p t : ℕ) (h : List ℕ) (ks : Fields) → read_field m d p ≡ field p t h ks → statement_at m d p ≡ statement_by (block_in d) p h ks (entry_for statement_tags no_statement t)
 unfolding statement_at statement_in
 statement_read m d p t h ks r = ap (statement_in (block_in d)) r
 
 -- the statement at p has the place p
 placed_statement : (p : ℕ) (f : Field → Block) {k : Field} → Placed p k → statement_place (statement_in f k) ≡ p
 unfolding statement_in statement_by statement_place
-placed_statement p f (placed {t = t} {h = h} {ks = ks}) = go (entry_for statement_tags noStatement t)
+placed_statement p f (placed {t = t} {h = h} {ks = ks}) = go (entry_for statement_tags no_statement t)
   where
     go : (x : StatementTag) → statement_place (statement_by f p h ks x) ≡ p
-    go anAssignment = refl
-    go aConditional = refl
-    go aChoice = refl
-    go aResource = refl
-    go aDefined = refl
-    go aClass = refl
-    go anInclude = refl
-    go noStatement = refl
+    go an_assignment = refl
+    go a_conditional = refl
+    go a_choice = refl
+    go a_resource = refl
+    go a_defined = refl
+    go a_class = refl
+    go an_include = refl
+    go no_statement = refl
 
 pub statement_place_lem : (m : List ℕ) (d p : ℕ) → statement_place (statement_at m d p) ≡ p
 unfolding statement_at
@@ -191,7 +191,7 @@ pub record TitledAt (make : (place type : ℕ) → Expression → List Attribute
   pub title : StandsAs m b ExpressionKind (p + 5)
   pub attributes : Siblings m b Attribute (end_of m (p + 5)) (end_of m p)
 
-titled_opens : {m : List ℕ} {d b p t : ℕ} (make : (place type : ℕ) → Expression → List AttributeField → Statement) → Stands m d p → d ≡ suc b → byte m p ≡ t → Line t 2 (three (One ExpressionKind) (Many Attribute) Over) → ((h : List ℕ) (ks : Fields) → statement_by (block_in d) p h ks (entry_for statement_tags noStatement t) ≡ make p (two h 0) (expression_from (first ks)) (attributes_from (others ks))) → TitledAt make m d b p
+titled_opens : {m : List ℕ} {d b p t : ℕ} (make : (place type : ℕ) → Expression → List AttributeField → Statement) → Stands m d p → d ≡ suc b → byte m p ≡ t → Line t 2 (three (One ExpressionKind) (Many Attribute) Over) → ((h : List ℕ) (ks : Fields) → statement_by (block_in d) p h ks (entry_for statement_tags no_statement t) ≡ make p (two h 0) (expression_from (first ks)) (attributes_from (others ks))) → TitledAt make m d b p
 titled_opens {m} {d} {b} {p} {t} make s l e i by =
     let o = opened {q = p + 5} s l e i (omega arith) in
     let x = one_read o.parts in

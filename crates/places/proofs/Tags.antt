@@ -6,7 +6,7 @@ use native.Mathlib.Omega.{arith}
 use lib.Dec.{eqb, leb}
 use borrow.Author.Tests.{leb-true, eqb-true}
 use Rattle.rules.specs.Format.{allowed}
-use Rattle.rules.specs.Read.{entry_for, aStatement, item_tags}
+use Rattle.rules.specs.Read.{entry_for, a_statement, item_tags}
 use Rattle.rules.specs.declared.Kind.TheVariants.{Constant, Expression, Statement, Item}
 use Rattle.rules.proofs.Listed.{both_left, both_right}
 
@@ -106,7 +106,7 @@ statement_tag_lem t e = either (leb 0x21 t && leb t 0x23) (eqb t 0x25 || (leb 0x
     high (suc (suc (suc i))) l = absurd (omega arith)
 
 -- the reader of items takes each of them for a statement
-pub statement_entry : {t : ℕ} → IsStatementTag t → entry_for item_tags aStatement t ≡ aStatement
+pub statement_entry : {t : ℕ} → IsStatementTag t → entry_for item_tags a_statement t ≡ a_statement
 unfolding entry_for item_tags
 statement_entry assignment_tag = refl
 statement_entry conditional_tag = refl

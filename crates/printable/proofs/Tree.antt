@@ -12,7 +12,7 @@ use Rattle.wire.proofs.Fields.{no_fields, field_first}
 use Rattle.rules.specs.Bytes.{pick, byte, two, end_of, fields_in}
 use Rattle.rules.specs.Format.{three, forms, form_in, form_of, size, head_size, is_constant}
 use Rattle.rules.specs.Check.{walk, inside, stride, next_in_order, check}
-use Rattle.rules.specs.Fields.{field, Fields, none as noFields, read_each, read_body, read_field, read_all, others}
+use Rattle.rules.specs.Fields.{field, Fields, none as fields_end, read_each, read_body, read_field, read_all, others}
 use Rattle.rules.specs.Types.{Types}
 use Rattle.rules.specs.Compile.{is_built_in}
 use Rattle.rules.specs.declared.Part.TheVariants.{Over, Many}
@@ -166,8 +166,8 @@ module _ (types : Types) (m : List ℕ) (ss : List (List ℕ)) where
       size_here = head_size (form_of (byte m q))
 
       go : (r : Rest) → next_in_order m q ≡ q + 3 + stride r size_here (two m (q + 1)) → (form_of (byte m q)).rest ≡ r → gone_from types m ss q l ≡ going (over types ss (read_body m (read_field m d) q size_here r) l) (gone_from types m ss (end_of m q))
-      go Only next x = let there = s.pieces in gone_field q (end_of m q) l noFields (gone_from types m ss (end_of m q)) h (omega arith) (λ j. ap (λ (p : ℕ). gone_from types m ss p j) next)
-      go Text next x = let there = s.pieces in gone_field q (end_of m q) l noFields (gone_from types m ss (end_of m q)) h (omega arith) (λ j. ap (λ (p : ℕ). gone_from types m ss p j) next)
+      go Only next x = let there = s.pieces in gone_field q (end_of m q) l fields_end (gone_from types m ss (end_of m q)) h (omega arith) (λ j. ap (λ (p : ℕ). gone_from types m ss p j) next)
+      go Text next x = let there = s.pieces in gone_field q (end_of m q) l fields_end (gone_from types m ss (end_of m q)) h (omega arith) (λ j. ap (λ (p : ℕ). gone_from types m ss p j) next)
       go (Inner ps) next x =
           let from : ℕ = q + 3 + size_here in
           let there = s.pieces in

@@ -16,15 +16,15 @@ pub record Counted (whole out out' : List ℕ) (n : ℕ) : Type 0 where
 
 -- ---- The last two refusals of `printed_text`
 
-unfoldable pub fitting_text : (manifest : List ℕ) → (outputLength : ℕ) → Outcome (List ℕ)
-fitting_text m outputLength = do
-  _ ← refuse_if (too_long (text_of (manifest_of m)) outputLength) Unprintable 0
+unfoldable pub fitting_text : (manifest : List ℕ) → (output_length : ℕ) → Outcome (List ℕ)
+fitting_text m output_length = do
+  _ ← refuse_if (too_long (text_of (manifest_of m)) output_length) Unprintable 0
   done (text_of (manifest_of m))
 
-unfoldable pub printable_text : (types : Types) (manifest : List ℕ) → (outputLength : ℕ) → Outcome (List ℕ)
-printable_text types m outputLength = do
+unfoldable pub printable_text : (types : Types) (manifest : List ℕ) → (output_length : ℕ) → Outcome (List ℕ)
+printable_text types m output_length = do
   _ ← refuse_at (unprintable_at types m) Unprintable
-  fitting_text m outputLength
+  fitting_text m output_length
 
 -- ---- What a call leaves
 

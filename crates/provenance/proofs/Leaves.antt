@@ -18,7 +18,7 @@ use Rattle.places.proofs.Open.{level}
 use Rattle.places.proofs.Expressions.{constant_opens, variable_opens, top_variable_opens, class_variable_opens, OperationAt, operation_opens, negation_opens, attribute_read_opens, SelectorAt, selector_opens}
 use Rattle.cells.specs.Scopes.{scope_of}
 use Rattle.cells.specs.Memory.{cells_of, classes_of, base_for, state_of}
-use Rattle.cells.proofs.Scopes.{top_scope}
+use Rattle.cells.proofs.Scopes.{top_scope_lem}
 use Rattle.memory.specs.declared.Scope.{Scope}
 use Rattle.evaluator.proofs.Expressions.{Small}
 use Rattle.evaluator.proofs.Leaves.{constant_below, selector_last}
@@ -50,7 +50,7 @@ module _ (m w out : List ℕ) (fill : ℕ) (scope : Scope) (d p : ℕ) where
     unfolding marks_read state_of
     marks_top {n} is name e s =
         marks_of m w out fill scope d p (top_variable p (two m (p + 3))) (top_variable_opens s.stands (sym tag ∙ is))
-        (record { says = λ k path es n' r h. e ∙ ap (marks_in (cells_of w) n) (upward_one (classes_of w) (base_for false) (scope_of 0)) ∙ λ i. marks_in (cells_of w) (name i) (top_scope i ∷ []) })
+        (record { says = λ k path es n' r h. e ∙ ap (marks_in (cells_of w) n) (upward_one (classes_of w) (base_for false) (scope_of 0)) ∙ λ i. marks_in (cells_of w) (name i) (top_scope_lem i ∷ []) })
 
     pub marks_class : {q n : ℕ} {a : Labels} → t ≡ 0x15 → q ≡ two m (p + 3) → n ≡ two m (p + 5) → a ≡ marks_in (cells_of w) n (class_scope q ∷ []) → StandsAs m d ExpressionKind p → Marks a
     unfolding marks_read state_of

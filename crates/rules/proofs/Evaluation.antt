@@ -14,7 +14,7 @@ use Rattle.values.specs.declared.Reason.{Reason}
 use Rattle.rules.specs.Outcome.{Outcome, ◌>>=◌, or_refuse, Result, at, under, joining}
 use Rattle.rules.specs.Arithmetic.{integer_in, string_in, boolean_in, sum, difference, quotient, is_greater}
 use Rattle.rules.specs.Tree.{Constant, Operator, plus, minus, divide, greater, equal, and, or, Expression, Arms}
-use Rattle.rules.specs.State.{Scope, topScope, class_scope, DeclaredClass, upward, Cell, Cells, Attribute, SetParts, Entry, State, Context, Known, scopes_tried}
+use Rattle.rules.specs.State.{Scope, top_scope, class_scope, DeclaredClass, upward, Cell, Cells, Attribute, SetParts, Entry, State, Context, Known, scopes_tried}
 use Rattle.rules.specs.Evaluate.{any, first_with, is_entry, is_attribute, or_else, read_in, read_attribute, integers, booleans, equality, operate, of_constant, select, evaluate, arm_patterns}
 use Rattle.rules.specs.Patterns.{Patterns}
 use Rattle.rules.proofs.Same.{Edit, High, high_one, high_left, high_right, Pairwise, none_paired, paired, Optional, both_none, both_some, SameConstant, same_constant, SameExpression, same_constants, same_variable, same_top_variable, same_class_variable, same_operation, same_negation, same_attribute_read, same_selector, same_unreadable, SameArms, same_no_arm, same_arm, same_default_arm}
@@ -264,7 +264,7 @@ module _ (D : Edit) where
       pub evaluate_same : {e e' : Expression} → SameExpression D e e' → Two SameLabelled (evaluate k c st e) (evaluate k' c st' e')
       evaluate_same (same_constants h) = two_any _ _ λ _ _. both_done (same_constant_lem h)
       evaluate_same (same_variable {p = p} {q = q} {n = n}) = rw same_scopes (read_same p q n (scopes_tried c st') view.cells)
-      evaluate_same (same_top_variable {p = p} {q = q} {n = n}) = read_same p q n (topScope ∷ []) view.cells
+      evaluate_same (same_top_variable {p = p} {q = q} {n = n}) = read_same p q n (top_scope ∷ []) view.cells
       evaluate_same (same_class_variable {p = p} {q = q} {c = b} {n = n}) = two_any _ _ λ _ _. read_same p q n (class_scope b ∷ []) view.cells
       evaluate_same (same_operation {o = o} a b) = then_same (evaluate_same a) λ x. operate_same o _ _ _ _ _ _ x.value (evaluate_same b)
       evaluate_same (same_negation a) = then_same (evaluate_same a) λ x. two_at _ _ (boolean_in x.value) λ t. both_done equals

@@ -23,10 +23,10 @@ use Rattle.rules.specs.declared.Verdict.TheVariants.{Sound}
 use Rattle.rules.specs.declared.Rest.{Rest}
 use Rattle.rules.specs.declared.Rest.TheVariants.{Only, Text, Fields as Inner}
 use Rattle.rules.specs.Arithmetic.{fits64}
-use Rattle.rules.specs.Fields.{Field, field, Fields, none as noFields, more, read_each, read_body, read_field, read_all, head_of, tag_of, inner, first, others}
+use Rattle.rules.specs.Fields.{Field, field, Fields, none as fields_end, more, read_each, read_body, read_field, read_all, head_of, tag_of, inner, first, others}
 use Rattle.rules.specs.Tree.{Constant, Operator, Expression, constant, variable, top_variable, class_variable, operation, negation, attribute_read, selector, Arms, no_arm, arm, default_arm, AttributeField, Statement, assignment, conditional, choice, built_in_resource, defined_resource, class_with_attributes, include, Block, end, next, Branches, no_branch, branch, default_branch, Parameter, Parent, TypeDefinition, ClassDefinition, Definition, type_definition, class_definition, Devices, named, by_default, Item, statement, node, definition}
 use Rattle.rules.specs.Tree
-use Rattle.rules.specs.Read.{number, signed64, value_from, constant_from, is_default, entry_for, ExpressionTag, a_constant, a_variable, aTopVariable, aClassVariable, anOperation, aNegation, anAttributeRead, aSelector, noExpression, expression_tags, arm_from, arms_from, expression_by, expression_in, expression_from, attribute_from, attributes_from, StatementTag, anAssignment, aConditional, aChoice, aResource, aDefined, aClass, anInclude, noStatement, statement_tags, branch_from, branches_from, statement_by, statement_in, statements_from, block_in, block_from, default_from, parameter_from, parameters_from, last_of, last_block, parent_from, after_parent, names_from, devices_from, ItemTag, aNode, aTypeDefinition, aClassDefinition, aStatement, item_tags, item_by, item_from, items_from, manifest_from, manifest_of}
+use Rattle.rules.specs.Read.{number, signed64, value_from, constant_from, is_default, entry_for, ExpressionTag, a_constant, a_variable, a_top_variable, a_class_variable, an_operation, a_negation, an_attribute_read, a_selector, no_expression, expression_tags, arm_from, arms_from, expression_by, expression_in, expression_from, attribute_from, attributes_from, StatementTag, an_assignment, a_conditional, a_choice, a_resource, a_defined, a_class, an_include, no_statement, statement_tags, branch_from, branches_from, statement_by, statement_in, statements_from, block_in, block_from, default_from, parameter_from, parameters_from, last_of, last_block, parent_from, after_parent, names_from, devices_from, ItemTag, a_node, a_type_definition, a_class_definition, a_statement, item_tags, item_by, item_from, items_from, manifest_from, manifest_of}
 use Rattle.rules.specs.Evaluate.{find_type, find_class}
 use Rattle.rules.specs.EditRule.{IsBytes}
 use Rattle.rules.proofs.Lists.{Perhaps, not_there, there, Each, none_left, also}
@@ -229,7 +229,7 @@ module _ (m : List ℕ) where
       fits_field : {p t : ℕ} {h : List ℕ} {ks : Fields} → Placed p → (IsBytes m → IsBytes h) → FitsFields ks → FitsField (field p t h ks)
 
     data FitsFields : Fields → Type 0 where
-      fits_none : FitsFields noFields
+      fits_none : FitsFields fields_end
       fits_more : {k : Field} {ks : Fields} → FitsField k → FitsFields ks → FitsFields (more k ks)
 
   -- the field at p, with d levels left for it, is without fault and ends in the manifest
@@ -273,7 +273,7 @@ module _ (m : List ℕ) where
   -- ---- From fields to the tree
 
   -- a field that is missing is read as an empty one at 0
-  no_field_fits : FitsField (first noFields)
+  no_field_fits : FitsField (first fields_end)
   unfolding first
   no_field_fits = fits_field {p = 0} (λ ok. omega (arith, (shape_sound m (check_sound m ok).shaped).within.there)) (λ y. no_bytes) fits_none
 
@@ -317,18 +317,18 @@ module _ (m : List ℕ) where
       unfolding expression_by
       expression_by_fits a_constant p a b fs = fits_constant (constant_fits a)
       expression_by_fits a_variable p a b fs = fits_variable (name_fits_lem b 0)
-      expression_by_fits aTopVariable p a b fs = fits_top_variable (name_fits_lem b 0)
-      expression_by_fits aClassVariable p a b fs = fits_class_variable (name_fits_lem b 0) (name_fits_lem b 2)
-      expression_by_fits anOperation p a b fs = fits_operation (g _ (first_fits fs)) (g _ (first_fits (others_fits fs)))
-      expression_by_fits aNegation p a b fs = fits_negation (g _ (first_fits fs))
-      expression_by_fits anAttributeRead p a b fs = fits_attribute_read (name_fits_lem b 0) (name_fits_lem b 2) (g _ (first_fits fs))
-      expression_by_fits aSelector p a b fs = fits_selector (g _ (first_fits fs)) (arms_fit (others_fits fs))
-      expression_by_fits noExpression p a b fs = fits_unreadable
+      expression_by_fits a_top_variable p a b fs = fits_top_variable (name_fits_lem b 0)
+      expression_by_fits a_class_variable p a b fs = fits_class_variable (name_fits_lem b 0) (name_fits_lem b 2)
+      expression_by_fits an_operation p a b fs = fits_operation (g _ (first_fits fs)) (g _ (first_fits (others_fits fs)))
+      expression_by_fits a_negation p a b fs = fits_negation (g _ (first_fits fs))
+      expression_by_fits an_attribute_read p a b fs = fits_attribute_read (name_fits_lem b 0) (name_fits_lem b 2) (g _ (first_fits fs))
+      expression_by_fits a_selector p a b fs = fits_selector (g _ (first_fits fs)) (arms_fit (others_fits fs))
+      expression_by_fits no_expression p a b fs = fits_unreadable
 
     expression_in_fits : (d : ℕ) {k : Field} → FitsField k → InExpression (IsBytes m) Of (expression_in d k)
     unfolding expression_in
     expression_in_fits zero (fits_field w b fs) = fits_unreadable
-    expression_in_fits (suc d) (fits_field {p = p} {t = t} w b fs) = expression_by_fits (expression_in d) (λ k a. expression_in_fits d a) (entry_for expression_tags noExpression t) p (fits_field w b fs) b fs
+    expression_in_fits (suc d) (fits_field {p = p} {t = t} w b fs) = expression_by_fits (expression_in d) (λ k a. expression_in_fits d a) (entry_for expression_tags no_expression t) p (fits_field w b fs) b fs
 
     expression_fits : {k : Field} → FitsField k → InExpression (IsBytes m) Of (expression_from k)
     unfolding expression_from
@@ -361,18 +361,18 @@ module _ (m : List ℕ) where
 
       statement_by_fits : (t : StatementTag) (p : ℕ) {h : List ℕ} {ks : Fields} → (IsBytes m → IsBytes h) → FitsFields ks → InStatement (IsBytes m) Of (statement_by f p h ks t)
       unfolding statement_by
-      statement_by_fits anAssignment p b fs = fits_assignment (name_fits_lem b 0) (expression_fits (first_fits fs))
-      statement_by_fits aConditional p b fs = fits_conditional (expression_fits (first_fits fs)) (g _ (first_fits (others_fits fs))) (g _ (first_fits (others_fits (others_fits fs))))
-      statement_by_fits aChoice p b fs = fits_choice (expression_fits (first_fits fs)) (branches_fit (others_fits fs))
-      statement_by_fits aResource p b fs = fits_resource (name_fits_lem b 0) (expression_fits (first_fits fs)) (attributes_fit (others_fits fs))
-      statement_by_fits aDefined p b fs = fits_defined (name_fits_lem b 0) (expression_fits (first_fits fs)) (attributes_fit (others_fits fs))
-      statement_by_fits aClass p b fs = fits_class (name_fits_lem b 0) (attributes_fit fs)
-      statement_by_fits anInclude p b fs = fits_include (name_fits_lem b 0)
-      statement_by_fits noStatement p b fs = fits_unreadable_statement
+      statement_by_fits an_assignment p b fs = fits_assignment (name_fits_lem b 0) (expression_fits (first_fits fs))
+      statement_by_fits a_conditional p b fs = fits_conditional (expression_fits (first_fits fs)) (g _ (first_fits (others_fits fs))) (g _ (first_fits (others_fits (others_fits fs))))
+      statement_by_fits a_choice p b fs = fits_choice (expression_fits (first_fits fs)) (branches_fit (others_fits fs))
+      statement_by_fits a_resource p b fs = fits_resource (name_fits_lem b 0) (expression_fits (first_fits fs)) (attributes_fit (others_fits fs))
+      statement_by_fits a_defined p b fs = fits_defined (name_fits_lem b 0) (expression_fits (first_fits fs)) (attributes_fit (others_fits fs))
+      statement_by_fits a_class p b fs = fits_class (name_fits_lem b 0) (attributes_fit fs)
+      statement_by_fits an_include p b fs = fits_include (name_fits_lem b 0)
+      statement_by_fits no_statement p b fs = fits_unreadable_statement
 
       statement_in_fits : {k : Field} → FitsField k → InStatement (IsBytes m) Of (statement_in f k)
       unfolding statement_in
-      statement_in_fits (fits_field {p = p} {t = t} w b fs) = statement_by_fits (entry_for statement_tags noStatement t) p b fs
+      statement_in_fits (fits_field {p = p} {t = t} w b fs) = statement_by_fits (entry_for statement_tags no_statement t) p b fs
 
       statements_fit : {ks : Fields} → FitsFields ks → InBlock (IsBytes m) Of (statements_from (statement_in f) ks)
       unfolding statements_from
@@ -444,19 +444,19 @@ module _ (m : List ℕ) where
 
     item_by_fits : (t : ItemTag) (p : ℕ) {k : Field} {h : List ℕ} {ks : Fields} → FitsField k → (IsBytes m → IsBytes h) → FitsFields ks → InItem (IsBytes m) Of (item_by k p h ks t)
     unfolding item_by
-    item_by_fits aNode p a b fs = fits_node (devices_fit fs) (last_block_fits fs)
-    item_by_fits aTypeDefinition p a b fs = fits_definition_item (fits_type_definition (record { name = name_fits_lem b 0; parameters = parameters_fit fs; body = last_block_fits fs }))
-    item_by_fits aClassDefinition p {ks = ks} a b fs = fits_definition_item (fits_class_definitions (record {
+    item_by_fits a_node p a b fs = fits_node (devices_fit fs) (last_block_fits fs)
+    item_by_fits a_type_definition p a b fs = fits_definition_item (fits_type_definition (record { name = name_fits_lem b 0; parameters = parameters_fit fs; body = last_block_fits fs }))
+    item_by_fits a_class_definition p {ks = ks} a b fs = fits_definition_item (fits_class_definitions (record {
       name = name_fits_lem b 0;
       parent = parent_fits (first_fits fs);
       parameters = parameters_fit (after_parent_fits (parent_from (first ks)) fs);
       body = last_block_fits fs;
     }))
-    item_by_fits aStatement p a b fs = fits_statement_item (statement_in_fits block_from (λ k c. block_fits c) a)
+    item_by_fits a_statement p a b fs = fits_statement_item (statement_in_fits block_from (λ k c. block_fits c) a)
 
     item_fits : {k : Field} → FitsField k → InItem (IsBytes m) Of (item_from k)
     unfolding item_from
-    item_fits (fits_field {p = p} {t = t} w b fs) = item_by_fits (entry_for item_tags aStatement t) p (fits_field w b fs) b fs
+    item_fits (fits_field {p = p} {t = t} w b fs) = item_by_fits (entry_for item_tags a_statement t) p (fits_field w b fs) b fs
 
     items_fit : {ks : Fields} → FitsFields ks → Each (InItem (IsBytes m) Of) (items_from ks)
     unfolding items_from

@@ -42,17 +42,17 @@ run_formerly known (definition d ∷ items) st = do
   run_formerly (with_definition d known) items st
 
 -- a whole compile: nothing is defined before the first item runs
-unfoldable pub former_state : Types → (manifest device : List ℕ) → (limit outputLength memoryLength : ℕ) → Outcome State
-former_state types manifest device limit outputLength memoryLength = do
-  _ ← refuse_if (ltb memoryLength 65536) MemoryTooShort 0
+unfoldable pub former_state : Types → (manifest device : List ℕ) → (limit output_length memory_length : ℕ) → Outcome State
+former_state types manifest device limit output_length memory_length = do
+  _ ← refuse_if (ltb memory_length 65536) MemoryTooShort 0
   _ ← checked (check_types types)
   _ ← refuse_if (eqb (length manifest) 0 || ltb 65535 (length manifest)) ManifestLength 0
   _ ← checked (check manifest)
-  run_formerly (known_with none_struck_out types (manifest_of manifest).strings []) (items_for (manifest_of manifest).strings device (manifest_of manifest).items) (start limit outputLength)
+  run_formerly (known_with none_struck_out types (manifest_of manifest).strings []) (items_for (manifest_of manifest).strings device (manifest_of manifest).items) (start limit output_length)
 
-unfoldable pub compiled_formerly : Types → (manifest device : List ℕ) → (limit outputLength memoryLength : ℕ) → Outcome Compiled
-compiled_formerly types manifest device limit outputLength memoryLength = do
-  st ← former_state types manifest device limit outputLength memoryLength
+unfoldable pub compiled_formerly : Types → (manifest device : List ℕ) → (limit output_length memory_length : ℕ) → Outcome Compiled
+compiled_formerly types manifest device limit output_length memory_length = do
+  st ← former_state types manifest device limit output_length memory_length
   done (compiled_from limit st)
 
 -- ---- Nodes are no definitions: those of the items that run are those of all

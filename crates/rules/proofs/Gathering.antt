@@ -71,9 +71,9 @@ module _ {P : Definition → Type 0} {Q : Item → Type 0} (inside : (d : Defini
   gathered_each (also {x = definition d} q qs) h = all_any _ λ _. gathered_each qs (also (inside d q) h)
 
 -- two manifests with one tree have the same definitions, but for the constants that differ
-module _ (D : Edit) (built_in builtIn' : ℕ → Bool) where
+module _ (D : Edit) (built_in built_in' : ℕ → Bool) where
   pub gathered_same : {is is' : List Item} → Pairwise (SameItem D) is is' → {ds ds' : List Definition} → Pairwise (SameDefinition D) ds ds'
-      → Two (Pairwise (SameDefinition D)) (gather_definitions built_in ds is) (gather_definitions builtIn' ds' is')
+      → Two (Pairwise (SameDefinition D)) (gather_definitions built_in ds is) (gather_definitions built_in' ds' is')
   unfolding gather_definitions
   gathered_same none_paired h = both_done h
   gathered_same (paired (same_statement_item x) r) h = gathered_same r h

@@ -21,7 +21,7 @@ use Rattle.rules.specs.Arithmetic.{integer_in, boolean_in, same_value}
 use Rattle.rules.specs.Tree.{Constant, Operator, plus, minus, divide, greater, equal, and, or, Expression, Arms, place_of, AttributeField, Statement, Block, Branches, Parameter, Parent, ClassDefinition, Item, Manifest}
 use Rattle.rules.specs.Read.{manifest_of}
 use Rattle.rules.specs.Patterns.{Patterns, no_pattern, constant_pattern, default_pattern, tried, labels_of, tried_labels}
-use Rattle.rules.specs.State.{Scope, topScope, class_scope, body_scope, same_scope, DeclaredClass, Cell, Cells, no_cell, value_into, mark_into, freed, Attribute, Entry, State, Context, Known, scopes_tried, is_declared, assign, trail_with, tested, mark_declared, free, with_entry}
+use Rattle.rules.specs.State.{Scope, top_scope, class_scope, body_scope, same_scope, DeclaredClass, Cell, Cells, no_cell, value_into, mark_into, freed, Attribute, Entry, State, Context, Known, scopes_tried, is_declared, assign, trail_with, tested, mark_declared, free, with_entry}
 use Rattle.rules.specs.Evaluate.{first_with, is_entry, is_attribute, or_else, read_in, read_attribute, integers, booleans, equality, operate, of_constant, come_to, come_to_all, select, evaluate, arm_patterns}
 use Rattle.rules.specs.Run.{assigns_in, assigns_any, declares_in, declares_any, path_and_trail, with_path_and_trail, in_branch, stored, store, Given as GivenValue, is_given, evaluate_all, default_of, given_or, parameter_values, taken_default, taken_defaults, store_all, store_title, attributes_under, marks_for, entry_from, add_entry, add_resource, after_test, Declaration, of_type, of_class, included, Declare, run, run_block, branch_patterns, placed_under, in_class, in_body, parent_first, enter_class, declaration, run_at_top, top_context, node_context, run_items}
 use Rattle.rules.specs.declared.Verdict.{Verdict}
@@ -176,7 +176,7 @@ module _ (Given : Type 0) (Of : Constant → Type 0) (struck : Constant → Bool
         evaluate_has : {e : Expression} → InExpression Given Of e → All Has (evaluate k c st e)
         evaluate_has (fits_constant v) = all_bind (come_to_has k same v) λ _ q. all_done q
         evaluate_has (fits_variable {p = p} {n = n} f) = read_has p st.cells n (scopes_tried c st) h.cells
-        evaluate_has (fits_top_variable {p = p} {n = n} f) = read_has p st.cells n (topScope ∷ []) h.cells
+        evaluate_has (fits_top_variable {p = p} {n = n} f) = read_has p st.cells n (top_scope ∷ []) h.cells
         evaluate_has (fits_class_variable {p = p} {q = q} {n = n} f g) = all_any _ λ _. read_has p st.cells n (class_scope q ∷ []) h.cells
         evaluate_has (fits_operation {p = p} {o = o} {a = a} {b = b} f g) = operand_has (evaluate_has f) λ x. operate_has o p (place_of a) (place_of b) x.value (evaluate_has g)
         evaluate_has (fits_negation f) = operand_has (evaluate_has f) λ x. all_any _ λ b. all_done joins.none

@@ -6,7 +6,7 @@ use mathlib.Core.Bool.{Bool, true, false, ◌&&◌}
 use mathlib.Core.List.{List}
 use native.Mathlib.Omega.{arith}
 use lib.Dec.{eqb, ltb}
-use lib.ListN.{length, take as takeBytes, length-take, get_or-eq_default}
+use lib.ListN.{length, take as take_bytes, length-take, get_or-eq_default}
 use lib.Seq.{slice, length-slice, get_or-take, get_or-drop}
 use borrow.Author.Tests.{ltb-true, ltb-false, eqb-true, eqb-false}
 use Rattle.rules.specs.Bytes.{pick, byte, two, end_of, fields_in}
@@ -226,7 +226,7 @@ as_listed P l h ks r e a b = record { head = subst (λ (x : Rest). HeadFor x l h
 -- ---- Heads from bytes
 
 slice_byte : (m : List ℕ) (f t i : ℕ) → f + i < t → byte (slice f t m) i ≡ byte m (f + i)
-slice_byte m f t i h = get_or-drop f (takeBytes t m) i 0 ∙ get_or-take t m (f + i) 0 h
+slice_byte m f t i h = get_or-drop f (take_bytes t m) i 0 ∙ get_or-take t m (f + i) 0 h
 
 slice_bytes : (m : List ℕ) → IsBytes m → (f t : ℕ) → IsBytes (slice f t m)
 slice_bytes m b f t = record { below = λ i. go i (ltb (f + i) t) refl }
@@ -236,7 +236,7 @@ slice_bytes m b f t = record { below = λ i. go i (ltb (f + i) t) refl }
     go i false h =
         let past : t ≤ f + i = ltb-false (f + i) t h in
         let count = length-take t m in
-        let zero_there : byte (slice f t m) i ≡ 0 = get_or-drop f (takeBytes t m) i 0 ∙ get_or-eq_default (takeBytes t m) 0 (omega arith) in
+        let zero_there : byte (slice f t m) i ≡ 0 = get_or-drop f (take_bytes t m) i 0 ∙ get_or-eq_default (take_bytes t m) 0 (omega arith) in
         omega arith
 
 -- a piece that is right stays so in another list that has its byte

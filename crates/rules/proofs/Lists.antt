@@ -5,7 +5,7 @@ use mathlib.Core.Bool.{Bool, true, false, ◌||◌, ◌&&◌, true≢false, fals
 use mathlib.Core.List.{List, [], ◌∷◌, ◌++◌, Memᴰ}
 use mathlib.Core.Option.{Option, none, some}
 use lib.Dec.{T, eqb, eqb→eq, eqb_refl}
-use Rattle.rules.specs.State.{Scope, topScope, nodeScope, class_scope, body_scope, same_scope}
+use Rattle.rules.specs.State.{Scope, top_scope, node_scope, class_scope, body_scope, same_scope}
 use Rattle.rules.specs.Evaluate.{first_with}
 pub use Rattle.rules.specs.Ranges.{Each, none_left, also}
 
@@ -157,26 +157,26 @@ module _ {A : Type 0} {P : A → Type 0} where
 
 pub scope_same : (s : Scope) → same_scope s s ≡ true
 unfolding same_scope
-scope_same topScope = refl
-scope_same nodeScope = refl
+scope_same top_scope = refl
+scope_same node_scope = refl
 scope_same (class_scope c) = eqb_same c
 scope_same (body_scope n) = eqb_same n
 
 pub scope_only : (s t : Scope) → same_scope s t ≡ true → s ≡ t
 unfolding same_scope
-scope_only topScope topScope h = refl
-scope_only topScope nodeScope h = absurd (false≢true h)
-scope_only topScope (class_scope b) h = absurd (false≢true h)
-scope_only topScope (body_scope b) h = absurd (false≢true h)
-scope_only nodeScope topScope h = absurd (false≢true h)
-scope_only nodeScope nodeScope h = refl
-scope_only nodeScope (class_scope b) h = absurd (false≢true h)
-scope_only nodeScope (body_scope b) h = absurd (false≢true h)
-scope_only (class_scope a) topScope h = absurd (false≢true h)
-scope_only (class_scope a) nodeScope h = absurd (false≢true h)
+scope_only top_scope top_scope h = refl
+scope_only top_scope node_scope h = absurd (false≢true h)
+scope_only top_scope (class_scope b) h = absurd (false≢true h)
+scope_only top_scope (body_scope b) h = absurd (false≢true h)
+scope_only node_scope top_scope h = absurd (false≢true h)
+scope_only node_scope node_scope h = refl
+scope_only node_scope (class_scope b) h = absurd (false≢true h)
+scope_only node_scope (body_scope b) h = absurd (false≢true h)
+scope_only (class_scope a) top_scope h = absurd (false≢true h)
+scope_only (class_scope a) node_scope h = absurd (false≢true h)
 scope_only (class_scope a) (class_scope b) h = λ i. class_scope (eqb_true a b h i)
 scope_only (class_scope a) (body_scope b) h = absurd (false≢true h)
-scope_only (body_scope a) topScope h = absurd (false≢true h)
-scope_only (body_scope a) nodeScope h = absurd (false≢true h)
+scope_only (body_scope a) top_scope h = absurd (false≢true h)
+scope_only (body_scope a) node_scope h = absurd (false≢true h)
 scope_only (body_scope a) (class_scope b) h = absurd (false≢true h)
 scope_only (body_scope a) (body_scope b) h = λ i. body_scope (eqb_true a b h i)

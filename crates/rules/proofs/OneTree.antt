@@ -12,9 +12,9 @@ use lib.Dec.{eqb, leb}
 use borrow.Author.Tests.{leb-true, eqb-true, eqb-false, eq-eqb, ne_eqb}
 use Rattle.rules.specs.Bytes.{byte, two}
 use Rattle.rules.specs.Format.{is_constant}
-use Rattle.rules.specs.Fields.{Field, field, Fields, none as noFields, more, read_all, head_of, tag_of, inner, first, others}
+use Rattle.rules.specs.Fields.{Field, field, Fields, none as fields_end, more, read_all, head_of, tag_of, inner, first, others}
 use Rattle.rules.specs.Tree.{Expression, Arms, Statement, Block, Branches, Parent, named, by_default, node}
-use Rattle.rules.specs.Read.{entry_for, value_from, constant_from, is_default, ExpressionTag, a_constant, a_variable, aTopVariable, aClassVariable, anOperation, aNegation, anAttributeRead, aSelector, noExpression, expression_tags, arm_from, arms_from, expression_by, expression_in, expression_from, attribute_from, attributes_from, StatementTag, anAssignment, aConditional, aChoice, aResource, aDefined, aClass, anInclude, noStatement, statement_tags, branch_from, branches_from, statement_by, statement_in, statements_from, block_in, block_from, default_from, parameter_from, parameters_from, last_of, last_block, parent_from, after_parent, names_from, devices_from, ItemTag, aNode, aTypeDefinition, aClassDefinition, aStatement, item_tags, item_by, item_from, items_from, strings_from, manifest_from, manifest_of}
+use Rattle.rules.specs.Read.{entry_for, value_from, constant_from, is_default, ExpressionTag, a_constant, a_variable, a_top_variable, a_class_variable, an_operation, a_negation, an_attribute_read, a_selector, no_expression, expression_tags, arm_from, arms_from, expression_by, expression_in, expression_from, attribute_from, attributes_from, StatementTag, an_assignment, a_conditional, a_choice, a_resource, a_defined, a_class, an_include, no_statement, statement_tags, branch_from, branches_from, statement_by, statement_in, statements_from, block_in, block_from, default_from, parameter_from, parameters_from, last_of, last_block, parent_from, after_parent, names_from, devices_from, ItemTag, a_node, a_type_definition, a_class_definition, a_statement, item_tags, item_by, item_from, items_from, strings_from, manifest_from, manifest_of}
 use Rattle.rules.specs.Compile.{same_bytes}
 use Rattle.rules.specs.EditRule.{opposite, same_field, same_fields, one_tree, differs_here, differs_in, differs_any, differing}
 use Rattle.rules.proofs.Same.{Edit, anywhere, Pairwise, none_paired, paired, Optional, both_none, both_some, SameConstant, same_constant, SameExpression, same_constants, same_variable, same_top_variable, same_class_variable, same_operation, same_negation, same_attribute_read, same_selector, same_unreadable, SameArms, same_no_arm, same_arm, same_default_arm, SameAttributeField, same_attribute_field, SameAttributeFields, SameStatement, same_assignment, same_conditional, same_choice, same_resource, same_defined, same_class, same_include, same_unreadable_statement, SameBlock, same_end, same_next, SameBranches, same_no_branch, same_branch, same_default_branch, SameParameter, same_parameter, SameParent, same_parent, SameParameters, same_type, same_class_definition, same_type_definition, same_class_definitions, SameItem, same_statement_item, same_node, same_definition_item, SameItems}
@@ -70,17 +70,17 @@ of_constant_lem P a b c t e = integer (eqb t 0x10) refl
     integer false q = string (eqb-false t 0x10 q) (eqb t 0x11) refl
 
 -- which entry of each list of tags a constant's tag has
-constant_expression : (t : ℕ) → is_constant t ≡ true → entry_for expression_tags noExpression t ≡ a_constant
+constant_expression : (t : ℕ) → is_constant t ≡ true → entry_for expression_tags no_expression t ≡ a_constant
 unfolding entry_for expression_tags
-constant_expression = of_constant_lem (λ t. entry_for expression_tags noExpression t ≡ a_constant) refl refl refl
+constant_expression = of_constant_lem (λ t. entry_for expression_tags no_expression t ≡ a_constant) refl refl refl
 
-constant_statement : (t : ℕ) → is_constant t ≡ true → entry_for statement_tags noStatement t ≡ noStatement
+constant_statement : (t : ℕ) → is_constant t ≡ true → entry_for statement_tags no_statement t ≡ no_statement
 unfolding entry_for statement_tags
-constant_statement = of_constant_lem (λ t. entry_for statement_tags noStatement t ≡ noStatement) refl refl refl
+constant_statement = of_constant_lem (λ t. entry_for statement_tags no_statement t ≡ no_statement) refl refl refl
 
-constant_item : (t : ℕ) → is_constant t ≡ true → entry_for item_tags aStatement t ≡ aStatement
+constant_item : (t : ℕ) → is_constant t ≡ true → entry_for item_tags a_statement t ≡ a_statement
 unfolding entry_for item_tags
-constant_item = of_constant_lem (λ t. entry_for item_tags aStatement t ≡ aStatement) refl refl refl
+constant_item = of_constant_lem (λ t. entry_for item_tags a_statement t ≡ a_statement) refl refl refl
 
 -- a constant's tag is no tag that is not a constant's
 constant_tag_lem : (n : ℕ) → is_constant n ≡ false → (t : ℕ) → is_constant t ≡ true → eqb t n ≡ false
@@ -102,7 +102,7 @@ module _ (D : Edit) (missing : D.places 0 0) where
       constants : {p q t u : ℕ} {h g : List ℕ} {ks js : Fields} → is_constant t ≡ true → is_constant u ≡ true → byte h 0 ≡ byte g 0 → D.differs (byte h 0) → D.places p q → AlikeFields ks js → Alike (field p t h ks) (field q u g js)
 
     pub data AlikeFields : Fields → Fields → Type 0 where
-      alike_none : AlikeFields noFields noFields
+      alike_none : AlikeFields fields_end fields_end
       alike_more : {k j : Field} {ks js : Fields} → Alike k j → AlikeFields ks js → AlikeFields (more k ks) (more j js)
 
   -- every label that passes a test is that of a differing constant
@@ -142,9 +142,9 @@ module _ (D : Edit) (missing : D.places 0 0) where
           (fields_alike ks js (and_right (opposite t h u g) (same_fields ks js) s) (covers_right (differs_here t h u g) (differs_any ks js) c))
 
       pub fields_alike : (ks js : Fields) → same_fields ks js ≡ true → Covers (differs_any ks js) → AlikeFields ks js
-      fields_alike noFields noFields s c = alike_none
-      fields_alike noFields (more j js) s c = absurd (true≢false (sym s))
-      fields_alike (more k ks) noFields s c = absurd (true≢false (sym s))
+      fields_alike fields_end fields_end s c = alike_none
+      fields_alike fields_end (more j js) s c = absurd (true≢false (sym s))
+      fields_alike (more k ks) fields_end s c = absurd (true≢false (sym s))
       fields_alike (more k ks) (more j js) s c =
           alike_more (field_alike k j (and_left (same_field k j) (same_fields ks js) s) (covers_left (differs_in k j) (differs_any ks js) c))
           (fields_alike ks js (and_right (same_field k j) (same_fields ks js) s) (covers_right (differs_in k j) (differs_any ks js) c))
@@ -220,13 +220,13 @@ module _ (D : Edit) (missing : D.places 0 0) where
   unfolding expression_by
   one_expression_by f o r p q h rs a_constant = same_constants (one_constant r)
   one_expression_by f o r p q h rs a_variable = same_variable
-  one_expression_by f o r p q h rs aTopVariable = same_top_variable
-  one_expression_by f o r p q h rs aClassVariable = same_class_variable
-  one_expression_by f o r p q h rs anOperation = same_operation (o.kept _ _ (alike_first rs)) (o.kept _ _ (alike_first (alike_others rs)))
-  one_expression_by f o r p q h rs aNegation = same_negation (o.kept _ _ (alike_first rs))
-  one_expression_by f o r p q h rs anAttributeRead = same_attribute_read (o.kept _ _ (alike_first rs))
-  one_expression_by f o r p q h rs aSelector = same_selector (o.kept _ _ (alike_first rs)) (one_arms f o (alike_others rs))
-  one_expression_by f o r p q h rs noExpression = same_unreadable
+  one_expression_by f o r p q h rs a_top_variable = same_top_variable
+  one_expression_by f o r p q h rs a_class_variable = same_class_variable
+  one_expression_by f o r p q h rs an_operation = same_operation (o.kept _ _ (alike_first rs)) (o.kept _ _ (alike_first (alike_others rs)))
+  one_expression_by f o r p q h rs a_negation = same_negation (o.kept _ _ (alike_first rs))
+  one_expression_by f o r p q h rs an_attribute_read = same_attribute_read (o.kept _ _ (alike_first rs))
+  one_expression_by f o r p q h rs a_selector = same_selector (o.kept _ _ (alike_first rs)) (one_arms f o (alike_others rs))
+  one_expression_by f o r p q h rs no_expression = same_unreadable
 
   one_expression_none : (k j : Field) → Alike k j → SameExpression D (expression_in zero k) (expression_in zero j)
   unfolding expression_in
@@ -235,7 +235,7 @@ module _ (D : Edit) (missing : D.places 0 0) where
 
   one_expression_next : (d : ℕ) → Keeps (SameExpression D) (expression_in d) → (k j : Field) → Alike k j → SameExpression D (expression_in (suc d) k) (expression_in (suc d) j)
   unfolding expression_in expression_by
-  one_expression_next d o k j (alike {p = p} {q = q} {t = t} {h = h} z r) = one_expression_by (expression_in d) o (alike z r) p q h r (entry_for expression_tags noExpression t)
+  one_expression_next d o k j (alike {p = p} {q = q} {t = t} {h = h} z r) = one_expression_by (expression_in d) o (alike z r) p q h r (entry_for expression_tags no_expression t)
   one_expression_next d o k j (constants {t = t} {u = u} a b e l z r) = rw (constant_expression t a, constant_expression u b) (same_constants (one_constant (constants a b e l z r)))
 
   one_expression_in : (d : ℕ) → Keeps (SameExpression D) (expression_in d)
@@ -272,18 +272,18 @@ module _ (D : Edit) (missing : D.places 0 0) where
 
   one_statement_by : (f : Field → Block) → Keeps (SameBlock D) f → (p q : ℕ) (h : List ℕ) {ks js : Fields} → AlikeFields ks js → (tag : StatementTag) → SameStatement D (statement_by f p h ks tag) (statement_by f q h js tag)
   unfolding statement_by
-  one_statement_by f o p q h rs anAssignment = same_assignment (one_expression (alike_first rs))
-  one_statement_by f o p q h rs aConditional = same_conditional (one_expression (alike_first rs)) (o.kept _ _ (alike_first (alike_others rs))) (o.kept _ _ (alike_first (alike_others (alike_others rs))))
-  one_statement_by f o p q h rs aChoice = same_choice (one_expression (alike_first rs)) (one_branches f o (alike_others rs))
-  one_statement_by f o p q h rs aResource = same_resource (one_expression (alike_first rs)) (one_attributes (alike_others rs))
-  one_statement_by f o p q h rs aDefined = same_defined (one_expression (alike_first rs)) (one_attributes (alike_others rs))
-  one_statement_by f o p q h rs aClass = same_class (one_attributes rs)
-  one_statement_by f o p q h rs anInclude = same_include
-  one_statement_by f o p q h rs noStatement = same_unreadable_statement
+  one_statement_by f o p q h rs an_assignment = same_assignment (one_expression (alike_first rs))
+  one_statement_by f o p q h rs a_conditional = same_conditional (one_expression (alike_first rs)) (o.kept _ _ (alike_first (alike_others rs))) (o.kept _ _ (alike_first (alike_others (alike_others rs))))
+  one_statement_by f o p q h rs a_choice = same_choice (one_expression (alike_first rs)) (one_branches f o (alike_others rs))
+  one_statement_by f o p q h rs a_resource = same_resource (one_expression (alike_first rs)) (one_attributes (alike_others rs))
+  one_statement_by f o p q h rs a_defined = same_defined (one_expression (alike_first rs)) (one_attributes (alike_others rs))
+  one_statement_by f o p q h rs a_class = same_class (one_attributes rs)
+  one_statement_by f o p q h rs an_include = same_include
+  one_statement_by f o p q h rs no_statement = same_unreadable_statement
 
   one_statement : (f : Field → Block) → Keeps (SameBlock D) f → (k j : Field) → Alike k j → SameStatement D (statement_in f k) (statement_in f j)
   unfolding statement_in statement_by
-  one_statement f o k j (alike {p = p} {q = q} {t = t} {h = h} z r) = one_statement_by f o p q h r (entry_for statement_tags noStatement t)
+  one_statement f o k j (alike {p = p} {q = q} {t = t} {h = h} z r) = one_statement_by f o p q h r (entry_for statement_tags no_statement t)
   one_statement f o k j (constants {t = t} {u = u} a b e l z r) = rw (constant_statement t a, constant_statement u b) same_unreadable_statement
 
   one_statements : (f : Field → Statement) → Keeps (SameStatement D) f → {ks js : Fields} → AlikeFields ks js → SameBlock D (statements_from f ks) (statements_from f js)
@@ -357,14 +357,14 @@ module _ (D : Edit) (missing : D.places 0 0) where
 
   one_item_by : {k j : Field} → Alike k j → (p q : ℕ) (h : List ℕ) {ks js : Fields} → AlikeFields ks js → (tag : ItemTag) → SameItem D (item_by k p h ks tag) (item_by j q h js tag)
   unfolding item_by
-  one_item_by r p q h {ks} {js} rs aNode = subst (λ ds. SameItem D (node (devices_from ks) (last_block ks)) (node ds (last_block js))) (one_devices rs) (same_node (one_last_block rs))
-  one_item_by r p q h rs aTypeDefinition = same_definition_item (same_type_definition (same_type (one_parameters rs) (one_last_block rs)))
-  one_item_by r p q h rs aClassDefinition = same_definition_item (same_class_definitions (same_class_definition (one_parent (alike_first rs)) (one_parameters (alike_after (one_parent (alike_first rs)) rs)) (one_last_block rs)))
-  one_item_by r p q h rs aStatement = same_statement_item (one_statement block_from (record { kept = one_block }) _ _ r)
+  one_item_by r p q h {ks} {js} rs a_node = subst (λ ds. SameItem D (node (devices_from ks) (last_block ks)) (node ds (last_block js))) (one_devices rs) (same_node (one_last_block rs))
+  one_item_by r p q h rs a_type_definition = same_definition_item (same_type_definition (same_type (one_parameters rs) (one_last_block rs)))
+  one_item_by r p q h rs a_class_definition = same_definition_item (same_class_definitions (same_class_definition (one_parent (alike_first rs)) (one_parameters (alike_after (one_parent (alike_first rs)) rs)) (one_last_block rs)))
+  one_item_by r p q h rs a_statement = same_statement_item (one_statement block_from (record { kept = one_block }) _ _ r)
 
   one_item : {k j : Field} → Alike k j → SameItem D (item_from k) (item_from j)
   unfolding item_from item_by
-  one_item (alike {p = p} {q = q} {t = t} {h = h} z r) = one_item_by (alike z r) p q h r (entry_for item_tags aStatement t)
+  one_item (alike {p = p} {q = q} {t = t} {h = h} z r) = one_item_by (alike z r) p q h r (entry_for item_tags a_statement t)
   one_item (constants {t = t} {u = u} a b e l z r) = rw (constant_item t a, constant_item u b) (same_statement_item (one_statement block_from (record { kept = one_block }) _ _ (constants a b e l z r)))
 
   -- items of fields alike are the same

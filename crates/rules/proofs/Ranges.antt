@@ -16,7 +16,7 @@ use Rattle.values.specs.declared.Reason.TheVariants.{Overflow, DivisionByZero}
 use Rattle.rules.specs.Outcome.{Outcome, Result, fails, gives, at, plain, joining, ◌>>=◌}
 use Rattle.rules.specs.Arithmetic.{integer_in, string_in, boolean_in, fits64, in_range, is_zero, floor_divide, sum, difference, quotient, is_greater}
 use Rattle.rules.specs.Tree.{Constant, Operator, plus, minus, divide, greater, equal, and, or, Expression, Arms, place_of}
-use Rattle.rules.specs.State.{Scope, topScope, class_scope, Cell, Cells, Entry, State, Context, Known, scopes_tried}
+use Rattle.rules.specs.State.{Scope, top_scope, class_scope, Cell, Cells, Entry, State, Context, Known, scopes_tried}
 use Rattle.rules.specs.Evaluate.{is_entry, is_attribute, or_else, read_in, read_attribute, integers, booleans, equality, operate, of_constant, select, evaluate, arm_patterns}
 use Rattle.rules.proofs.Lists.{Perhaps, not_there, there, Each, found, each_under}
 use Rattle.rules.proofs.Outcome.{All, all_refused, all_done, all_bind, all_any, all_if, all_found, Gives, gives_none, gives_one, all_at}
@@ -134,7 +134,7 @@ module _ (Given : Type 0) where
       pub evaluate_fits : {e : Expression} → FitsExpression Given e → All Ranged (evaluate k c st e)
       evaluate_fits (fits_constant v) = all_any _ λ _. all_done (constant_fits v)
       evaluate_fits (fits_variable {p = p} {n = n} f) = read_fits p st.cells n (scopes_tried c st) cells
-      evaluate_fits (fits_top_variable {p = p} {n = n} f) = read_fits p st.cells n (topScope ∷ []) cells
+      evaluate_fits (fits_top_variable {p = p} {n = n} f) = read_fits p st.cells n (top_scope ∷ []) cells
       evaluate_fits (fits_class_variable {p = p} {q = q} {n = n} f g) = all_any _ λ _. read_fits p st.cells n (class_scope q ∷ []) cells
       evaluate_fits (fits_operation {p = p} {o = o} {a = a} {b = b} f g) = operand_fits (evaluate_fits f) λ x. operate_fits o p (place_of a) (place_of b) x.value (evaluate_fits g)
       evaluate_fits (fits_negation f) = operand_fits (evaluate_fits f) λ x. all_any _ λ b. plain_fits fits_boolean

@@ -31,7 +31,7 @@ use Rattle.rules.specs.declared.Verdict.{Verdict}
 use Rattle.rules.specs.declared.Verdict.TheVariants.{Sound, Fault}
 use Rattle.rules.specs.Check.{header, and_then, allowing, walk, rest, body, inside, shape, ascends, text, rising_from, rising, names_known, check}
 use Rattle.rules.specs.Patterns.{Patterns}
-use Rattle.rules.specs.State.{Scope, topScope, class_scope, Cells, Entry, State, Context, Known, scopes_tried, is_declared, take_step, cells_for, assign}
+use Rattle.rules.specs.State.{Scope, top_scope, class_scope, Cells, Entry, State, Context, Known, scopes_tried, is_declared, take_step, cells_for, assign}
 use Rattle.rules.specs.Evaluate.{or_else, read_in, read_attribute, integers, booleans, equality, operate, come_to, come_to_all, select, evaluate, arm_patterns}
 use Rattle.rules.specs.Run.{store, Given, evaluate_all, named_once, parameters_known, parameter_values, store_all, store_title, add_entry, add_resource, after_test, do_nothing, Declaration, of_type, of_class, included, Declare, run, run_block, branch_patterns, parent_first, enter_class, declaration, run_at_top, top_context, node_context, gather_definitions, run_items}
 use Rattle.rules.specs.Types.{Types, the_eight, lent, type_places, field_right, types_right, check_list, check_types}
@@ -184,7 +184,7 @@ module _ (known : Known) (here : Context) (st : State) where
     own_evaluate : (e : Expression) → IfRefused Own (evaluate known here st e)
     own_evaluate (constant v) = refusal_bind (refusal_if (known.struck_out v) _ _ (lit< tt)) λ _. accepts
     own_evaluate (variable p n) = own_read p st.cells n (scopes_tried here st)
-    own_evaluate (top_variable p n) = own_read p st.cells n (topScope ∷ [])
+    own_evaluate (top_variable p n) = own_read p st.cells n (top_scope ∷ [])
     own_evaluate (class_variable p class n) = refusal_bind (refusal_if _ _ _ (lit< tt)) λ _. own_read p st.cells n (class_scope class ∷ [])
     own_evaluate (operation p o a b) = own_operand (own_evaluate a) λ x. own_operate o p (place_of a) (place_of b) x.value (own_evaluate b)
     own_evaluate (negation p a) = own_operand (own_evaluate a) λ x. refusal_bind (own_at (place_of a) (own_boolean x.value)) λ b. accepts

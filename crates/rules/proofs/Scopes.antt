@@ -13,7 +13,7 @@ use Rattle.values.specs.declared.Labelled.{Labelled}
 use Rattle.rules.specs.Outcome.{done, ◌>>=◌}
 use Rattle.rules.specs.Tree.{Constant, Statement, assignment, conditional, choice, built_in_resource, defined_resource, class_with_attributes, include, Block, end, next, Branches, no_branch, branch, default_branch, Parent, ClassDefinition, Definition, type_definition, class_definition, Devices, Item, statement, node, definition}
 use Rattle.rules.specs.Tree
-use Rattle.rules.specs.State.{Scope, topScope, nodeScope, class_scope, body_scope, same_scope, Base, topBase, nodeBase, base_scope, DeclaredClass, parent_of_class, parent_of, upward, Cell, no_cell, value_into, mark_into, freed, count, State, Context, Known, scopes_tried, is_declared, take_step, assign, tested, mark_declared, free, with_entry}
+use Rattle.rules.specs.State.{Scope, top_scope, node_scope, class_scope, body_scope, same_scope, Base, top_base, node_base, base_scope, DeclaredClass, parent_of_class, parent_of, upward, Cell, no_cell, value_into, mark_into, freed, count, State, Context, Known, scopes_tried, is_declared, take_step, assign, tested, mark_declared, free, with_entry}
 use Rattle.rules.specs.Evaluate.{find_class}
 use Rattle.rules.specs.Run.{in_branch, store, Given, taken_defaults, store_all, store_title, add_entry, add_resource, after_test, Declaration, of_type, of_class, included, Declare, run, run_block, branch_patterns, placed_under, in_class, in_body, parent_first, enter_class, declaration, run_at_top, top_context, node_context, defined_name, run_items}
 use Rattle.rules.specs.Compile.{start}
@@ -27,8 +27,8 @@ use Rattle.rules.proofs.Counting.{count_le, count_new}
 module _ (classes : ℕ → Option DeclaredClass) where
   -- from a scope the walk ends at top after at most so many scopes
   pub data Ends : (most : ℕ) → Scope → Type 0 where
-    at_top : {k : ℕ} → Ends (suc k) topScope
-    at_node : {k : ℕ} → Ends (suc (suc k)) nodeScope
+    at_top : {k : ℕ} → Ends (suc k) top_scope
+    at_node : {k : ℕ} → Ends (suc (suc k)) node_scope
     at_class : {k c : ℕ} {d : DeclaredClass} → classes c ≡ some d → Ends k d.parent → Ends (suc k) (class_scope c)
 
   ends_later : {k : ℕ} {s : Scope} (j : ℕ) → k ≤ j → Ends k s → Ends j s
@@ -79,8 +79,8 @@ declared_some c st e = ap (λ (o : Option DeclaredClass). elim o [ none ↦ fals
 
 base_ends : (classes : ℕ → Option DeclaredClass) (b : Base) → Ends classes 2 (base_scope b)
 unfolding base_scope
-base_ends classes topBase = at_top
-base_ends classes nodeBase = at_node
+base_ends classes top_base = at_top
+base_ends classes node_base = at_node
 
 module _ (classes : ℕ → Option DeclaredClass) (b : Base) where
   settled : {k : ℕ} {s : Scope} (i j : ℕ) → Ends classes k s → k ≤ i → k ≤ j → upward i classes b s ≡ upward j classes b s
@@ -111,8 +111,8 @@ more_scopes_change_nothing here st t most l = go here.scope
         settled st.classes here.base most 1026 (t.ends c (declared_some c st e)) (omega (arith, few, l)) (omega (arith, few))
 
     go : (s : Scope) → upward most st.classes here.base s ≡ upward 1026 st.classes here.base s
-    go topScope = settled st.classes here.base most 1026 (at_top {k = 0}) (omega (arith, l)) (omega arith)
-    go nodeScope = settled st.classes here.base most 1026 (at_node {k = 0}) (omega (arith, l)) (omega arith)
+    go top_scope = settled st.classes here.base most 1026 (at_top {k = 0}) (omega (arith, l)) (omega arith)
+    go node_scope = settled st.classes here.base most 1026 (at_node {k = 0}) (omega (arith, l)) (omega arith)
     go (class_scope c) = class c (st.classes c) refl
     go (body_scope n) = body_settled st.classes here.base most 1026 n (omega (arith, l)) (omega arith)
 
@@ -432,6 +432,6 @@ items_tidy known small (also small_statement is) st t = all_bind (top_tidy known
 items_tidy known small (also small_node is) st t = all_bind (top_tidy known small _ node_context st (record { other = λ j f. refl }) t) λ st' h. items_tidy known small is st' h.tidy
 items_tidy known small (also (small_definition h) is) st t = items_tidy known small is st t
 
-pub start_tidy : (limit outputLength : ℕ) → Tidy everywhere (start limit outputLength)
+pub start_tidy : (limit output_length : ℕ) → Tidy everywhere (start limit output_length)
 unfolding start is_declared
-start_tidy limit outputLength = record { empty = λ j f m. refl; ends = λ c h. absurd (false≢true h) }
+start_tidy limit output_length = record { empty = λ j f m. refl; ends = λ c h. absurd (false≢true h) }

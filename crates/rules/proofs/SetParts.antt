@@ -25,7 +25,7 @@ use Rattle.rules.specs.Arithmetic.{integer_in, boolean_in, same_value}
 use Rattle.rules.specs.Tree.{Constant, Operator, plus, minus, divide, greater, equal, and, or, Expression, constant, variable, top_variable, class_variable, operation, negation, attribute_read, selector, Arms, no_arm, arm, default_arm, place_of, AttributeField, built_in_resource}
 use Rattle.rules.specs.Tree
 use Rattle.rules.specs.Patterns.{Patterns, no_pattern, constant_pattern, default_pattern, first_equal, first_default, chosen}
-use Rattle.rules.specs.State.{Scope, topScope, class_scope, Cells, Attribute, SetParts, Entry, State, Context, Known, scopes_tried, with_entry}
+use Rattle.rules.specs.State.{Scope, top_scope, class_scope, Cells, Attribute, SetParts, Entry, State, Context, Known, scopes_tried, with_entry}
 use Rattle.rules.specs.Evaluate.{first_with, is_entry, is_attribute, or_else, read_in, integers, booleans, equality, operate, select, evaluate, arm_patterns, marks_in, is_boolean, skips_right, marks_read, arm_marks}
 use Rattle.rules.specs.Run.{path_and_trail, with_path_and_trail, stored, Given, is_given, evaluate_all, attributes_under, marks_for, given_labels, parts_from, entry_from, add_entry, add_resource, Declare, run}
 use Rattle.rules.specs.Read.{manifest_of}
@@ -160,7 +160,7 @@ module _ (known : Known) (here : Context) (st : State) where
     pub marks_within : (e : Expression) → All (Bears (marks_read known here st e)) (evaluate known here st e)
     marks_within (constant v) = all_any _ λ _. all_done (none_within _)
     marks_within (variable p n) = read_bears p st.cells n (scopes_tried here st)
-    marks_within (top_variable p n) = read_bears p st.cells n (topScope ∷ [])
+    marks_within (top_variable p n) = read_bears p st.cells n (top_scope ∷ [])
     marks_within (class_variable p class n) = all_any _ λ _. read_bears p st.cells n (class_scope class ∷ [])
     marks_within (operation p o a b) = operation_bears (marks_within b) o p (place_of a) (place_of b) (marks_within a)
     marks_within (negation p a) = operand_bears _ (marks_within a)

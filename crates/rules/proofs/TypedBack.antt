@@ -15,10 +15,10 @@ use Rattle.values.specs.declared.Value.TheVariants.{Integer, String, Boolean}
 use Rattle.rules.specs.Bytes.{byte, two}
 use Rattle.rules.specs.Format.{allowed, forms, form_in, form_of, size, head_size, three, piece_right}
 use Rattle.rules.specs.Check.{check}
-use Rattle.rules.specs.Fields.{Field, field, Fields, none as noFields, more, read_all, wrap, write, write_all, head_of, tag_of, inner, first, others}
+use Rattle.rules.specs.Fields.{Field, field, Fields, none as fields_end, more, read_all, wrap, write, write_all, head_of, tag_of, inner, first, others}
 use Rattle.rules.specs.Tree.{Constant, Operator, plus, minus, divide, greater, equal, and, or, Expression, constant, variable, top_variable, class_variable, operation, negation, attribute_read, selector, Arms, no_arm, arm, default_arm, AttributeField, Statement, assignment, conditional, choice, built_in_resource, defined_resource, class_with_attributes, include, Block, end, next, Branches, no_branch, branch, default_branch, Parameter, Parent, Definition, type_definition, class_definition, Devices, named, by_default, Item, statement, node, definition, Manifest}
 use Rattle.rules.specs.Tree
-use Rattle.rules.specs.Read.{entry_for, number, signed64, value_from, constant_from, operators, operator_from, is_default, noExpression, expression_tags, arm_from, arms_from, expression_by, expression_in, expression_from, attribute_from, attributes_from, noStatement, statement_tags, branch_from, branches_from, statement_by, statement_in, statements_from, block_in, block_from, default_from, parameter_from, parameters_from, last_of, last_block, parent_from, after_parent, names_from, devices_from, aStatement, item_tags, item_by, item_from, items_from, strings_from, manifest_from, manifest_of}
+use Rattle.rules.specs.Read.{entry_for, number, signed64, value_from, constant_from, operators, operator_from, is_default, no_expression, expression_tags, arm_from, arms_from, expression_by, expression_in, expression_from, attribute_from, attributes_from, no_statement, statement_tags, branch_from, branches_from, statement_by, statement_in, statements_from, block_in, block_from, default_from, parameter_from, parameters_from, last_of, last_block, parent_from, after_parent, names_from, devices_from, a_statement, item_tags, item_by, item_from, items_from, strings_from, manifest_from, manifest_of}
 use Rattle.rules.specs.Catalog.{high_bytes, word64, boolean_byte}
 use Rattle.rules.specs.EditRule.{IsBytes}
 use Rattle.rules.specs.declared.Kind.{Kind}
@@ -39,12 +39,12 @@ abbrev name_bytes : ℕ → List ℕ
 name_bytes n = high_bytes 2 n
 
 abbrev single : Field → Fields
-single k = more k noFields
+single k = more k fields_end
 
 unfoldable pub value_field : (label : ℕ) → Value → Field
-value_field l (Integer z) = bare 0x10 (l ∷ high_bytes 8 (word64 z)) noFields
-value_field l (String n) = bare 0x11 (l ∷ name_bytes n) noFields
-value_field l (Boolean b) = bare 0x12 (l ∷ boolean_byte b ∷ []) noFields
+value_field l (Integer z) = bare 0x10 (l ∷ high_bytes 8 (word64 z)) fields_end
+value_field l (String n) = bare 0x11 (l ∷ name_bytes n) fields_end
+value_field l (Boolean b) = bare 0x12 (l ∷ boolean_byte b ∷ []) fields_end
 
 unfoldable pub constant_field : Constant → Field
 constant_field c = value_field c.label c.value
@@ -59,27 +59,27 @@ operator_byte and = 5
 operator_byte or = 6
 
 abbrev default_field : Field
-default_field = bare 0x1b [] noFields
+default_field = bare 0x1b [] fields_end
 
 unfoldable mutual
   pub expression_field : Expression → Field
   expression_field (constant c) = constant_field c
-  expression_field (variable p n) = bare 0x13 (name_bytes n) noFields
-  expression_field (top_variable p n) = bare 0x14 (name_bytes n) noFields
-  expression_field (class_variable p c n) = bare 0x15 (name_bytes c ++ name_bytes n) noFields
+  expression_field (variable p n) = bare 0x13 (name_bytes n) fields_end
+  expression_field (top_variable p n) = bare 0x14 (name_bytes n) fields_end
+  expression_field (class_variable p c n) = bare 0x15 (name_bytes c ++ name_bytes n) fields_end
   expression_field (operation p o a b) = bare 0x16 (operator_byte o ∷ []) (more (expression_field a) (single (expression_field b)))
   expression_field (negation p a) = bare 0x17 [] (single (expression_field a))
   expression_field (attribute_read p t n a) = bare 0x18 (name_bytes t ++ name_bytes n) (single (expression_field a))
   expression_field (selector p a s) = bare 0x19 [] (more (expression_field a) (arm_fields s))
-  expression_field (Expression.unreadable p) = bare 0 [] noFields
+  expression_field (Expression.unreadable p) = bare 0 [] fields_end
 
   pub arm_fields : Arms → Fields
-  arm_fields no_arm = noFields
+  arm_fields no_arm = fields_end
   arm_fields (arm c a s) = more (bare 0x1a [] (more (constant_field c) (single (expression_field a)))) (arm_fields s)
   arm_fields (default_arm a s) = more (bare 0x1a [] (more default_field (single (expression_field a)))) (arm_fields s)
 
 unfoldable pub attribute_fields : List AttributeField → Fields
-attribute_fields [] = noFields
+attribute_fields [] = fields_end
 attribute_fields (a ∷ others-after) = more (bare 0x26 (name_bytes a.name) (single (expression_field a.expression))) (attribute_fields others-after)
 
 unfoldable mutual
@@ -90,15 +90,15 @@ unfoldable mutual
   statement_field (built_in_resource p t a fs) = bare 0x25 (name_bytes t) (more (expression_field a) (attribute_fields fs))
   statement_field (defined_resource p t a fs) = bare 0x27 (name_bytes t) (more (expression_field a) (attribute_fields fs))
   statement_field (class_with_attributes p c fs) = bare 0x28 (name_bytes c) (attribute_fields fs)
-  statement_field (include p c) = bare 0x29 (name_bytes c) noFields
-  statement_field (Statement.unreadable p) = bare 0 [] noFields
+  statement_field (include p c) = bare 0x29 (name_bytes c) fields_end
+  statement_field (Statement.unreadable p) = bare 0 [] fields_end
 
   pub block_fields : Block → Fields
-  block_fields end = noFields
+  block_fields end = fields_end
   block_fields (next s b) = more (statement_field s) (block_fields b)
 
   pub branch_fields : Branches → Fields
-  branch_fields no_branch = noFields
+  branch_fields no_branch = fields_end
   branch_fields (branch c b bs) = more (bare 0x24 [] (more (constant_field c) (single (bare 0x20 [] (block_fields b))))) (branch_fields bs)
   branch_fields (default_branch b bs) = more (bare 0x24 [] (more default_field (single (bare 0x20 [] (block_fields b))))) (branch_fields bs)
 
@@ -106,7 +106,7 @@ abbrev block_field : Block → Field
 block_field b = bare 0x20 [] (block_fields b)
 
 unfoldable pub default_fields : Option Constant → Fields
-default_fields none = noFields
+default_fields none = fields_end
 default_fields (some c) = single (constant_field c)
 
 -- parameters, and the fields after them
@@ -116,11 +116,11 @@ parameter_fields (q ∷ qs) ks = more (bare 0x33 (name_bytes q.name) (default_fi
 
 unfoldable pub parent_fields : Option Parent → Fields → Fields
 parent_fields none ks = ks
-parent_fields (some q) ks = more (bare 0x35 (name_bytes q.name) noFields) ks
+parent_fields (some q) ks = more (bare 0x35 (name_bytes q.name) fields_end) ks
 
 unfoldable pub device_fields : List ℕ → Fields → Fields
 device_fields [] ks = ks
-device_fields (n ∷ ns) ks = more (bare 0x31 (name_bytes n) noFields) (device_fields ns ks)
+device_fields (n ∷ ns) ks = more (bare 0x31 (name_bytes n) fields_end) (device_fields ns ks)
 
 unfoldable pub devices_fields : Devices → Fields → Fields
 devices_fields (named ns) ks = device_fields ns ks
@@ -136,12 +136,12 @@ item_field (node ds b) = bare 0x30 [] (devices_fields ds (single (block_field b)
 item_field (definition d) = definition_field d
 
 unfoldable pub item_fields : List Item → Fields
-item_fields [] = noFields
+item_fields [] = fields_end
 item_fields (i ∷ is) = more (item_field i) (item_fields is)
 
 unfoldable pub string_fields : List (List ℕ) → Fields
-string_fields [] = noFields
-string_fields (s ∷ ss) = more (bare 0x02 s noFields) (string_fields ss)
+string_fields [] = fields_end
+string_fields (s ∷ ss) = more (bare 0x02 s fields_end) (string_fields ss)
 
 unfoldable pub fields_of : Manifest → Fields
 fields_of m = more (bare 0x01 [] (string_fields m.strings)) (item_fields m.items)
@@ -153,7 +153,7 @@ unfoldable mutual
   unplaced (field p t h ks) = field 0 t h (unplaced_all ks)
 
   pub unplaced_all : Fields → Fields
-  unplaced_all noFields = noFields
+  unplaced_all fields_end = fields_end
   unplaced_all (more k ks) = more (unplaced k) (unplaced_all ks)
 
 -- places are not written
@@ -164,7 +164,7 @@ mutual
   write_unplaced (field p t h ks) = ap (λ (b : List ℕ). wrap t (h ++ b)) (write_unplaced_all ks)
 
   write_unplaced_all : (ks : Fields) → write_all (unplaced_all ks) ≡ write_all ks
-  write_unplaced_all noFields = refl
+  write_unplaced_all fields_end = refl
   write_unplaced_all (more k ks) = ap₂ ◌++◌ (write_unplaced k) (write_unplaced_all ks)
 
 -- ---- Tags
@@ -234,15 +234,15 @@ statement_tag_lem t e = go (either (leb 0x21 t && leb t 0x23) (eqb t 0x25 || (le
 -- ---- What parts take, written
 
 -- nothing
-none_written : {ks rest : Fields} (F : Fields → Fields) → F noFields ≡ noFields → Same ks rest → Same rest noFields → F ks ≡ unplaced_all ks
+none_written : {ks rest : Fields} (F : Fields → Fields) → F fields_end ≡ fields_end → Same ks rest → Same rest fields_end → F ks ≡ unplaced_all ks
 unfolding unplaced
 none_written F h same same = h
 
-ended : {ks : Fields} → Same ks noFields → noFields ≡ unplaced_all ks
-ended s = none_written (λ r. noFields) refl s same
+ended : {ks : Fields} → Same ks fields_end → fields_end ≡ unplaced_all ks
+ended s = none_written (λ r. fields_end) refl s same
 
-ended_twice : {ks rest : Fields} → Same ks rest → Same rest noFields → noFields ≡ unplaced_all ks
-ended_twice s t = none_written (λ r. noFields) refl s t
+ended_twice : {ks rest : Fields} → Same ks rest → Same rest fields_end → fields_end ≡ unplaced_all ks
+ended_twice s t = none_written (λ r. fields_end) refl s t
 
 -- one field, written as x, and those after it, written by F
 one_as : {P : Field → Type 0} {k : Kind} {ks rest : Fields} (x : Field) (F : Fields → Fields) → (P (first ks) → allowed k (tag_of (first ks)) ≡ true → x ≡ unplaced (first ks)) → OneOf P k ks rest → F rest ≡ unplaced_all rest → more x (F (others ks)) ≡ unplaced_all ks
@@ -331,7 +331,7 @@ pattern_back d f false e a t = constant_back d f a (rw e at t)
 
 -- a pattern and one field more, written by E
 case_written : {k : Kind} (d : ℕ) (E : Field → Field) → ((f : Field) → Listed d f → allowed k (tag_of f) ≡ true → E f ≡ unplaced f) → (ks : Fields) → PartsAre (Listed d) (three (One Pattern) (One k) Over) ks → (b : Bool) → is_default (first ks) ≡ b → more (pattern_field b (first ks)) (single (E (first (others ks)))) ≡ unplaced_all ks
-case_written d E e ks s b h = one_as (pattern_field b (first ks)) (λ r. single (E (first r))) (pattern_back d (first ks) b h) s.in_first (one_written E (λ r. noFields) e s.in_second (ended s.in_third))
+case_written d E e ks s b h = one_as (pattern_field b (first ks)) (λ r. single (E (first r))) (pattern_back d (first ks) b h) s.in_first (one_written E (λ r. fields_end) e s.in_second (ended s.in_third))
 
 -- ---- Expressions
 
@@ -362,7 +362,7 @@ module _ (n : ℕ) (back : ExpressionBack n) where
   arms_written : Fields → Fields
   arms_written ks = arm_fields (arms_from (expression_in n) ks)
 
-  no_arms : arms_written noFields ≡ unplaced_all noFields
+  no_arms : arms_written fields_end ≡ unplaced_all fields_end
   unfolding arms_written arms_from expression_field unplaced
   no_arms = refl
 
@@ -380,7 +380,7 @@ module _ (n : ℕ) (back : ExpressionBack n) where
       arm_by (is_default (first js)) js (arms_from (expression_in n) fs) ∙ ap₂ more (tagged 0x1a t e (bare_same 0x1a (empty_head g s.head.count) fields)) h
 
   -- each tag of an expression
-  expression_by_lem : (d : ℕ) → d ≤ n → (t : ℕ) → In (from 0x10 10) t → (p : ℕ) (h : List ℕ) (ks : Fields) → AsListed (Listed d) (form_of t) h ks → expression_field (expression_by (expression_in n) (field p t h ks) p h ks (entry_for expression_tags noExpression t)) ≡ field 0 t h (unplaced_all ks)
+  expression_by_lem : (d : ℕ) → d ≤ n → (t : ℕ) → In (from 0x10 10) t → (p : ℕ) (h : List ℕ) (ks : Fields) → AsListed (Listed d) (form_of t) h ks → expression_field (expression_by (expression_in n) (field p t h ks) p h ks (entry_for expression_tags no_expression t)) ≡ field 0 t h (unplaced_all ks)
   unfolding form_of form_in forms head_size size piece_right expression_field expression_by entry_for expression_tags arms_written
   expression_by_lem d l t here p h ks a = constant_by d 0x10 here p h ks a
   expression_by_lem d l t (there here) p h ks a = constant_by d 0x11 (there here) p h ks a
@@ -389,11 +389,11 @@ module _ (n : ℕ) (back : ExpressionBack n) where
   expression_by_lem d l t (there (there (there (there here)))) p h ks a = bare_same 0x14 (name_back h a.head.count a.head.bytes) (ended a.fields)
   expression_by_lem d l t (there (there (there (there (there here))))) p h ks a = bare_same 0x15 (names_back h a.head.count a.head.bytes) (ended a.fields)
   expression_by_lem d l t (there (there (there (there (there (there here)))))) p h ks a =
-      bare_same 0x16 (operator_head h a.head.count a.head.first) (one_written as_expression (λ r. single (as_expression (first r))) (back d l) a.fields.in_first (one_written as_expression (λ r. noFields) (back d l) a.fields.in_second (ended a.fields.in_third)))
+      bare_same 0x16 (operator_head h a.head.count a.head.first) (one_written as_expression (λ r. single (as_expression (first r))) (back d l) a.fields.in_first (one_written as_expression (λ r. fields_end) (back d l) a.fields.in_second (ended a.fields.in_third)))
   expression_by_lem d l t (there (there (there (there (there (there (there here))))))) p h ks a =
-      bare_same 0x17 (empty_head h a.head.count) (one_written as_expression (λ r. noFields) (back d l) a.fields.in_first (ended_twice a.fields.in_second a.fields.in_third))
+      bare_same 0x17 (empty_head h a.head.count) (one_written as_expression (λ r. fields_end) (back d l) a.fields.in_first (ended_twice a.fields.in_second a.fields.in_third))
   expression_by_lem d l t (there (there (there (there (there (there (there (there here)))))))) p h ks a =
-      bare_same 0x18 (names_back h a.head.count a.head.bytes) (one_written as_expression (λ r. noFields) (back d l) a.fields.in_first (ended_twice a.fields.in_second a.fields.in_third))
+      bare_same 0x18 (names_back h a.head.count a.head.bytes) (one_written as_expression (λ r. fields_end) (back d l) a.fields.in_first (ended_twice a.fields.in_second a.fields.in_third))
   expression_by_lem d l t (there (there (there (there (there (there (there (there (there here))))))))) p h ks a =
       bare_same 0x19 (empty_head h a.head.count) (one_written as_expression arms_written (back d l) a.fields.in_first (many_written arms_written (arm_back d l) (one_more a.fields.in_second a.fields.in_third) no_arms))
   expression_by_lem d l t (there (there (there (there (there (there (there (there (there (there x41)))))))))) p h ks a = elim x41 [ ]
@@ -414,7 +414,7 @@ expression_from_back d l k a e = expression_back 32 d l k a e
 attributes_written : Fields → Fields
 attributes_written ks = attribute_fields (attributes_from ks)
 
-no_attributes : attributes_written noFields ≡ noFields
+no_attributes : attributes_written fields_end ≡ fields_end
 unfolding attributes_written attributes_from attribute_fields
 no_attributes = refl
 
@@ -423,7 +423,7 @@ unfolding attributes_written attributes_from attribute_fields attribute_from all
 attribute_back zero l k fs a t h = absurd a
 attribute_back (suc d) l (field p t g js) fs a e h =
     let s = listed_as 0x26 d t e a in
-    let fields = one_written (λ f. expression_field (expression_from f)) (λ r. noFields) (expression_from_back d (omega arith)) s.fields.in_first (ended_twice s.fields.in_second s.fields.in_third) in
+    let fields = one_written (λ f. expression_field (expression_from f)) (λ r. fields_end) (expression_from_back d (omega arith)) s.fields.in_first (ended_twice s.fields.in_second s.fields.in_third) in
     let taken = when_true (eqb t 0x26) (attribute_from (field p t g js) ∷ attributes_from fs) (attributes_from fs) e in
     ap attribute_fields taken ∙ ap₂ more (tagged 0x26 t e (bare_same 0x26 (name_back g s.head.count s.head.bytes) fields)) h
 
@@ -443,7 +443,7 @@ module _ (n : ℕ) (n≤32 : n ≤ 32) (g : Field → Block) (back : BlockBack n
   branches_written : Fields → Fields
   branches_written ks = branch_fields (branches_from g ks)
 
-  no_branches : branches_written noFields ≡ noFields
+  no_branches : branches_written fields_end ≡ fields_end
   unfolding branches_written branches_from statement_field
   no_branches = refl
 
@@ -461,12 +461,12 @@ module _ (n : ℕ) (n≤32 : n ≤ 32) (g : Field → Block) (back : BlockBack n
       branch_by (is_default (first ks)) ks (branches_from g fs) ∙ ap₂ more (tagged 0x24 t e (bare_same 0x24 (empty_head h s.head.count) fields)) r
 
   -- each tag of a statement
-  statement_by_lem : (d : ℕ) → d ≤ n → (t : ℕ) → In statement_tag_list t → (p : ℕ) (h : List ℕ) (ks : Fields) → AsListed (Listed d) (form_of t) h ks → statement_field (statement_by g p h ks (entry_for statement_tags noStatement t)) ≡ field 0 t h (unplaced_all ks)
+  statement_by_lem : (d : ℕ) → d ≤ n → (t : ℕ) → In statement_tag_list t → (p : ℕ) (h : List ℕ) (ks : Fields) → AsListed (Listed d) (form_of t) h ks → statement_field (statement_by g p h ks (entry_for statement_tags no_statement t)) ≡ field 0 t h (unplaced_all ks)
   unfolding form_of form_in forms head_size size statement_field statement_by entry_for statement_tags branches_written attributes_written
   statement_by_lem d l t here p h ks a =
-      bare_same 0x21 (name_back h a.head.count a.head.bytes) (one_written from_expression (λ r. noFields) (expression_from_back d (omega arith)) a.fields.in_first (ended_twice a.fields.in_second a.fields.in_third))
+      bare_same 0x21 (name_back h a.head.count a.head.bytes) (one_written from_expression (λ r. fields_end) (expression_from_back d (omega arith)) a.fields.in_first (ended_twice a.fields.in_second a.fields.in_third))
   statement_by_lem d l t (there here) p h ks a =
-      let last = one_written as_block (λ r. noFields) (back d l) a.fields.in_third (ended same) in
+      let last = one_written as_block (λ r. fields_end) (back d l) a.fields.in_third (ended same) in
       let later = one_written as_block (λ r. single (as_block (first r))) (back d l) a.fields.in_second last in
       bare_same 0x22 (empty_head h a.head.count) (one_written from_expression (λ r. more (as_block (first r)) (single (as_block (first (others r))))) (expression_from_back d (omega arith)) a.fields.in_first later)
   statement_by_lem d l t (there (there here)) p h ks a =
@@ -527,9 +527,9 @@ last_is j b whole e = rw e refl
 last_is j b (after {k = k} i) e = last_is k b i e
 
 -- the block that is the last part, as a field
-block_last : (d : ℕ) → d ≤ 32 → {ks rest : Fields} → Ends ks rest → OneOf (Listed d) BlockKind rest noFields → single (block_field (last_block ks)) ≡ unplaced_all rest
+block_last : (d : ℕ) → d ≤ 32 → {ks rest : Fields} → Ends ks rest → OneOf (Listed d) BlockKind rest fields_end → single (block_field (last_block ks)) ≡ unplaced_all rest
 unfolding last_block unplaced
-block_last d l i (one {f = f} t a) = ap single (ap (λ (k : Field). block_field (block_from k)) (last_is (first noFields) f i refl) ∙ block_from_back d l f a t)
+block_last d l i (one {f = f} t a) = ap single (ap (λ (k : Field). block_field (block_from k)) (last_is (first fields_end) f i refl) ∙ block_from_back d l f a t)
 
 -- a part of at most no fields takes none
 none_left : {P : Field → Type 0} {k : Kind} {n : ℕ} {ks rest : Fields} → n ≡ 0 → AtMost P k n ks rest → Same ks rest
@@ -537,12 +537,12 @@ none_left e no_further = same
 none_left e (further ne t a s) = absurd (ne e)
 
 -- a default is at most one constant
-default_written : (d : ℕ) {ks js rest : Fields} → AtMost (Listed d) ConstantKind 1 ks js → Same js rest → Same rest noFields → default_fields (default_from ks) ≡ unplaced_all ks
+default_written : (d : ℕ) {ks js rest : Fields} → AtMost (Listed d) ConstantKind 1 ks js → Same js rest → Same rest fields_end → default_fields (default_from ks) ≡ unplaced_all ks
 unfolding default_fields default_from unplaced
 default_written d no_further same same = refl
 default_written d (further {f = f} ne t a s) x y = ap₂ more (constant_back d f a t) (closed (none_left refl s) x y)
   where
-    closed : {ks js rest : Fields} → Same ks js → Same js rest → Same rest noFields → noFields ≡ unplaced_all ks
+    closed : {ks js rest : Fields} → Same ks js → Same js rest → Same rest fields_end → fields_end ≡ unplaced_all ks
     closed same x y = ended_twice x y
 
 -- parameters, and then the block B
@@ -563,16 +563,16 @@ other_tag : (t u v : ℕ) → eqb t u ≡ true → eqb u v ≡ false → eqb t v
 other_tag t u v e n = rw (eqb-true t u e) n
 
 -- a block ends the parameters
-no_parameters : (B : Field) {P : Field → Type 0} {rest : Fields} → OneOf P BlockKind rest noFields → single B ≡ unplaced_all rest → parameters_written B rest ≡ unplaced_all rest
+no_parameters : (B : Field) {P : Field → Type 0} {rest : Fields} → OneOf P BlockKind rest fields_end → single B ≡ unplaced_all rest → parameters_written B rest ≡ unplaced_all rest
 unfolding parameters_written parameters_from parameter_fields allowed
 no_parameters B (one {f = f} t a) h = ap (λ (qs : List Parameter). parameter_fields qs (single B)) (when_false (eqb (tag_of f) 0x33) (parameter_from f ∷ []) [] (other_tag (tag_of f) 0x20 0x33 t refl)) ∙ h
 
 -- parameters and the block
-with_block : (d : ℕ) → d ≤ 32 → {all ks js : Fields} → ManyOf (Listed d) ParameterKind ks js → OneOf (Listed d) BlockKind js noFields → Ends all js → parameters_written (block_field (last_block all)) ks ≡ unplaced_all ks
+with_block : (d : ℕ) → d ≤ 32 → {all ks js : Fields} → ManyOf (Listed d) ParameterKind ks js → OneOf (Listed d) BlockKind js fields_end → Ends all js → parameters_written (block_field (last_block all)) ks ≡ unplaced_all ks
 with_block d l {all} s o j = many_written (parameters_written (block_field (last_block all))) (parameter_back (block_field (last_block all)) d) s (no_parameters (block_field (last_block all)) o (block_last d l j o))
 
 -- the parameters of a class do not begin with a parent
-no_parent_lem : {P : Field → Type 0} {ks js : Fields} → ManyOf P ParameterKind ks js → OneOf P BlockKind js noFields → eqb (tag_of (first ks)) 0x35 ≡ false
+no_parent_lem : {P : Field → Type 0} {ks js : Fields} → ManyOf P ParameterKind ks js → OneOf P BlockKind js fields_end → eqb (tag_of (first ks)) 0x35 ≡ false
 unfolding allowed first
 no_parent_lem none_of_many (one {f = f} t a) = other_tag (tag_of f) 0x20 0x35 t refl
 no_parent_lem (one_of_many {f = f} t a s) o = other_tag (tag_of f) 0x33 0x35 t refl
@@ -593,12 +593,12 @@ parent_back B (suc d) (field p t g js) fs a e h =
     let there : parent_from (field p t g js) ≡ some (record { place = p; name = two g 0 }) = when_true (eqb t 0x35) (some (record { place = p; name = two g 0 })) none e in
     ap (λ (q : Option Parent). class_written B q (more (field p t g js) fs)) there ∙ ap₂ more (tagged 0x35 t e (bare_same 0x35 (name_back g s.head.count s.head.bytes) (ended s.fields))) h
 
-class_back : (d : ℕ) → d ≤ 32 → {ks js rest : Fields} → AtMost (Listed d) ParentKind 1 ks js → ManyOf (Listed d) ParameterKind js rest → OneOf (Listed d) BlockKind rest noFields → class_written (block_field (last_block ks)) (parent_from (first ks)) ks ≡ unplaced_all ks
+class_back : (d : ℕ) → d ≤ 32 → {ks js rest : Fields} → AtMost (Listed d) ParentKind 1 ks js → ManyOf (Listed d) ParameterKind js rest → OneOf (Listed d) BlockKind rest fields_end → class_written (block_field (last_block ks)) (parent_from (first ks)) ks ≡ unplaced_all ks
 unfolding class_written parent_fields after_parent unplaced first
 class_back d l {ks} no_further s o = ap (λ (q : Option Parent). class_written (block_field (last_block ks)) q ks) (parent_of (first ks) (no_parent_lem s o)) ∙ with_block d l s o (many_ends s whole)
 class_back d l (further {f = f} {fs = fs} ne t a r) s o = closed (none_left refl r) s o
   where
-    closed : {gs js rest : Fields} → Same gs js → ManyOf (Listed d) ParameterKind js rest → OneOf (Listed d) BlockKind rest noFields → class_written (block_field (last_block (more f gs))) (parent_from f) (more f gs) ≡ more (unplaced f) (unplaced_all gs)
+    closed : {gs js rest : Fields} → Same gs js → ManyOf (Listed d) ParameterKind js rest → OneOf (Listed d) BlockKind rest fields_end → class_written (block_field (last_block (more f gs))) (parent_from f) (more f gs) ≡ more (unplaced f) (unplaced_all gs)
     closed {gs} same s o = parent_back (block_field (last_block (more f gs))) d f gs a t (with_block d l s o (after (many_ends s whole)))
 
 -- a node's names, and then the block B
@@ -613,11 +613,11 @@ device_back B (suc d) (field p t g js) fs a e h =
     let taken = when_true (eqb t 0x31) (two g 0 ∷ names_from fs) [] e in
     ap (λ (ns : List ℕ). device_fields ns (single B)) taken ∙ ap₂ more (tagged 0x31 t e (bare_same 0x31 (name_back g s.head.count s.head.bytes) (ended s.fields))) h
 
-no_devices : (B : Field) {P : Field → Type 0} {rest : Fields} → OneOf P BlockKind rest noFields → single B ≡ unplaced_all rest → devices_written B rest ≡ unplaced_all rest
+no_devices : (B : Field) {P : Field → Type 0} {rest : Fields} → OneOf P BlockKind rest fields_end → single B ≡ unplaced_all rest → devices_written B rest ≡ unplaced_all rest
 unfolding devices_written names_from device_fields allowed
 no_devices B (one {f = f} t a) h = ap (λ (ns : List ℕ). device_fields ns (single B)) (when_false (eqb (tag_of f) 0x31) (two (head_of f) 0 ∷ []) [] (other_tag (tag_of f) 0x20 0x31 t refl)) ∙ h
 
-node_back : (d : ℕ) → d ≤ 32 → {ks js : Fields} → NamesOf (Listed d) ks js → OneOf (Listed d) BlockKind js noFields → devices_fields (devices_from ks) (single (block_field (last_block ks))) ≡ unplaced_all ks
+node_back : (d : ℕ) → d ≤ 32 → {ks js : Fields} → NamesOf (Listed d) ks js → OneOf (Listed d) BlockKind js fields_end → devices_fields (devices_from ks) (single (block_field (last_block ks))) ≡ unplaced_all ks
 unfolding devices_fields devices_from devices_written is_default first unplaced allowed
 node_back d l {ks} {js} (default_name {f = f} t a) o =
     let B : Field = block_field (last_block ks) in
@@ -627,7 +627,7 @@ node_back d l {ks} (device_names {f = f} {fs = fs} t a s) o =
     let others-written = many_written (devices_written B) (device_back B d) s (no_devices B o (block_last d l (after (many_ends s whole)) o)) in
     ap (λ (x : Devices). devices_fields x (single B)) (when_false (eqb (tag_of f) 0x1b) by_default (named (names_from ks)) (other_tag (tag_of f) 0x31 0x1b t refl)) ∙ device_back B d f fs a t others-written
 
-last_one : {P : Field → Type 0} {k : Kind} {ks rest : Fields} → OneOf P k ks rest → Same rest noFields → OneOf P k ks noFields
+last_one : {P : Field → Type 0} {k : Kind} {ks rest : Fields} → OneOf P k ks rest → Same rest fields_end → OneOf P k ks fields_end
 last_one o same = o
 
 -- each tag of an item
@@ -647,7 +647,7 @@ item_tag t e = first_of (either (eqb t 0x30) (eqb t 0x32 || (eqb t 0x34 || allow
     first_of (inl x) = in_left (0x32 ∷ 0x34 ∷ statement_tag_list) (is_tag t 0x30 x)
     first_of (inr x) = there (second_of (either (eqb t 0x32) (eqb t 0x34 || allowed StatementKind t) x))
 
-statement_item : (t : ℕ) → In statement_tag_list t → entry_for item_tags aStatement t ≡ aStatement
+statement_item : (t : ℕ) → In statement_tag_list t → entry_for item_tags a_statement t ≡ a_statement
 unfolding entry_for item_tags
 statement_item t here = refl
 statement_item t (there here) = refl
@@ -658,7 +658,7 @@ statement_item t (there (there (there (there (there here))))) = refl
 statement_item t (there (there (there (there (there (there here)))))) = refl
 statement_item t (there (there (there (there (there (there (there x28))))))) = elim x28 [ ]
 
-item_by_lem : (d : ℕ) → d ≤ 32 → (t : ℕ) → In (0x30 ∷ 0x32 ∷ 0x34 ∷ statement_tag_list) t → (p : ℕ) (h : List ℕ) (ks : Fields) → AsListed (Listed d) (form_of t) h ks → item_field (item_by (field p t h ks) p h ks (entry_for item_tags aStatement t)) ≡ field 0 t h (unplaced_all ks)
+item_by_lem : (d : ℕ) → d ≤ 32 → (t : ℕ) → In (0x30 ∷ 0x32 ∷ 0x34 ∷ statement_tag_list) t → (p : ℕ) (h : List ℕ) (ks : Fields) → AsListed (Listed d) (form_of t) h ks → item_field (item_by (field p t h ks) p h ks (entry_for item_tags a_statement t)) ≡ field 0 t h (unplaced_all ks)
 unfolding form_of form_in forms head_size size item_field definition_field item_by entry_for item_tags parameters_written class_written statement_in
 item_by_lem d l t here p h ks a = bare_same 0x30 (empty_head h a.head.count) (node_back d l a.fields.in_first (last_one a.fields.in_second a.fields.in_third))
 item_by_lem d l t (there here) p h ks a =
@@ -678,7 +678,7 @@ items_back : (d : ℕ) → d ≤ 32 → (k : Field) (fs : Fields) → Listed d k
 unfolding items_written items_from item_fields
 items_back d l k fs a e h = ap₂ more (item_back d l k a e) h
 
-no_items : items_written noFields ≡ noFields
+no_items : items_written fields_end ≡ fields_end
 unfolding items_written items_from item_fields
 no_items = refl
 
@@ -692,11 +692,11 @@ string_back (suc d) (field p t g js) fs a e h =
     let taken = when_true (eqb t 0x02) (g ∷ strings_from fs) (strings_from fs) e in
     ap string_fields taken ∙ ap₂ more (tagged 0x02 t e (bare_same 0x02 refl (ended s.fields))) h
 
-strings_written : (d : ℕ) {n : ℕ} {ks js rest : Fields} → AtMost (Listed d) Text n ks js → Same js rest → Same rest noFields → string_fields (strings_from ks) ≡ unplaced_all ks
+strings_written : (d : ℕ) {n : ℕ} {ks js rest : Fields} → AtMost (Listed d) Text n ks js → Same js rest → Same rest fields_end → string_fields (strings_from ks) ≡ unplaced_all ks
 unfolding unplaced
 strings_written d no_further x y = none_written (λ r. string_fields (strings_from r)) no_strings x y
   where
-    no_strings : string_fields (strings_from noFields) ≡ noFields
+    no_strings : string_fields (strings_from fields_end) ≡ fields_end
     no_strings = unfold string_fields strings_from in refl
 strings_written d (further {f = f} {fs = fs} ne t a s) x y = string_back d f fs a t (strings_written d s x y)
 

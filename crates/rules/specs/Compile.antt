@@ -86,25 +86,25 @@ items_for strings device items = elim (any (is_node (names strings device)) item
 -- ---- The run
 
 -- "The finished entry passes the output's end or 65,535 bytes in all": what may be written
-unfoldable pub room_in : (outputLength : ℕ) → ℕ
-room_in outputLength = min outputLength 65535
+unfoldable pub room_in : (output_length : ℕ) → ℕ
+room_in output_length = min output_length 65535
 
-unfoldable pub start : (limit outputLength : ℕ) → State
-start limit outputLength = record {
+unfoldable pub start : (limit output_length : ℕ) → State
+start limit output_length = record {
   cells = λ scope n. no_cell;
   used = 0;
   classes = λ n. none;
   trail = no_labels;
   entries = [];
   steps_left = limit;
-  room = room_in outputLength;
+  room = room_in output_length;
 }
 
 -- "All definitions are gathered first"; 8 "is given after 5 and before any step"
-unfoldable pub run_manifest : (struck_out : Constant → Bool) → Types → Manifest → (device : List ℕ) → (limit outputLength : ℕ) → Outcome State
-run_manifest struck_out types manifest device limit outputLength = do
+unfoldable pub run_manifest : (struck_out : Constant → Bool) → Types → Manifest → (device : List ℕ) → (limit output_length : ℕ) → Outcome State
+run_manifest struck_out types manifest device limit output_length = do
   definitions ← gather_definitions (is_built_in types manifest.strings) [] manifest.items
-  run_items (known_with struck_out types manifest.strings definitions) (items_for manifest.strings device manifest.items) (start limit outputLength)
+  run_items (known_with struck_out types manifest.strings definitions) (items_for manifest.strings device manifest.items) (start limit output_length)
 
 -- ---- The whole
 
@@ -113,13 +113,13 @@ checked Sound = done tt
 checked (Fault reason place) = refused reason place
 
 -- 1, 28, 2, then 3 to 5, then 8 and the run
-unfoldable pub final_state : Types → (manifest device : List ℕ) → (limit outputLength memoryLength : ℕ) → Outcome State
-final_state types manifest device limit outputLength memoryLength = do
-  _ ← refuse_if (ltb memoryLength 65536) MemoryTooShort 0
+unfoldable pub final_state : Types → (manifest device : List ℕ) → (limit output_length memory_length : ℕ) → Outcome State
+final_state types manifest device limit output_length memory_length = do
+  _ ← refuse_if (ltb memory_length 65536) MemoryTooShort 0
   _ ← checked (check_types types)
   _ ← refuse_if (eqb (length manifest) 0 || ltb 65535 (length manifest)) ManifestLength 0
   _ ← checked (check manifest)
-  run_manifest none_struck_out types (manifest_of manifest) device limit outputLength
+  run_manifest none_struck_out types (manifest_of manifest) device limit output_length
 
 -- "Entries in declaration order": the state has the latest first
 unfoldable pub onto : List Entry → List Entry → List Entry
@@ -137,9 +137,9 @@ pub record Compiled : Type 0 where
 unfoldable pub compiled_from : (limit : ℕ) → State → Compiled
 compiled_from limit st = record { catalog = catalog_bytes (entries_in_order st); steps = limit - st.steps_left }
 
-unfoldable pub compiled : Types → (manifest device : List ℕ) → (limit outputLength memoryLength : ℕ) → Outcome Compiled
-compiled types manifest device limit outputLength memoryLength = do
-  st ← final_state types manifest device limit outputLength memoryLength
+unfoldable pub compiled : Types → (manifest device : List ℕ) → (limit output_length memory_length : ℕ) → Outcome Compiled
+compiled types manifest device limit output_length memory_length = do
+  st ← final_state types manifest device limit output_length memory_length
   done (compiled_from limit st)
 
 -- the answer: number and place, or the catalog's length and the steps
@@ -148,13 +148,13 @@ answer_of (refused reason place) = Refused reason place
 answer_of (done c) = Catalog (length c.catalog) c.steps
 
 -- "Bytes after the catalog are zero"; "after a refusal the output and the working memory are zero throughout"
-unfoldable pub output_of : (outputLength : ℕ) → Outcome Compiled → List ℕ
-output_of outputLength (refused reason place) = replicate outputLength 0
-output_of outputLength (done c) = c.catalog ++ replicate (outputLength - length c.catalog) 0
+unfoldable pub output_of : (output_length : ℕ) → Outcome Compiled → List ℕ
+output_of output_length (refused reason place) = replicate output_length 0
+output_of output_length (done c) = c.catalog ++ replicate (output_length - length c.catalog) 0
 
 -- "The working memory is zero after every call."
-unfoldable pub memory_of : (memoryLength : ℕ) → List ℕ
-memory_of memoryLength = replicate memoryLength 0
+unfoldable pub memory_of : (memory_length : ℕ) → List ℕ
+memory_of memory_length = replicate memory_length 0
 
 -- what a call answers, and all bytes of the output and of the memory lent to it, as they are after it
 pub record Effect : Type 0 where
@@ -162,9 +162,9 @@ pub record Effect : Type 0 where
   pub output_after : List ℕ
   pub memory_after : List ℕ
 
-unfoldable pub compile : Types → (manifest device : List ℕ) → (limit outputLength memoryLength : ℕ) → Effect
-compile types manifest device limit outputLength memoryLength = record {
-  answer = answer_of (compiled types manifest device limit outputLength memoryLength);
-  output_after = output_of outputLength (compiled types manifest device limit outputLength memoryLength);
-  memory_after = memory_of memoryLength;
+unfoldable pub compile : Types → (manifest device : List ℕ) → (limit output_length memory_length : ℕ) → Effect
+compile types manifest device limit output_length memory_length = record {
+  answer = answer_of (compiled types manifest device limit output_length memory_length);
+  output_after = output_of output_length (compiled types manifest device limit output_length memory_length);
+  memory_after = memory_of memory_length;
 }

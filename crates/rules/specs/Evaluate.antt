@@ -12,7 +12,7 @@ use Rattle.rules.specs.Outcome.{Outcome, refused, done, ◌>>=◌, refuse_if, or
 use Rattle.rules.specs.Arithmetic.{integer_in, string_in, boolean_in, sum, difference, quotient, is_greater, same_value}
 use Rattle.rules.specs.Tree.{Constant, Operator, plus, minus, divide, greater, equal, and, or, Expression, constant, variable, top_variable, class_variable, operation, negation, attribute_read, selector, Arms, no_arm, arm, default_arm, place_of, TypeDefinition, ClassDefinition, Definition, type_definition, class_definition}
 use Rattle.rules.specs.Patterns.{Patterns, no_pattern, constant_pattern, default_pattern, chosen, tried, tried_labels}
-use Rattle.rules.specs.State.{Scope, topScope, class_scope, Cells, Attribute, Entry, State, Context, Known, scopes_tried, is_some}
+use Rattle.rules.specs.State.{Scope, top_scope, class_scope, Cells, Attribute, Entry, State, Context, Known, scopes_tried, is_some}
 use Rattle.rules.specs.Tree
 
 -- ---- Searching a list
@@ -71,14 +71,14 @@ read_attribute p type title name entries = do
   attribute ← or_refuse (first_with (is_attribute name) entry.attributes) NotInCatalog p
   done attribute.content
 
--- ---- Operators: p is the operator's place, l and r those of its operands, x the left operand's value, `evaluateRight` what the right one
+-- ---- Operators: p is the operator's place, l and r those of its operands, x the left operand's value, `evaluate_right` what the right one
 -- gives where it is evaluated
 
 -- "Operators + − / > take integers"; "The kind of an operand .. is checked as soon as it is evaluated."
 unfoldable pub integers : (ℤ → ℤ → Result Value) → (p l r : ℕ) → Value → Outcome Labelled → Outcome Labelled
-integers compute p l r x evaluateRight = do
+integers compute p l r x evaluate_right = do
   i ← at l (integer_in x)
-  right ← evaluateRight
+  right ← evaluate_right
   joining right.labels (do
     j ← at r (integer_in right.value)
     result ← at p (compute i j)
@@ -86,12 +86,12 @@ integers compute p l r x evaluateRight = do
 
 -- ""and" and "or" skip the right side when the left decides"; `decides` is the left value that does
 unfoldable pub booleans : (decides : Bool) → (l r : ℕ) → Value → Outcome Labelled → Outcome Labelled
-booleans decides l r x evaluateRight = do
+booleans decides l r x evaluate_right = do
   i ← at l (boolean_in x)
   elim (beq i decides) [
     | true ↦ plain (Boolean i)
     | false ↦ do
-      right ← evaluateRight
+      right ← evaluate_right
       joining right.labels (do
         j ← at r (boolean_in right.value)
         plain (Boolean j))
@@ -99,18 +99,18 @@ booleans decides l r x evaluateRight = do
 
 -- "= takes any two values, unequal if of unlike kinds"
 unfoldable pub equality : Value → Outcome Labelled → Outcome Labelled
-equality x evaluateRight = do
-  right ← evaluateRight
+equality x evaluate_right = do
+  right ← evaluate_right
   joining right.labels (plain (Boolean (same_value x right.value)))
 
 unfoldable pub operate : Operator → (p l r : ℕ) → Value → Outcome Labelled → Outcome Labelled
-operate plus p l r x evaluateRight = integers sum p l r x evaluateRight
-operate minus p l r x evaluateRight = integers difference p l r x evaluateRight
-operate divide p l r x evaluateRight = integers quotient p l r x evaluateRight
-operate greater p l r x evaluateRight = integers is_greater p l r x evaluateRight
-operate equal p l r x evaluateRight = equality x evaluateRight
-operate and p l r x evaluateRight = booleans false l r x evaluateRight
-operate or p l r x evaluateRight = booleans true l r x evaluateRight
+operate plus p l r x evaluate_right = integers sum p l r x evaluate_right
+operate minus p l r x evaluate_right = integers difference p l r x evaluate_right
+operate divide p l r x evaluate_right = integers quotient p l r x evaluate_right
+operate greater p l r x evaluate_right = integers is_greater p l r x evaluate_right
+operate equal p l r x evaluate_right = equality x evaluate_right
+operate and p l r x evaluate_right = booleans false l r x evaluate_right
+operate or p l r x evaluate_right = booleans true l r x evaluate_right
 
 -- ---- Constants
 
@@ -146,7 +146,7 @@ module _ (known : Known) (here : Context) (st : State) where
       done (of_constant v)
     evaluate (variable p n) = read_in p st.cells n (scopes_tried here st)
     -- "14 tries top only, 15 the class only"; a class that is not defined is 9
-    evaluate (top_variable p n) = read_in p st.cells n (topScope ∷ [])
+    evaluate (top_variable p n) = read_in p st.cells n (top_scope ∷ [])
     evaluate (class_variable p class n) = do
       _ ← refuse_if (not (is_class known class)) Unknown p
       read_in p st.cells n (class_scope class ∷ [])
@@ -206,7 +206,7 @@ module _ (known : Known) (here : Context) (st : State) where
     pub marks_read : Expression → Labels
     marks_read (constant v) = no_labels
     marks_read (variable p n) = marks_in st.cells n (scopes_tried here st)
-    marks_read (top_variable p n) = marks_in st.cells n (topScope ∷ [])
+    marks_read (top_variable p n) = marks_in st.cells n (top_scope ∷ [])
     marks_read (class_variable p class n) = marks_in st.cells n (class_scope class ∷ [])
     marks_read (operation p operator a b) = marks_read a ∪ elim (skips_right operator (evaluate known here st a)) [ true ↦ no_labels | false ↦ marks_read b ]
     marks_read (negation p a) = marks_read a

@@ -10,7 +10,7 @@ use Rattle.rules.specs.Arithmetic.{string_in, boolean_in}
 use Rattle.rules.specs.Tree.{Constant, place_of, AttributeField, Statement, assignment, conditional, choice, built_in_resource, defined_resource, class_with_attributes, include, Block, end, next, Branches, no_branch, branch, default_branch, Parameter, Parent, ClassDefinition, Definition, type_definition, class_definition, Item, statement, node, definition}
 use Rattle.rules.specs.Tree
 use Rattle.rules.specs.Patterns.{Patterns, no_pattern, constant_pattern, default_pattern, chosen, tried, tried_labels}
-use Rattle.rules.specs.State.{topScope, nodeScope, class_scope, body_scope, Base, topBase, nodeBase, base_scope, DeclaredClass, new_cells, Attribute, SetParts, Entry, State, Context, Known, is_declared, take_step, cells_for, assign, tested, mark_declared, free, with_entry}
+use Rattle.rules.specs.State.{top_scope, node_scope, class_scope, body_scope, Base, top_base, node_base, base_scope, DeclaredClass, new_cells, Attribute, SetParts, Entry, State, Context, Known, is_declared, take_step, cells_for, assign, tested, mark_declared, free, with_entry}
 use Rattle.rules.specs.Evaluate.{any, first_with, is_entry, find_type, find_class, of_constant, come_to_all, evaluate, marks_read}
 use Rattle.rules.specs.Catalog.{entry_bytes}
 
@@ -300,7 +300,7 @@ placed_under (some parent) here st = record { parent = class_scope parent.name; 
 unfoldable pub in_class : (class : ℕ) → DeclaredClass → Context → Context
 in_class class declared here = record { scope = class_scope class; base = declared.base; path = here.path }
 
-unfoldable pub in_body : (levelsLeft : ℕ) → Context → Context
+unfoldable pub in_body : (levels_left : ℕ) → Context → Context
 in_body n here = record { scope = body_scope n; base = here.base; path = here.path }
 
 module _ (known : Known) (declare : Declare) where
@@ -328,7 +328,7 @@ declaration_place (included p class) = p
 
 -- Levels are counted down: a declaration with n + 1 levels left is at level 16 − n, and "a body runs one level below its declaration", with n
 -- left. With none left the declaration "would go below level 16" (7). Where it is looked up, "a name of the other sort is" unknown (9).
-unfoldable pub declaration : Known → (levelsLeft : ℕ) → Declare
+unfoldable pub declaration : Known → (levels_left : ℕ) → Declare
 declaration known zero asked here st = refused LevelLimit (declaration_place asked)
 declaration known (suc n) (of_type p name title givens) here st = do
   type ← or_refuse (find_type name known.definitions) Unknown p
@@ -364,10 +364,10 @@ unfoldable pub run_at_top : Known → Block → Context → State → Outcome St
 run_at_top known block here st = run_block known (declaration known 17) block here st
 
 unfoldable pub top_context : Context
-top_context = record { scope = topScope; base = topBase; path = no_labels }
+top_context = record { scope = top_scope; base = top_base; path = no_labels }
 
 unfoldable pub node_context : Context
-node_context = record { scope = nodeScope; base = nodeBase; path = no_labels }
+node_context = record { scope = node_scope; base = node_base; path = no_labels }
 
 unfoldable pub defined_name : Definition → ℕ
 defined_name (type_definition type) = type.name

@@ -11,35 +11,35 @@ use Rattle.rules.specs.Tree.{Constant, Definition}
 -- ---- Scopes: "top, node, one for each declared class, and one for each running defined-type body"
 
 pub data Scope : Type 0 where
-  topScope nodeScope : Scope
+  top_scope node_scope : Scope
   class_scope : (class : ℕ) → Scope
-  body_scope : (levelsLeft : ℕ) → Scope  -- no two bodies run at one level, so this one is empty when it is entered (proofs/Scopes.antt)
+  body_scope : (levels_left : ℕ) → Scope  -- no two bodies run at one level, so this one is empty when it is entered (proofs/Scopes.antt)
 
 unfoldable pub same_scope : Scope → Scope → Bool
-same_scope topScope topScope = true
-same_scope topScope nodeScope = false
-same_scope topScope (class_scope b) = false
-same_scope topScope (body_scope b) = false
-same_scope nodeScope topScope = false
-same_scope nodeScope nodeScope = true
-same_scope nodeScope (class_scope b) = false
-same_scope nodeScope (body_scope b) = false
-same_scope (class_scope a) topScope = false
-same_scope (class_scope a) nodeScope = false
+same_scope top_scope top_scope = true
+same_scope top_scope node_scope = false
+same_scope top_scope (class_scope b) = false
+same_scope top_scope (body_scope b) = false
+same_scope node_scope top_scope = false
+same_scope node_scope node_scope = true
+same_scope node_scope (class_scope b) = false
+same_scope node_scope (body_scope b) = false
+same_scope (class_scope a) top_scope = false
+same_scope (class_scope a) node_scope = false
 same_scope (class_scope a) (class_scope b) = eqb a b
 same_scope (class_scope a) (body_scope b) = false
-same_scope (body_scope a) topScope = false
-same_scope (body_scope a) nodeScope = false
+same_scope (body_scope a) top_scope = false
+same_scope (body_scope a) node_scope = false
 same_scope (body_scope a) (class_scope b) = false
 same_scope (body_scope a) (body_scope b) = eqb a b
 
 -- base: "The base is top or node"
 pub data Base : Type 0 where
-  topBase nodeBase : Base
+  top_base node_base : Base
 
 unfoldable pub base_scope : Base → Scope
-base_scope topBase = topScope
-base_scope nodeBase = nodeScope
+base_scope top_base = top_scope
+base_scope node_base = node_scope
 
 -- of a declared class: its parent and its base
 pub record DeclaredClass : Type 0 where
@@ -52,8 +52,8 @@ parent_of_class (some class) = some class.parent
 
 -- the parent of a scope; `base` is that of the code that reads: "Node's parent is top.", "A type body's parent is its base."
 unfoldable pub parent_of : (classes : ℕ → Option DeclaredClass) → Base → Scope → Option Scope
-parent_of classes base topScope = none
-parent_of classes base nodeScope = some topScope
+parent_of classes base top_scope = none
+parent_of classes base node_scope = some top_scope
 parent_of classes base (class_scope class) = parent_of_class (classes class)
 parent_of classes base (body_scope n) = some (base_scope base)
 

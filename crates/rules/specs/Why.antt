@@ -74,10 +74,10 @@ pub record Found : Type 0 where
 -- "27, the catalog has no such attribute; it follows all of the compile's own refusals"
 unfoldable pub found_in : (strings : List (List ℕ)) → (entries : List Entry) → (type title attribute : List ℕ) → Outcome Found
 found_in strings entries type title attribute = do
-  typeNumber ← or_refuse (string_number type strings 0) NoSuchAttribute 0
-  titleNumber ← or_refuse (string_number title strings 0) NoSuchAttribute 0
+  type_number ← or_refuse (string_number type strings 0) NoSuchAttribute 0
+  title_number ← or_refuse (string_number title strings 0) NoSuchAttribute 0
   name ← or_refuse (string_number attribute strings 0) NoSuchAttribute 0
-  entry ← or_refuse (first_with (is_entry typeNumber titleNumber) entries) NoSuchAttribute 0
+  entry ← or_refuse (first_with (is_entry type_number title_number) entries) NoSuchAttribute 0
   found ← or_refuse (first_with (is_attribute name) entry.attributes) NoSuchAttribute 0
   done (record { attribute = found; parts = entry.parts name })
 
@@ -85,9 +85,9 @@ found_in strings entries type title attribute = do
 unfoldable pub answer_for : (label place : ℕ) → Found → Explanation
 answer_for label place found = elim (has found.attribute.content.labels label) [ true ↦ Among (first_part found.parts label) place | false ↦ NotAmong ]
 
-unfoldable pub explained : Types → (manifest device type title attribute : List ℕ) → (label memoryLength : ℕ) → Outcome Explanation
-explained types manifest device type title attribute label memoryLength = do
-  st ← final_state types manifest device without_limits without_limits memoryLength
+unfoldable pub explained : Types → (manifest device type title attribute : List ℕ) → (label memory_length : ℕ) → Outcome Explanation
+explained types manifest device type title attribute label memory_length = do
+  st ← final_state types manifest device without_limits without_limits memory_length
   found ← found_in (manifest_of manifest).strings st.entries type title attribute
   done (answer_for label (lowest_place types manifest device label) found)
 
@@ -100,8 +100,8 @@ pub record Told : Type 0 where
   pub answer : Explanation
   pub memory_after : List ℕ
 
-unfoldable pub why : Types → (manifest device type title attribute : List ℕ) → (label memoryLength : ℕ) → Told
-why types manifest device type title attribute label memoryLength = record {
-  answer = explanation_of (explained types manifest device type title attribute label memoryLength);
-  memory_after = memory_of memoryLength;
+unfoldable pub why : Types → (manifest device type title attribute : List ℕ) → (label memory_length : ℕ) → Told
+why types manifest device type title attribute label memory_length = record {
+  answer = explanation_of (explained types manifest device type title attribute label memory_length);
+  memory_after = memory_of memory_length;
 }

@@ -86,7 +86,7 @@ module _ (w : List ℕ) (i : ℕ) where
 
   -- the ways of `is_for` and of `recall`
   pub found_for : {d p t b : ℕ} → t ≡ two w (summary_at i) → b ≡ byte w (summary_at i + summary_depth) → t ≡ p + 1 → eqb b d ≡ true → IsFor (line_of w i) d p
-  found_for {d} {b = b} read_place readDepth place depth = record { place = line_place ∙ sym read_place ∙ place; depth = line_byte summary_depth (omega arith) ∙ sym readDepth ∙ eqb-true b d depth }
+  found_for {d} {b = b} read_place read_depth place depth = record { place = line_place ∙ sym read_place ∙ place; depth = line_byte summary_depth (omega arith) ∙ sym read_depth ∙ eqb-true b d depth }
 
   pub recalled : {s s' : List ℕ} {b : ℕ} → Collects s s' false (text_with (numbers_at (line_of w i) summary_names 16) false) → b ≡ byte w (summary_at i + summary_declares) → Collects s s' (eqb b 1) (text_in (line_of w i))
   unfolding text_in

@@ -6,7 +6,7 @@ use mathlib.Core.List.{List, [], ◌∷◌}
 use mathlib.Core.Option.{Option, none, some}
 use native.Mathlib.Omega.{arith}
 use lib.Dec.{eqb, ltb}
-use lib.ListN.{length, take as takeBytes}
+use lib.ListN.{length, take as take_bytes}
 use lib.Seq.{slice, get_or-drop, get_or-take}
 use borrow.Author.Tests.{ltb-true, ltb-false, eqb-true, eqb-false, eq-eqb, ne_eqb}
 use Rattle.wire.proofs.Fields.{no_fields, field_first}
@@ -15,7 +15,7 @@ use Rattle.rules.specs.Format.{three, forms, form_in, form_of, size, head_size, 
 use Rattle.rules.specs.Check.{walk, inside, check}
 use Rattle.rules.specs.Fields.{Field, field, Fields, more, read_each, read_body, read_field, read_all, head_of, tag_of, inner, first, others}
 use Rattle.rules.specs.Tree.{Statement, Definition, Block, Devices, named, by_default, Item, statement, node, definition}
-use Rattle.rules.specs.Read.{entry_for, is_default, last_block, names_from, devices_from, ItemTag, aNode, aTypeDefinition, aClassDefinition, aStatement, item_tags, item_by, item_from, items_from, manifest_from, manifest_of}
+use Rattle.rules.specs.Read.{entry_for, is_default, last_block, names_from, devices_from, ItemTag, a_node, a_type_definition, a_class_definition, a_statement, item_tags, item_by, item_from, items_from, manifest_from, manifest_of}
 use Rattle.rules.specs.State.{is_some}
 use Rattle.rules.specs.Evaluate.{any}
 use Rattle.rules.specs.Compile.{same_bytes, string_at, names, is_default_node, without_nodes, with_node, is_node, items_for}
@@ -40,7 +40,7 @@ plain_item : (k : Field) → (tag_of k ≡ 0x30 → ⊥) → Plain (item_from k)
 unfolding tag_of item_from item_by entry_for item_tags
 plain_item (field p t h ks) n = go (eqb t 0x30) refl (eqb t 0x32) (eqb t 0x34)
   where
-    go : (a : Bool) → eqb t 0x30 ≡ a → (b c : Bool) → Plain (item_by (field p t h ks) p h ks (elim a [ true ↦ aNode | false ↦ elim b [ true ↦ aTypeDefinition | false ↦ elim c [ true ↦ aClassDefinition | false ↦ aStatement ] ] ]))
+    go : (a : Bool) → eqb t 0x30 ≡ a → (b c : Bool) → Plain (item_by (field p t h ks) p h ks (elim a [ true ↦ a_node | false ↦ elim b [ true ↦ a_type_definition | false ↦ elim c [ true ↦ a_class_definition | false ↦ a_statement ] ] ]))
     go true e b c = absurd (n (eqb-true t 0x30 e))
     go false e true c = plain_definition
     go false e false true = plain_definition
@@ -48,7 +48,7 @@ plain_item (field p t h ks) n = go (eqb t 0x30) refl (eqb t 0x32) (eqb t 0x34)
 
 node_item : (k : Field) → tag_of k ≡ 0x30 → item_from k ≡ node (devices_from (inner k)) (last_block (inner k))
 unfolding tag_of item_from item_by entry_for item_tags inner
-node_item (field p t h ks) e = ap (λ (i : ItemTag). item_by (field p t h ks) p h ks i) (ap (entry_for item_tags aStatement) e)
+node_item (field p t h ks) e = ap (λ (i : ItemTag). item_by (field p t h ks) p h ks i) (ap (entry_for item_tags a_statement) e)
 
 -- ---- One field read
 
@@ -73,7 +73,7 @@ unfolding length_right rest_right form_of form_in forms head_size size
 name_length {t} {n} e w = eqb-true n 2 (subst (λ (t : ℕ). length_right (form_of t) n ≡ true) e w)
 
 slice_byte : (m : List ℕ) (f t i : ℕ) → f + i < t → byte (slice f t m) i ≡ byte m (f + i)
-slice_byte m f t i h = get_or-drop f (takeBytes t m) i 0 ∙ get_or-take t m (f + i) 0 h
+slice_byte m f t i h = get_or-drop f (take_bytes t m) i 0 ∙ get_or-take t m (f + i) 0 h
 
 -- two bytes of a part
 slice_two : (m : List ℕ) (f t : ℕ) → f + 1 < t → two (slice f t m) 0 ≡ two m f

@@ -6,7 +6,7 @@ use mathlib.Core.Bool.{Bool, true, false}
 use mathlib.Core.List.{List, [], ◌∷◌, ◌++◌}
 use native.Mathlib.Omega.{arith}
 use lib.Dec.{eqb, ltb}
-use lib.ListN.{length, get_or, take as takeBytes, drop, length-take}
+use lib.ListN.{length, get_or, take as take_bytes, drop, length-take}
 use lib.Seq.{slice, take-nil}
 use borrow.Author.Tests.{ltb-true, ltb-false, leb-true, eqb-true, eqb-false, eq-eqb}
 use Rattle.wire.specs.Numbers.{high_bytes}
@@ -51,8 +51,8 @@ string_came n t x e = go (eqb n 0) refl (eqb t 2) refl e
     go false z true hb e = record { left = eqb-false n 0 z; tag = eqb-true t 2 hb; next = cc }
     go false z false hb e = wrong_not_go e
 
-cut : (a n : ℕ) (m : List ℕ) → slice a (a + n) m ≡ takeBytes n (drop a m)
-cut zero n m = let z : 0 + n ≡ n = omega arith in ap (λ (k : ℕ). takeBytes k m) z
+cut : (a n : ℕ) (m : List ℕ) → slice a (a + n) m ≡ take_bytes n (drop a m)
+cut zero n m = let z : 0 + n ≡ n = omega arith in ap (λ (k : ℕ). take_bytes k m) z
 cut (suc a) n [] = ap (drop (suc a)) (take-nil (suc a + n)) ∙ sym (take-nil n)
 cut (suc a) n (x ∷ m) = let s : suc a + n ≡ suc (a + n) = omega arith in ap (λ (k : ℕ). slice (suc a) k (x ∷ m)) s ∙ cut a n m
 

@@ -5,7 +5,7 @@ use Prim.Native.Nat.{ℕ, zero, suc, ◌-◌, ◌≤◌, ◌<◌}
 use native.Mathlib.Omega.{arith}
 use lib.ListN.{length, replicate, get_or-append}
 use Rattle.wire.specs.Bytes.{byte as at}
-use Rattle.rules.specs.Fields.{field, none as noFields, write}
+use Rattle.rules.specs.Fields.{field, none as fields_end, write}
 use Rattle.notation.specs.Building.{Nodes}
 use Rattle.notation.specs.Convert.{string_fields, manifest_fields}
 use Rattle.text_places.specs.Marks.{field_marks, fields_marks, Begins, part_marks}
@@ -25,7 +25,7 @@ zeros_only p n = record { only = λ i q e. go n i q e }
 strings_only : (ss : List (List ℕ)) → Only 0 (fields_marks (string_fields ss))
 unfolding field_marks string_fields
 strings_only [] = zeros_only 0 0
-strings_only (s ∷ ss) = only_both 0 (field_marks (field 0 0x02 s noFields)) (fields_marks (string_fields ss)) (header_first 0 (replicate (length s) 0 ++ []) (subst (Only 0) (sym (append-nil (replicate (length s) 0))) (zeros_only 0 (length s)))) (strings_only ss)
+strings_only (s ∷ ss) = only_both 0 (field_marks (field 0 0x02 s fields_end)) (fields_marks (string_fields ss)) (header_first 0 (replicate (length s) 0 ++ []) (subst (Only 0) (sym (append-nil (replicate (length s) 0))) (zeros_only 0 (length s)))) (strings_only ss)
 
 module _ (S : List (List ℕ)) (items : Nodes) (o p : ℕ) (b : Begins (manifest_fields S items) o p) where
   table : List ℕ
@@ -33,7 +33,7 @@ module _ (S : List (List ℕ)) (items : Nodes) (o p : ℕ) (b : Begins (manifest
 
   there : at (table ++ part_marks items) o ≡ suc p
   unfolding manifest_fields field_marks table
-  there = ap (λ (ms : List ℕ). at (table ++ ms) o) (sym (onto_marks S items noFields ∙ append-nil (part_marks items))) ∙ b.marked
+  there = ap (λ (ms : List ℕ). at (table ++ ms) o) (sym (onto_marks S items fields_end ∙ append-nil (part_marks items))) ∙ b.marked
 
   pub in_table : o < length (write (field 0 0x01 [] (string_fields S))) → p ≡ 0
   unfolding field_marks table

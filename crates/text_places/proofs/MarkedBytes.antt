@@ -5,7 +5,7 @@ use Prim.Native.Nat.{ℕ, suc, ◌+◌, ◌-◌}
 use native.Mathlib.Omega.{arith}
 use lib.ListN.{length, length-append, replicate, length-replicate}
 use Rattle.wire.specs.Numbers.{high_bytes}
-use Rattle.rules.specs.Fields.{Field, field, Fields, none as noFields, more, wrap, write, write_all}
+use Rattle.rules.specs.Fields.{Field, field, Fields, none as fields_end, more, wrap, write, write_all}
 use Rattle.notation.specs.Building.{Piece, byte, name, Node, node, Nodes, empty, ◌▸◌, Frame, frame, Build, build}
 use Rattle.notation.specs.Convert.{piece_bytes, head_bytes, numbered, numbered_onto}
 use Rattle.tree_builder.specs.declared.Building.{Building}
@@ -22,7 +22,7 @@ mutual
   field_size (field p t h ks) = omega (arith, length-append (replicate (length h) 0) (fields_marks ks), length-replicate {A = ℕ} (length h) 0, length-append h (write_all ks), fields_size ks)
 
   fields_size : (ks : Fields) → length (fields_marks ks) ≡ length (write_all ks)
-  fields_size noFields = refl
+  fields_size fields_end = refl
   fields_size (more k ks) = omega (arith, length-append (field_marks k) (fields_marks ks), length-append (write k) (write_all ks), field_size k, fields_size ks)
 
 -- ---- Trees
@@ -39,7 +39,7 @@ module _ (table : List (List ℕ)) where
     unfolding field_marks numbered node_marks
 
     node_marks_lem : (k : Node) → field_marks (numbered table k) ≡ node_marks k
-    node_marks_lem (node p t h ks) = ap (λ (l : List ℕ). suc p ∷ 0 ∷ 0 ∷ (l ++ fields_marks (numbered_onto table ks noFields))) (head_marks_lem h) ∙ ap (λ (l : List ℕ). suc p ∷ 0 ∷ 0 ∷ (head_marks h ++ l)) (onto_marks ks noFields ∙ append-nil (part_marks ks))
+    node_marks_lem (node p t h ks) = ap (λ (l : List ℕ). suc p ∷ 0 ∷ 0 ∷ (l ++ fields_marks (numbered_onto table ks fields_end))) (head_marks_lem h) ∙ ap (λ (l : List ℕ). suc p ∷ 0 ∷ 0 ∷ (head_marks h ++ l)) (onto_marks ks fields_end ∙ append-nil (part_marks ks))
 
     pub onto_marks : (ks : Nodes) (rest : Fields) → fields_marks (numbered_onto table ks rest) ≡ part_marks ks ++ fields_marks rest
     onto_marks empty rest = refl
@@ -49,7 +49,7 @@ module _ (table : List (List ℕ)) where
 
   pub parts_size_lem : (ks : Nodes) → length (part_marks ks) ≡ length (parts_bytes table ks)
   unfolding parts_bytes fields_marks
-  parts_size_lem ks = ap length (sym (onto_marks ks noFields ∙ append-nil (part_marks ks))) ∙ fields_size (numbered_onto table ks noFields)
+  parts_size_lem ks = ap length (sym (onto_marks ks fields_end ∙ append-nil (part_marks ks))) ∙ fields_size (numbered_onto table ks fields_end)
 
   head_size_lem : (h : List Piece) → length (head_marks h) ≡ length (head_bytes table h)
   head_size_lem h = ap length (sym (head_marks_lem h)) ∙ length-replicate {A = ℕ} (length (head_bytes table h)) 0

@@ -8,7 +8,7 @@ use lib.ListN.{length, length-append}
 use Rattle.wire.specs.Bytes.{pick}
 use Rattle.values.specs.declared.Reason.{Reason}
 use Rattle.rules.specs.EditRule.{IsBytes}
-use Rattle.rules.specs.Fields.{field, none as noFields, write, write_all}
+use Rattle.rules.specs.Fields.{field, none as fields_end, write, write_all}
 use Rattle.rules.specs.Outcome.{Outcome, refused, done}
 use Rattle.rules.specs.Types.{Types}
 use Rattle.notation.specs.Tokens.{Lexeme, place_of}
@@ -101,4 +101,4 @@ module _ (types : Types) (t : List ℕ) (bytes : IsBytes t) (items : Nodes) (e :
   log_short short =
       let w = tree_of types t bytes items e in
       let S : List (List ℕ) = table_behind (tokens t) [] in
-      omega (arith, short, w.following.short, ap length w.same, parts_size_lem S items, length-append (write (field 0 0x01 [] (string_fields S))) (write_all (numbered_onto S items noFields)))
+      omega (arith, short, w.following.short, ap length w.same, parts_size_lem S items, length-append (write (field 0 0x01 [] (string_fields S))) (write_all (numbered_onto S items fields_end)))

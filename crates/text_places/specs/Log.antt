@@ -66,7 +66,7 @@ top_before_parts [] = false
 top_before_parts (s ∷ k) = eqb (sort s) 1
 
 -- an operator comes before its left side, which is then the first part of the field being read; all else comes last
-unfoldable pub inserted_at : (beforeParts operator : Bool) → (body start size : ℕ) → ℕ
+unfoldable pub inserted_at : (before_parts operator : Bool) → (body start size : ℕ) → ℕ
 inserted_at b o body start size = pick b body (pick o start size)
 
 -- the log behind a step from the tree f to g

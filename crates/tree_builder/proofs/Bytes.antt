@@ -5,7 +5,7 @@ use Prim.Native.Nat.{ℕ, zero, suc, ◌%◌, ◌/◌, ◌^◌, ◌<◌}
 use native.Mathlib.Omega.{arith}
 use lib.ListN.{length}
 use Rattle.wire.specs.Numbers.{high_bytes}
-use Rattle.rules.specs.Fields.{Fields, none as noFields, more, wrap, write, write_all}
+use Rattle.rules.specs.Fields.{Fields, none as fields_end, more, wrap, write, write_all}
 use Rattle.notation.specs.Building.{Piece, Node, Nodes, empty, ◌▸◌, leaf, Frame, frame}
 use Rattle.notation.specs.Convert.{head_bytes, numbered, numbered_onto}
 use Rattle.tree_builder.specs.Open.{low, opening, parts_bytes, around_bytes, head_end, open_bytes}
@@ -64,11 +64,11 @@ module _ (table : List (List ℕ)) where
       write_onto ks (more (numbered table k) rest)
       ∙ ap (λ (l : List ℕ). parts_bytes table ks ++ (l ++ write_all rest)) (sym (append-nil (write (numbered table k))))
       ∙ sym (append_assoc (parts_bytes table ks) (write (numbered table k) ++ []) (write_all rest))
-      ∙ ap (λ (l : List ℕ). l ++ write_all rest) (sym (write_onto ks (more (numbered table k) noFields)))
+      ∙ ap (λ (l : List ℕ). l ++ write_all rest) (sym (write_onto ks (more (numbered table k) fields_end)))
 
   pub parts_more : (ks : Nodes) (k : Node) → parts_bytes table (ks ▸ k) ≡ parts_bytes table ks ++ write (numbered table k)
   unfolding write numbered parts_bytes
-  parts_more ks k = write_onto ks (more (numbered table k) noFields) ∙ ap (λ (l : List ℕ). parts_bytes table ks ++ l) (append-nil (write (numbered table k)))
+  parts_more ks k = write_onto ks (more (numbered table k) fields_end) ∙ ap (λ (l : List ℕ). parts_bytes table ks ++ l) (append-nil (write (numbered table k)))
 
   pub open_more : (t : ℕ) (h : List Piece) (ks : Nodes) (k : Node) (fs : List Frame) → open_bytes table t h (ks ▸ k) fs ≡ open_bytes table t h ks fs ++ write (numbered table k)
   unfolding open_bytes

@@ -9,7 +9,7 @@ use lib.ListN.{length, length-append}
 use Rattle.wire.specs.Numbers.{high_bytes}
 use Rattle.wire.specs.Runs.{bytes_at, over}
 use Rattle.wire.proofs.Laws.{high_length}
-use Rattle.rules.specs.Fields.{Fields, none as noFields, more, write, write_all}
+use Rattle.rules.specs.Fields.{Fields, none as fields_end, more, write, write_all}
 use Rattle.rules.specs.Types.{Types}
 use Rattle.notation.specs.Building.{Piece, byte, name, Node, node, Nodes, empty, ◌▸◌, leaf, height, tallest, Frame, frame, build, named, parent_first, act, in_front, added_first, spelled}
 use Rattle.notation.specs.Tokens.{place_of, token_of}
@@ -70,7 +70,7 @@ module _ (table : List (List ℕ)) where
 
   front_open : (t : ℕ) (h : List Piece) (k : Node) (ks : Nodes) (fs : List Frame) → open_bytes table t h (in_front k ks) fs ≡ head_end table t h fs ++ (write (numbered table k) ++ parts_bytes table ks)
   unfolding open_bytes parts_bytes
-  front_open t h k ks fs = ap (λ (l : List ℕ). head_end table t h fs ++ l) (write_front k ks noFields)
+  front_open t h k ks fs = ap (λ (l : List ℕ). head_end table t h fs ++ l) (write_front k ks fields_end)
 
   front_length : (t : ℕ) (h : List Piece) (k : Node) (ks : Nodes) (fs : List Frame) → length (open_bytes table t h (in_front k ks) fs) ≡ length (open_bytes table t h ks fs) + length (write (numbered table k))
   front_length t h k ks fs =

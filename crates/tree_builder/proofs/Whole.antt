@@ -8,7 +8,7 @@ use lib.ListN.{length, take}
 use Rattle.wire.specs.Runs.{over}
 use Rattle.wire.proofs.Laws.{over_front, over_length}
 use Rattle.rules.specs.EditRule.{IsBytes}
-use Rattle.rules.specs.Fields.{none as noFields, write, write_all}
+use Rattle.rules.specs.Fields.{none as fields_end, write, write_all}
 use Rattle.rules.specs.Types.{Types}
 use Rattle.notation.specs.Tokens.{token_of}
 use Rattle.notation.specs.Building.{Nodes, tallest, frame, build, start, begin, begin_resource, resource_tag, spelled, act}
@@ -55,7 +55,7 @@ low_bytes_lem (x ∷ bs) b =
 
 -- all fields are closed: the items of a manifest
 module _ (table : List (List ℕ)) (s : Building) (m out : List ℕ) (b p t : ℕ) (ks : Nodes) (x : Shows table s m out (build b (frame p t [] ks) [])) where
-  items : open_bytes table t [] ks [] ≡ write_all (numbered_onto table ks noFields)
+  items : open_bytes table t [] ks [] ≡ write_all (numbered_onto table ks fields_end)
   unfolding open_bytes head_end around_bytes opening parts_bytes head_bytes
   items = refl
 
@@ -63,14 +63,14 @@ module _ (table : List (List ℕ)) (s : Building) (m out : List ℕ) (b p t : �
   unfolding Shows late_open late_around
   items_late = x.late
 
-  pub items_length : s.fill ≡ length (write_all (numbered_onto table ks noFields))
+  pub items_length : s.fill ≡ length (write_all (numbered_onto table ks fields_end))
   unfolding Shows
   items_length = x.fill ∙ ap length items
 
-  pub items_bytes : IsBytes (write_all (numbered_onto table ks noFields)) → s.fill ≤ length out → take s.fill out ≡ write_all (numbered_onto table ks noFields)
+  pub items_bytes : IsBytes (write_all (numbered_onto table ks fields_end)) → s.fill ≤ length out → take s.fill out ≡ write_all (numbered_onto table ks fields_end)
   unfolding Shows
   items_bytes bytes room =
-      let bs : List ℕ = write_all (numbered_onto table ks noFields) in
+      let bs : List ℕ = write_all (numbered_onto table ks fields_end) in
       let base : List ℕ = x.bytes.base in
       let is : out ≡ over base 0 bs = sym x.bytes.is ∙ ap (over base 0) (ap low items ∙ low_bytes_lem bs bytes) in
       let size : s.fill ≡ 0 + length bs = items_length ∙ omega arith in

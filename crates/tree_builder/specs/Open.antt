@@ -2,7 +2,7 @@
 use Rattle.std.specs.Prelude.{ℕ, suc, ◌%◌, ◌≡◌, List, [], ◌∷◌, ◌++◌}
 use Rattle.std.proofs.Math.Option.{Option, none, some}
 use Rattle.wire.specs.Runs.{over}
-use Rattle.rules.specs.Fields.{write_all, none as noFields}
+use Rattle.rules.specs.Fields.{write_all, none as fields_end}
 use Rattle.notation.specs.Building.{Piece, Nodes, Frame, frame}
 use Rattle.notation.specs.Convert.{head_bytes, numbered_onto, or_later, late_among}
 
@@ -24,7 +24,7 @@ opening t (f ∷ fs) = t ∷ 0 ∷ 0 ∷ []
 -- names get their numbers in this table
 module _ (table : List (List ℕ)) where
   unfoldable pub parts_bytes : Nodes → List ℕ
-  parts_bytes ks = write_all (numbered_onto table ks noFields)
+  parts_bytes ks = write_all (numbered_onto table ks fields_end)
 
   -- the fields around one
   unfoldable pub around_bytes : List Frame → List ℕ

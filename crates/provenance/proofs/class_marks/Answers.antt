@@ -2,7 +2,7 @@
 use Rattle.provenance.proofs.Variables.{class_past, class_cell}
 use Rattle.labels.specs.Sets.{no_labels}
 use Rattle.cells.specs.Memory.{base_for}
-use Rattle.rules.specs.State.{topBase}
+use Rattle.rules.specs.State.{top_base}
 use native.Mathlib.Omega.{arith}
 use Rattle.provenance.proofs.class_marks.Goals as goal
 
@@ -15,4 +15,4 @@ overflow_add-number c = omega (arith, c.if-class-ge1024.false)
 
 pub returns : goal.returns
 unfolding base_for
-returns c = class_cell _ _ _ topBase c.if-class-ge1024.false c.marks_up.ensures
+returns c = class_cell _ _ _ top_base c.if-class-ge1024.false c.marks_up.ensures

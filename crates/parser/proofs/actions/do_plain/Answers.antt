@@ -2,7 +2,7 @@
 use mathlib.Core.Path.{refl}
 use mathlib.Core.List.{[]}
 use native.Mathlib.Omega.{arith}
-use Rattle.notation.specs.Building.{begin_resource, around, instead, close, read, named, parent_first, enter as enterAction, leave as leaveAction}
+use Rattle.notation.specs.Building.{begin_resource, around, instead, close, read, named, parent_first, enter as enter_action, leave as leave_action}
 use Rattle.parse_table.specs.Codes.{action_of}
 use Rattle.tree_builder.proofs.Whole.{resource_begins}
 use Rattle.parser.specs.Doing.{Suits}
@@ -29,11 +29,11 @@ returns-in-5 c = by_known _ _ _ _ _ _ _ _ _ 5 parent_first c.in-5.is (unfold act
 
 pub returns-in-6 : goal.returns-in-6
 unfolding Suits
-returns-in-6 c = by_known _ _ _ _ _ _ _ _ _ 6 enterAction c.in-6.is (unfold action_of in refl) refl (c.enter.ensures _ _)
+returns-in-6 c = by_known _ _ _ _ _ _ _ _ _ 6 enter_action c.in-6.is (unfold action_of in refl) refl (c.enter.ensures _ _)
 
 pub returns-in-7 : goal.returns-in-7
 unfolding Suits
-returns-in-7 c = by_known _ _ _ _ _ _ _ _ _ 7 leaveAction c.in-7.is (unfold action_of in refl) refl (c.leave.ensures _ _)
+returns-in-7 c = by_known _ _ _ _ _ _ _ _ _ 7 leave_action c.in-7.is (unfold action_of in refl) refl (c.leave.ensures _ _)
 
 pub returns-in-8 : goal.returns-in-8
 unfolding Suits
