@@ -18,7 +18,7 @@ pub slice_bounds-answer_lines-end-in-loop-rounds : goal.slice_bounds-answer_line
 slice_bounds-answer_lines-end-in-loop-rounds g c = sym (length-take-le _ _ c.read_more-full.ensures)
 
 pub keep_rest-kept-requires : goal.keep_rest-kept-requires
-keep_rest-kept-requires g c = (within_first _ _ _ c.read_more-full.ensures c.answer_lines-done.ensures, c.read_more-full.ensures)
+keep_rest-kept-requires g c = record { done_le_full = within_first _ _ _ c.read_more-full.ensures c.answer_lines-done.ensures; full_in_bounds = c.read_more-full.ensures }
 
 pub shape_of-input : goal.shape_of-input
 shape_of-input g c = c.loop-rounds.invariant.1

@@ -1,5 +1,6 @@
 -- `put_hex`: what is left to store at the loop's head makes the whole.
 use native.Mathlib.Omega.{arith}
+use borrow.Author.Rules.{rules}
 use lib.ListN.{length-set}
 use Rattle.run_cases.proofs.Texts.{counts, writing_first, writing_length, writing_more, writing_done}
 use Rattle.run_cases.proofs.text.put_hex.Goals as goal
@@ -11,7 +12,7 @@ pub bounds-bytes-n : goal.bounds-bytes-n
 bounds-bytes-n c = omega (arith, c.least-some.ensures, c.least-all.ensures)
 
 pub hex_digit-requires : goal.hex_digit-requires
-hex_digit-requires c = omega (arith, c.shared_slice_known-in-loop-n-1.given c.loop-n.n)
+hex_digit-requires c = search rules
 
 pub overflow_mul-into : goal.overflow_mul-into
 overflow_mul-into c = omega (arith, c.least-all.ensures)
@@ -41,10 +42,8 @@ pub shape_of-into : goal.shape_of-into
 shape_of-into c = writing_length _ _ _ _ _ c.loop-n.invariant
 
 pub returns : goal.returns
-returns c = (
-  writing_done _ _ _ _ _ c.loop-n.invariant _ (omega (arith, c.least-some.ensures, c.least-all.ensures)) c.loop-n-test.false,
-  (
-    counts _ _ (omega (arith, c.least-all.ensures, c.loop-n.invariant.within, writing_length _ _ _ _ _ c.loop-n.invariant)),
-    omega (arith, c.least-some.ensures, c.least-all.ensures, c.loop-n.invariant.within, c.loop-n-test.false),
-  ),
-)
+returns c = record {
+  into_after = writing_done _ _ _ _ _ c.loop-n.invariant _ (omega (arith, c.least-some.ensures, c.least-all.ensures)) c.loop-n-test.false;
+  prefix_len = counts _ _ (omega (arith, c.least-all.ensures, c.loop-n.invariant.within, writing_length _ _ _ _ _ c.loop-n.invariant));
+  value = omega (arith, c.least-some.ensures, c.least-all.ensures, c.loop-n.invariant.within, c.loop-n-test.false)
+}

@@ -13,7 +13,9 @@ pub shape_of-into-then-pair-gt255 : goal.shape_of-into-then-pair-gt255
 shape_of-into-then-pair-gt255 c = reading_length _ _ _ _ _ c.loop-n.invariant
 
 pub returns-then-pair-gt255 : goal.returns-then-pair-gt255
-returns-then-pair-gt255 c = reading_stops _ _ _ _ _ c.loop-n.invariant _ c.pair_at-pair.ensures c.if-pair-gt255.true
+returns-then-pair-gt255 c =
+    let r = reading_stops _ _ _ _ _ c.loop-n.invariant _ c.pair_at-pair.ensures c.if-pair-gt255.true in
+    record { into_after = r.0; value = r.1.0; prefix_len = r.1.1 }
 
 pub loop-n-smaller : goal.loop-n-smaller
 loop-n-smaller c = omega (arith, reading_length _ _ _ _ _ c.loop-n.invariant)
@@ -25,4 +27,6 @@ pub shape_of-into : goal.shape_of-into
 shape_of-into c = reading_length _ _ _ _ _ c.loop-n.invariant
 
 pub returns : goal.returns
-returns c = reading_full _ _ _ _ _ c.loop-n.invariant c.loop-n-test.false
+returns c =
+    let r = reading_full _ _ _ _ _ c.loop-n.invariant c.loop-n-test.false in
+    record { into_after = r.0; value = r.1.0; prefix_len = r.1.1 }

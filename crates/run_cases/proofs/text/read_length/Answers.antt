@@ -3,4 +3,4 @@ use Rattle.run_cases.proofs.Texts.{counts}
 use Rattle.run_cases.proofs.text.read_length.Goals as goal
 
 pub returns : goal.returns
-returns c = (c.read_number.ensures.0, counts _ _ c.read_number.ensures.1)
+returns c = record { value = c.read_number.ensures.value; prefix_len = counts _ _ c.read_number.ensures.upper_bound }
