@@ -3,7 +3,6 @@ use Prim.Native.Nat.{ℕ, ◌+◌, ◌-◌, ◌≤◌}
 use mathlib.Core.Path.{◌≡◌, refl, sym, ap, ◌∙◌}
 use mathlib.Core.List.{List, ◌++◌, append_assoc}
 use native.Mathlib.Omega.{arith}
-use denote.Enum.Declared.{tag_of}
 use lib.ListN.{length, take, replicate, length-append, length-replicate}
 use lib.Seq.{length-take-le}
 use Rattle.values.specs.declared.Reason.{Reason}
@@ -30,7 +29,6 @@ use Rattle.schedule.specs.declared.Line.TheVariants.{Text}
 use Rattle.schedule.specs.Strings.{strings_by}
 use Rattle.schedule.specs.Subjects.{start}
 use Rattle.schedule.specs.Lines.{next_line, Prints, ends, more}
-use Rattle.schedule.specs.contracts.Line.{the_type}
 use Rattle.schedule.proofs.Asking.{Asked, line_asked}
 use Rattle.schedule.proofs.Whole.{catalog_part, schedule_prints, accepted_text, refusal_text}
 use Rattle.standard_streams.specs.Sending.{ComesNext, Left}
@@ -75,7 +73,7 @@ module _ (whole : List ℕ) (sent : ℕ) (ss : List (List ℕ)) (catalog : List 
           }
 
   -- what is no line is the end
-  pub no_line : {r : Line} {line : List ℕ} {room : ℕ} → room ≡ 2048 → stored r line ≡ next_line ss catalog at room → (tag_of the_type r ≡ 0 → ⊥) → Left whole sent last
+  pub no_line : {r : Line} {line : List ℕ} {room : ℕ} → room ≡ 2048 → stored r line ≡ next_line ss catalog at room → ((n : ℕ) (next : Position) → r ≡ Text n next → ⊥) → Left whole sent last
   no_line {r} {line} full made not = go l.prints l.left
     where
       e : stored r line ≡ next_line ss catalog at 2048
@@ -83,7 +81,7 @@ module _ (whole : List ℕ) (sent : ℕ) (ss : List (List ℕ)) (catalog : List 
 
       go : {lines : List ℕ} → Prints ss catalog 2048 at lines → Left whole sent (lines ++ last) → Left whole sent last
       go (ends d) left = left
-      go (more {next = b} {n = j} {line = k} d p) left = let is : r ≡ Text j b = cc in absurd (not (ap (tag_of the_type) is))
+      go (more {next = b} {n = j} {line = k} d p) left = let is : r ≡ Text j b = cc in absurd (not j b is)
 
 -- ---- What `compile` left
 

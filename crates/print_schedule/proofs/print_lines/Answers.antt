@@ -1,7 +1,6 @@
 -- `print_lines`: what is left are the lines from the position on and the last one; positions rise within the catalog.
 use Prim.Native.Nat.{ℕ}
 use mathlib.Core.Path.{◌≡◌, refl, sym, ◌∙◌}
-use mathlib.Core.Logic.{⊎_elim}
 use native.Mathlib.Omega.{arith}
 use borrow.Author.Tests.{not-false}
 use Rattle.schedule.specs.Subjects.{start}
@@ -18,7 +17,7 @@ slice_bounds-next_line-end g c = sym c.loop-length.invariant.1
 pub print_steps-requires : goal.print_steps-requires
 print_steps-requires g c =
     let inv = c.loop-length.invariant in
-    no_line _ _ _ _ _ _ inv.0 inv.1 c.next_line-made.ensures (λ e. ⊎_elim (λ p. omega arith) (λ q. ⊎_elim (λ p. omega arith) (λ p. omega arith) q) c.in_default.keys2)
+    no_line _ _ _ _ _ _ inv.0 inv.1 c.next_line-made.ensures c.in_default.not-Text
 
 pub returns-in_default : goal.returns-in_default
 returns-in_default g c = c.print_steps.ensures
