@@ -46,7 +46,7 @@ names_rise : {m : List ℕ} {q b : ℕ} → NamesTo m b q → q ≤ b
 names_rise (arrived e) = omega arith
 names_rise (another l s d i) = omega arith
 
-names_known_lem : {m : List ℕ} {q b : ℕ} → NamesTo m b q → NamesKnown m q → NamesKnown m b
+names_known_lem : {m : List ℕ} {b q : ℕ} → NamesTo m b q → NamesKnown m q → NamesKnown m b
 names_known_lem (arrived e) k = subst (NamesKnown _) e k
 names_known_lem {m} (another {q = q} l s d i) k = names_known_lem i (known_after m (length (string_places m)) (length m) 31 q s.sound s.ends k)
 

@@ -9,13 +9,9 @@ use Rattle.compiler.proofs.compile.Goals as goal
 
 pub returns-then-work-lt65536 : goal.returns-then-work-lt65536
 returns-then-work-lt65536 c = record {
-  bytes = record { below = λ i. omega (arith, c.shared_slice_known-1.given i) };
+  bytes = record { below = λ i. omega (arith, c.type_inv.manifest i) };
   leaves = refuses _ _ _ _ _ _ _ _ _ refl refl c.refuse.ensures.1.1 (short_memory _ _ _ _ _ _ c.if-work-lt65536.true ∙ sym (ap refused_by c.at.ensures)) c.refuse.ensures.0 c.refuse.ensures.1.0;
 }
-
--- NO GOAL
--- slice-aggregate-compile-chosen : tie.Need-slice-aggregate-compile-chosen
--- slice-aggregate-compile-chosen c = refl
 
 pub compile_chosen-requires : goal.compile_chosen-requires
 unfolding chosen check_types

@@ -7,16 +7,16 @@ use mathlib.Core.Path.{ap, ◌∙◌, refl, sym}
 use Rattle.compiler.proofs.compile_chosen.Goals as goal
 
 pub at-requires : goal.at-requires
-at-requires c = omega (arith, fault_fits _ c.check_all-v.ensures c.v-1.given.1)
+at-requires c = omega (arith, fault_fits _ c.check_all-v.ensures c.in-Fault.is)
 
 pub run_checked-requires : goal.run_checked-requires
-run_checked-requires c = (c.requires.0, (c.requires.1, sym c.check_all-v.ensures ∙ c.enum_told-1.given.1))
+run_checked-requires c = (c.requires.0, (c.requires.1, sym c.check_all-v.ensures ∙ c.in-Sound.is))
 
 pub returns-in-Fault : goal.returns-in-Fault
 returns-in-Fault c = record {
-  bytes = record { below = λ i. omega (arith, c.shared_slice_known-2-1.given i) };
-  leaves = refuses _ _ _ _ _ _ _ _ _ refl refl c.refuse.ensures.1.1 (fault_first _ _ _ _ _ _ c.requires.0 c.requires.1 c.check_all-v.ensures c.v-1.given.1 ∙ sym (ap refused_by c.at.ensures)) c.refuse.ensures.0 c.refuse.ensures.1.0;
+  bytes = record { below = λ i. omega (arith, c.type_inv.manifest i) };
+  leaves = refuses _ _ _ _ _ _ _ _ _ refl refl c.refuse.ensures.1.1 (fault_first _ _ _ _ _ _ c.requires.0 c.requires.1 c.check_all-v.ensures c.in-Fault.is ∙ sym (ap refused_by c.at.ensures)) c.refuse.ensures.0 c.refuse.ensures.1.0;
 }
 
 pub returns-in-Sound : goal.returns-in-Sound
-returns-in-Sound c = record { bytes = record { below = λ i. omega (arith, c.shared_slice_known-2-1.given i) }; leaves = c.run_checked.ensures }
+returns-in-Sound c = record { bytes = record { below = λ i. omega (arith, c.type_inv.manifest i) }; leaves = c.run_checked.ensures }

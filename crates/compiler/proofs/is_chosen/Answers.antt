@@ -3,7 +3,7 @@ use Rattle.compiler.proofs.Items.{chosen_at, chosen_none}
 use Rattle.compiler.proofs.is_chosen.Goals as goal
 
 pub returns-in-At : goal.returns-in-At
-returns-in-At c = chosen_at _ c.node-1.given.1
+returns-in-At c = chosen_at _ c.in-At.is
 
 pub returns-in-Nothing : goal.returns-in-Nothing
-returns-in-Nothing c = chosen_none _ c.enum_told-1.given.1
+returns-in-Nothing c = chosen_none _ c.in-Nothing.is

@@ -9,19 +9,19 @@ pub run_manifest-r-requires : goal.run_manifest-r-requires
 run_manifest-r-requires c = let b = before_sound _ c.requires.1.1 in ((c.requires.1.0, (b.sound, b.short)), c.requires.0)
 
 pub overflow_cast-result : goal.overflow_cast-result
-overflow_cast-result c = omega (arith, (run_done c.run_manifest-r.ensures.ends c.r-in-Done-1.given.1).short)
+overflow_cast-result c = omega (arith, (run_done c.run_manifest-r.ensures.ends c.in-Done.is).short)
 
 pub overflow_sub-result : goal.overflow_sub-result
 overflow_sub-result c = omega (arith, c.run_manifest-r.ensures.steps)
 
 pub returns-in-Refused : goal.returns-in-Refused
 returns-in-Refused c =
-    refuses _ _ _ _ _ _ _ _ _ c.run_manifest-r.auto.1.1.1.0 c.run_manifest-r.auto.1.1.1.1.0 c.refuse.ensures.1.1
-    (sound_first _ _ _ _ _ _ c.requires.0 c.requires.1.0 c.requires.1.1 ∙ run_refused c.run_manifest-r.ensures.ends c.r-1.given.1)
+    refuses _ _ _ _ _ _ _ _ _ c.run_manifest-r.auto.out c.run_manifest-r.auto.work c.refuse.ensures.1.1
+    (sound_first _ _ _ _ _ _ c.requires.0 c.requires.1.0 c.requires.1.1 ∙ run_refused c.run_manifest-r.ensures.ends c.in-Refused.is)
     c.refuse.ensures.0
     c.refuse.ensures.1.0
 
 pub returns-in-Done : goal.returns-in-Done
 returns-in-Done c =
-    let e = run_done c.run_manifest-r.ensures.ends c.r-in-Done-1.given.1 in
-    accepts _ _ _ _ _ _ _ _ _ c.run_manifest-r.auto.1.1.1.0 c.run_manifest-r.auto.1.1.1.1.0 c.clear.ensures (sound_first _ _ _ _ _ _ c.requires.0 c.requires.1.0 c.requires.1.1 ∙ e.same) e.steps e.written e.within c.clear_rest.ensures
+    let e = run_done c.run_manifest-r.ensures.ends c.in-Done.is in
+    accepts _ _ _ _ _ _ _ _ _ c.run_manifest-r.auto.out c.run_manifest-r.auto.work c.clear.ensures (sound_first _ _ _ _ _ _ c.requires.0 c.requires.1.0 c.requires.1.1 ∙ e.same) e.steps e.written e.within c.clear_rest.ensures

@@ -10,7 +10,7 @@ pub assign_parameters-requires : goal.assign_parameters-requires
 assign_parameters-requires c = let pre = c.requires in ((pre.0.1, (omega (arith, pre.1.0.0), pre.1.0.1)), pre.1.1)
 
 pub returns-in-Refused : goal.returns-in-Refused
-returns-in-Refused c = fill_stopped c.store_title-t.ensures _ c.t-1.given.1
+returns-in-Refused c = fill_stopped c.store_title-t.ensures _ c.in-Refused.is
 
 pub returns-in-Done : goal.returns-in-Done
-returns-in-Done c = fill_stored c.store_title-t.ensures _ c.enum_told-1.given.1 c.assign_parameters.ensures
+returns-in-Done c = fill_stored c.store_title-t.ensures _ c.in-Done.is c.assign_parameters.ensures

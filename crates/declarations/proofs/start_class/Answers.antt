@@ -32,10 +32,10 @@ pub returns-in-Refused : goal.returns-in-Refused
 returns-in-Refused c =
     let pre = c.requires in
     let parts = class_parts pre.0 pre.1 c.first_parameter-first.ensures c.end_of_parameters-block.ensures in
-    class_stopped _ _ _ _ _ _ _ c.two_at-name.ensures (class_small pre.0.strings pre.1) c.parent_scope-parent.ensures c.class_base-base_is_node.ensures c.declare_class.ensures c.first_parameter-first.ensures parts c.assign_parameters-r.ensures _ c.r-1.given.1
+    class_stopped _ _ _ _ _ _ _ c.two_at-name.ensures (class_small pre.0.strings pre.1) c.parent_scope-parent.ensures c.class_base-base_is_node.ensures c.declare_class.ensures c.first_parameter-first.ensures parts c.assign_parameters-r.ensures _ c.in-Refused.is
 
 pub returns-in-Done : goal.returns-in-Done
 returns-in-Done c =
     let pre = c.requires in
     let parts = class_parts pre.0 pre.1 c.first_parameter-first.ensures c.end_of_parameters-block.ensures in
-    class_started _ _ _ _ _ _ _ c.two_at-name.ensures (class_small pre.0.strings pre.1) c.parent_scope-parent.ensures c.class_base-base_is_node.ensures c.declare_class.ensures c.first_parameter-first.ensures parts c.assign_parameters-r.ensures c.enum_told-1.given.1
+    class_started _ _ _ _ _ _ _ c.two_at-name.ensures (class_small pre.0.strings pre.1) c.parent_scope-parent.ensures c.class_base-base_is_node.ensures c.declare_class.ensures c.first_parameter-first.ensures parts c.assign_parameters-r.ensures c.in-Done.is

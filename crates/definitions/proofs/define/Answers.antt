@@ -14,4 +14,4 @@ pub set_definition-requires : goal.set_definition-requires
 set_definition-requires c = (c.requires.0.memory, omega (arith, c.two_at.ensures, name_small _ _ c.requires.1.0 c.requires.1.1 _ c.requires.0))
 
 pub returns : goal.returns
-returns c = now_defined _ _ _ _ c.requires.0 c.requires.1.0 c.requires.1.1 c.two_at.ensures refl c.set_definition.auto.0 c.set_definition.ensures
+returns c = now_defined _ _ _ _ c.requires.0 c.requires.1.0 c.requires.1.1 c.two_at.ensures refl c.set_definition.auto.work c.set_definition.ensures

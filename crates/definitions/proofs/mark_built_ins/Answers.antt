@@ -18,13 +18,13 @@ overflow_add-n c = omega (arith, string_below _ _ _ _ _ _ _ c.loop-q.invariant c
 
 pub end_of-q-requires : goal.end_of-q-requires
 unfolding two
-end_of-q-requires c = omega (arith, c.loop-q-test.true, c.end_of-end.ensures, c.shared_slice_known-3-1.given 1, c.shared_slice_known-3-1.given 2)
+end_of-q-requires c = omega (arith, c.loop-q-test.true, c.end_of-end.ensures, c.type_inv.m 1, c.type_inv.m 2)
 
 pub loop-q-smaller : goal.loop-q-smaller
 loop-q-smaller c = omega (arith, c.end_of-q.ensures, c.loop-q-test.true)
 
 pub loop-q-preserved : goal.loop-q-preserved
-loop-q-preserved c = one_marked _ _ _ _ _ _ _ c.loop-q.invariant _ c.loop-q-test.true c.mark_string.ensures c.mark_string.auto.1.1.1.1.1.0 c.end_of-q.ensures
+loop-q-preserved c = one_marked _ _ _ _ _ _ _ c.loop-q.invariant _ c.loop-q-test.true c.mark_string.ensures c.mark_string.auto.work c.end_of-q.ensures
 
 pub shape_of-work : goal.shape_of-work
 shape_of-work c = c.loop-q.invariant.size

@@ -1,12 +1,9 @@
--- The cycle of blocks, statements and declarations: the measures and the answers of each member stand in the files below.
-use Prim.Native.Nat.{suc, ◌-◌}
-use Rattle.places.proofs.Open.{level, header_within}
-use Prim.Native.Nat.{ℕ, ◌+◌, ◌*◌, ◌<◌}
-use Prim.Native.Nat.{ℕ, ◌-◌}
+-- The cycle of blocks, statements and declarations: the measure of each member, and the invariant of a block's loop.
+use Prim.Native.Nat.{◌-◌, ◌+◌, ◌*◌}
 use Rattle.rules.specs.Run.{run_block, declaration}
 use Rattle.places.specs.At.{block_at}
 use Rattle.memory.specs.Contexts.{context_of}
-use Rattle.execution.proofs.Blocks.{ToRun, block_begins, block_ends, block_stops, block_goes_on}
+use Rattle.execution.proofs.Blocks.{ToRun}
 use Rattle.execution.proofs.+declare_class_declare_parent_declare_type_enter_class_gather_gather_class_gather_type_run_begun_run_block_run_body_run_case_run_class_run_given_run_if_run_include_run_statement_run_type.Given as goal
 
 abbrev pub decreases-declare_class : goal.decreases-declare_class

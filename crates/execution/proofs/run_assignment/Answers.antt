@@ -10,7 +10,7 @@ unfolding form_of form_in forms
 assign-r-requires c = ((sized c.requires.0.0 c.requires.0.1.0, c.requires.0.1.0), (c.requires.1, name_small c.requires.0.1.0.stands c.requires.1 refl c.requires.0.0.set.strings c.requires.0.1.1))
 
 pub returns-in-Refused : goal.returns-in-Refused
-returns-in-Refused c = λ n levels. assignment_refused _ _ _ c.assign-r.ensures n levels _ c.r-1.given.1
+returns-in-Refused c = λ n levels. assignment_refused _ _ _ c.assign-r.ensures n levels _ c.in-Refused.is
 
 pub returns-in-Done : goal.returns-in-Done
-returns-in-Done c = λ n levels. assignment_done _ _ _ c.assign-r.ensures n levels c.requires.0.0 c.assign-r.auto.1.1.1.0 c.enum_told-1.given.1
+returns-in-Done c = λ n levels. assignment_done _ _ _ c.assign-r.ensures n levels c.requires.0.0 c.assign-r.auto.work c.in-Done.is

@@ -5,7 +5,7 @@ use Rattle.explanation.proofs.Searching.{comes, comes_not}
 use Rattle.explanation.proofs.comes_below.Goals as goal
 
 pub returns-in-Refused : goal.returns-in-Refused
-returns-in-Refused c = comes (c.run_prepared-r.ensures _ _ nothing_asked c.prepare_struck.ensures.0 c.prepare_struck.ensures.1) refl c.requires.1.1 c.enum_told-1.given.1
+returns-in-Refused c = comes (c.run_prepared-r.ensures _ _ nothing_asked c.prepare_struck.ensures.0 c.prepare_struck.ensures.1) refl c.requires.1.1 c.in-Refused.is
 
 pub returns-in-Done : goal.returns-in-Done
-returns-in-Done c = comes_not (c.run_prepared-r.ensures _ _ nothing_asked c.prepare_struck.ensures.0 c.prepare_struck.ensures.1) refl c.requires.1.1 c.enum_told-in-Done-1.given.1
+returns-in-Done c = comes_not (c.run_prepared-r.ensures _ _ nothing_asked c.prepare_struck.ensures.0 c.prepare_struck.ensures.1) refl c.requires.1.1 c.in-Done.is

@@ -10,10 +10,6 @@ use Rattle.explanation.proofs.explain.Goals as goal
 pub returns-then-work-lt65536 : goal.returns-then-work-lt65536
 returns-then-work-lt65536 c = explains_refused _ _ _ _ _ _ _ _ _ (short_memory _ _ _ _ _ _ c.if-work-lt65536.true ∙ sym (ap refused_by c.at.ensures)) c.refuse.ensures.1 c.refuse.ensures.0
 
--- NO GOAL
--- slice-aggregate-explain-chosen : tie.Need-slice-aggregate-explain-chosen
--- slice-aggregate-explain-chosen c = refl
-
 pub explain_chosen-requires : goal.explain_chosen-requires
 unfolding chosen check_types
 explain_chosen-requires c = (c.if-work-lt65536.false, refl)

@@ -8,13 +8,13 @@ use Rattle.explanation.proofs.Whole.{explains, explains_refused}
 use Rattle.explanation.proofs.explain_chosen.Goals as goal
 
 pub at-requires : goal.at-requires
-at-requires c = omega (arith, fault_fits _ c.check_all-v.ensures c.v-1.given.1)
+at-requires c = omega (arith, fault_fits _ c.check_all-v.ensures c.in-Fault.is)
 
 pub explain_sound-explanation-requires : goal.explain_sound-explanation-requires
-explain_sound-explanation-requires c = (c.requires.0, (c.requires.1, sym c.check_all-v.ensures ∙ c.enum_told-1.given.1))
+explain_sound-explanation-requires c = (c.requires.0, (c.requires.1, sym c.check_all-v.ensures ∙ c.in-Sound.is))
 
 pub returns-in-Fault : goal.returns-in-Fault
-returns-in-Fault c = explains_refused _ _ _ _ _ _ _ _ _ (fault_first _ _ _ _ _ _ c.requires.0 c.requires.1 c.check_all-v.ensures c.v-1.given.1 ∙ sym (ap refused_by c.at.ensures)) c.refuse.ensures.1 c.refuse.ensures.0
+returns-in-Fault c = explains_refused _ _ _ _ _ _ _ _ _ (fault_first _ _ _ _ _ _ c.requires.0 c.requires.1 c.check_all-v.ensures c.in-Fault.is ∙ sym (ap refused_by c.at.ensures)) c.refuse.ensures.1 c.refuse.ensures.0
 
 pub returns-in-Sound : goal.returns-in-Sound
-returns-in-Sound c = explains _ _ _ _ _ _ _ _ _ c.explain_sound-explanation.auto.1.1.1.1.1.1.1.0 c.clear.ensures c.explain_sound-explanation.ensures
+returns-in-Sound c = explains _ _ _ _ _ _ _ _ _ c.explain_sound-explanation.auto.work c.clear.ensures c.explain_sound-explanation.ensures

@@ -11,10 +11,10 @@ pub run_asking-r-requires : goal.run_asking-r-requires
 run_asking-r-requires c = let b = before_sound _ c.requires.1.1 in (((c.requires.1.0, (b.sound, b.short)), (c.requires.0, refl)), numbers_small _ _ _ _ c.numbers_of-numbers.ensures (few_strings_lem _ b.sound))
 
 pub answer_noted-requires : goal.answer_noted-requires
-answer_noted-requires c = let b = before_sound _ c.requires.1.1 in ((c.requires.1.0, (b.sound, b.short)), (omega (arith, c.requires.0, c.run_asking-r.auto.1.1.1.1.1.1.0), c.run_asking-r.auto.1.1.1.1.1.0))
+answer_noted-requires c = let b = before_sound _ c.requires.1.1 in ((c.requires.1.0, (b.sound, b.short)), (omega (arith, c.requires.0, c.run_asking-r.auto.work), c.run_asking-r.auto.out))
 
 pub returns-in-Refused : goal.returns-in-Refused
-returns-in-Refused c = run_refused _ _ _ _ _ _ _ _ c.requires.0 c.requires.1.0 c.requires.1.1 c.numbers_of-numbers.ensures c.run_asking-r.ensures c.r-1.given.1 c.refused.ensures
+returns-in-Refused c = run_refused _ _ _ _ _ _ _ _ c.requires.0 c.requires.1.0 c.requires.1.1 c.numbers_of-numbers.ensures c.run_asking-r.ensures c.in-Refused.is c.refused.ensures
 
 pub returns-in-Done : goal.returns-in-Done
-returns-in-Done c = run_answers _ _ _ _ _ _ _ _ c.requires.0 c.requires.1.0 c.requires.1.1 c.numbers_of-numbers.ensures c.run_asking-r.ensures (record { below = λ i. omega (arith, c.shared_slice_known-2-1.given i) }) (omega arith) c.enum_told-1.given.1 c.answer_noted.ensures
+returns-in-Done c = run_answers _ _ _ _ _ _ _ _ c.requires.0 c.requires.1.0 c.requires.1.1 c.numbers_of-numbers.ensures c.run_asking-r.ensures (record { below = λ i. omega (arith, c.type_inv.m i) }) (omega arith) c.in-Done.is c.answer_noted.ensures

@@ -32,13 +32,13 @@ pub loop-low-smaller-then-comes_below : goal.loop-low-smaller-then-comes_below
 loop-low-smaller-then-comes_below c = omega (arith, c.loop-low-test.true)
 
 pub loop-low-preserved-then-comes_below : goal.loop-low-preserved-then-comes_below
-loop-low-preserved-then-comes_below c = (c.comes_below.auto.1.1.1.1.1.0 ∙ c.loop-low.invariant.0, (c.comes_below.auto.1.1.1.1.1.1.0 ∙ c.loop-low.invariant.1.0, search_lower _ _ _ _ c.loop-low.invariant.1.1 c.comes_below.ensures (omega arith) (omega (arith, c.loop-low-test.true)) c.if-comes_below.true))
+loop-low-preserved-then-comes_below c = (c.comes_below.auto.out ∙ c.loop-low.invariant.0, (c.comes_below.auto.work ∙ c.loop-low.invariant.1.0, search_lower _ _ _ _ c.loop-low.invariant.1.1 c.comes_below.ensures (omega arith) (omega (arith, c.loop-low-test.true)) c.if-comes_below.true))
 
 pub loop-low-smaller : goal.loop-low-smaller
 loop-low-smaller c = omega (arith, c.loop-low-test.true)
 
 pub loop-low-preserved : goal.loop-low-preserved
-loop-low-preserved c = (c.comes_below.auto.1.1.1.1.1.0 ∙ c.loop-low.invariant.0, (c.comes_below.auto.1.1.1.1.1.1.0 ∙ c.loop-low.invariant.1.0, search_higher _ _ _ _ c.loop-low.invariant.1.1 c.comes_below.ensures (omega (arith, c.loop-low-test.true)) c.if-comes_below.false))
+loop-low-preserved c = (c.comes_below.auto.out ∙ c.loop-low.invariant.0, (c.comes_below.auto.work ∙ c.loop-low.invariant.1.0, search_higher _ _ _ _ c.loop-low.invariant.1.1 c.comes_below.ensures (omega (arith, c.loop-low-test.true)) c.if-comes_below.false))
 
 pub shape_of-out : goal.shape_of-out
 shape_of-out c = c.loop-low.invariant.0

@@ -5,16 +5,16 @@ use Rattle.explanation.proofs.numbers_of.Goals as goal
 
 pub returns-in_default : goal.returns-in_default
 unfolding numbers_of
-returns-in_default c = no_type _ _ _ c.string_number-k.ensures c.enum_told-1.given.1
+returns-in_default c = no_type _ _ _ c.string_number-k.ensures c.in_default.is
 
 pub returns-in_default-t : goal.returns-in_default-t
 unfolding numbers_of
-returns-in_default-t c = no_title _ _ _ c.string_number-k.ensures c.k-1.given.1 c.string_number-t.ensures c.enum_told-in_default-t-1.given.1
+returns-in_default-t c = no_title _ _ _ c.string_number-k.ensures c.in-At.is c.string_number-t.ensures c.in_default-t.is
 
 pub returns-in_default-a : goal.returns-in_default-a
 unfolding numbers_of
-returns-in_default-a c = no_name _ _ _ c.string_number-k.ensures c.k-1.given.1 c.string_number-t.ensures c.t-1.given.1 c.string_number-a.ensures c.enum_told-in_default-a-1.given.1
+returns-in_default-a c = no_name _ _ _ c.string_number-k.ensures c.in-At.is c.string_number-t.ensures c.in-At-t.is c.string_number-a.ensures c.in_default-a.is
 
 pub returns : goal.returns
 unfolding numbers_of
-returns c = all_known _ _ _ c.string_number-k.ensures c.k-1.given.1 c.string_number-t.ensures c.t-1.given.1 c.string_number-a.ensures c.a-1.given.1
+returns c = all_known _ _ _ c.string_number-k.ensures c.in-At.is c.string_number-t.ensures c.in-At-t.is c.string_number-a.ensures c.in-At-a.is

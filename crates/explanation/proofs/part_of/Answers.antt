@@ -1,4 +1,5 @@
 -- `part_of`: a number each.
+use native.Mathlib.Omega.{arith}
 use Rattle.explanation.specs.Explained.{part_noted}
 use Rattle.explanation.proofs.Noted.{part_last}
 use borrow.Author.Rules.{rules}
@@ -21,4 +22,4 @@ unfolding part_noted
 returns-in-4 c = search rules
 
 pub returns-in_default : goal.returns-in_default
-returns-in_default c = part_last _ c.in_default.rest.0.0.0.1 c.in_default.rest.0.0.1 c.in_default.rest.0.1 c.in_default.rest.1
+returns-in_default c = part_last _ (omega arith) (omega arith) (omega arith) (omega arith)

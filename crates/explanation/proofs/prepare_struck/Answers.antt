@@ -3,4 +3,4 @@ use Rattle.explanation.proofs.Preparing.{struck_prepared}
 use Rattle.explanation.proofs.prepare_struck.Goals as goal
 
 pub returns : goal.returns
-returns c = struck_prepared c.prepare.ensures c.set_word.auto.0 c.set_word.ensures c.set_word-2.auto.0 c.set_word-2.ensures
+returns c = struck_prepared c.prepare.ensures c.set_word.auto.work c.set_word.ensures c.set_word-2.auto.work c.set_word-2.ensures

@@ -6,13 +6,13 @@ use Rattle.parameters.proofs.find_missing.Goals as goal
 
 pub returns-in-Empty : goal.returns-in-Empty
 unfolding Below
-returns-in-Empty c = (missing_here _ _ _ _ _ c.loop-q.invariant c.loop-q-test.true c.value_of-held.ensures c.enum_told-1.given.1, c.loop-q-test.true)
+returns-in-Empty c = (missing_here _ _ _ _ _ c.loop-q.invariant c.loop-q-test.true c.value_of-held.ensures c.in-Empty.is, c.loop-q-test.true)
 
 pub loop-q-smaller : goal.loop-q-smaller
 loop-q-smaller c = omega (arith, c.end_of-q.ensures)
 
 pub loop-q-preserved : goal.loop-q-preserved
-loop-q-preserved c = missing_further _ _ _ _ _ c.loop-q.invariant c.loop-q-test.true c.value_of-held.ensures c.enum_told-in-Holds-1.given.1 c.end_of-q.ensures
+loop-q-preserved c = missing_further _ _ _ _ _ c.loop-q.invariant c.loop-q-test.true c.value_of-held.ensures c.in-Holds.is c.end_of-q.ensures
 
 pub returns : goal.returns
 unfolding Below

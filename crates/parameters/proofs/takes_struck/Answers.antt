@@ -5,10 +5,10 @@ use Rattle.parameters.proofs.Defaults.{takes_given, takes_none, takes_default}
 use Rattle.parameters.proofs.takes_struck.Goals as goal
 
 pub returns-in-Holds : goal.returns-in-Holds
-returns-in-Holds c = (takes_given _ _ _ _ c.two_at.ensures c.given-held.ensures c.enum_told-1.given.1, λ e. absurd (false≢true e))
+returns-in-Holds c = (takes_given _ _ _ _ c.two_at.ensures c.given-held.ensures c.in-Holds.is, λ e. absurd (false≢true e))
 
 pub returns-then-end_of-q : goal.returns-then-end_of-q
-returns-then-end_of-q c = (takes_none _ _ _ _ c.two_at.ensures c.given-held.ensures c.enum_told-in-Empty-1.given.1 c.end_of.ensures c.if-end_of-q.true, λ e. absurd (false≢true e))
+returns-then-end_of-q c = (takes_none _ _ _ _ c.two_at.ensures c.given-held.ensures c.in-Empty.is c.end_of.ensures c.if-end_of-q.true, λ e. absurd (false≢true e))
 
 pub returns : goal.returns
-returns c = (takes_default _ _ _ _ c.two_at.ensures c.given-held.ensures c.enum_told-in-Empty-1.given.1 c.end_of.ensures (omega (arith, c.if-end_of-q.false)) c.byte_at.ensures c.is_struck_out.ensures.0, c.is_struck_out.ensures.1)
+returns c = (takes_default _ _ _ _ c.two_at.ensures c.given-held.ensures c.in-Empty.is c.end_of.ensures (omega (arith, c.if-end_of-q.false)) c.byte_at.ensures c.is_struck_out.ensures.0, c.is_struck_out.ensures.1)
