@@ -2,7 +2,7 @@
 use mathlib.Core.Path.{◌≡◌, refl, sym, ap, ◌∙◌}
 use mathlib.Core.Bool.{Bool, true, false, ◌||◌}
 use mathlib.Core.List.{List}
-use Prim.Native.Nat.{ℕ, zero, suc, ◌≤◌, ◌<◌}
+use Prim.Native.Nat.{ℕ, ◌≤◌, ◌<◌}
 use native.Mathlib.Omega.{arith}
 use borrow.Author.Tests.{leb-true, leb-false}
 use lib.Dec.{eqb, ltb, leb}
@@ -20,7 +20,7 @@ use Rattle.rules.specs.Evaluate.{any}
 use Rattle.rules.specs.Types.{the_eight, check_types}
 use Rattle.rules.specs.Compile.{same_bytes, string_at, names, is_default_node, with_node, is_node, items_for, none_struck_out, run_manifest, checked, final_state, compiled_from, compiled}
 use Rattle.rules.specs.Schedule.{text_of, before_feed, after_feed, schedule}
-use Rattle.rules.proofs.Lists.{Each, none_left, also}
+use Rattle.rules.proofs.Lists.{Each}
 use Rattle.syntax.proofs.Texts.{other_length}
 use Rattle.syntax.proofs.StringsRead.{Short, numbered_short, short_strings, strings_read}
 use Rattle.syntax.proofs.Whole.{too_long, before_the_run}
