@@ -11,7 +11,7 @@ slice_bounds-first-end g c = sym (ap length c.compile_schedule-answer.ensures.1 
 pub print_catalog-requires : goal.print_catalog-requires
 print_catalog-requires g c =
     let called = c.compile_schedule-answer.ensures in
-    let known = c.type_inv.out in
+    let known = c.type_inv.manifest in
     let is = is_catalog_lem _ _ called.0 called.1 c.in-Catalog.is (record { below = λ i. omega (arith, known i) }) in
     (rw c.first.ensures is, c.requires)
 
