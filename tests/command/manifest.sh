@@ -218,5 +218,5 @@ fails told 'standard output: full'
 
 rm -rf "$other/target"
 call env PATH="$room/bin:$PATH" "$other/manifest" convert "$room/empty.pp"
-[ "$status" -eq 0 ] && cmp -s "$out" "$room/empty" && grep -qx 'manifest: 3 of 3 crates are proved (manifest_text, [0-9]* s)' "$err"
+[ "$status" -eq 0 ] && cmp -s "$out" "$room/empty" && grep -qx 'manifest: 3 of 3 crates are proved (manifest_text, [0-9][0-9]* s)' "$err"
 count progress $?

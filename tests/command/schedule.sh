@@ -172,11 +172,11 @@ progress() {
     for line; do grep -qx "schedule: $line" "$err" || return 1; done
 }
 first_run "$gyms"
-progress '2 of 3 crates are proved (values, [0-9]* s)' '3 of 3 crates are proved (print_schedule, [0-9]* s)'
+progress '2 of 3 crates are proved (values, [0-9][0-9]* s)' '3 of 3 crates are proved (print_schedule, [0-9][0-9]* s)'
 count progress $?
 : >"$room/empty"
 first_run "$room/empty"
-progress '3 of 3 crates are proved (print_schedule, [0-9]* s)' 'building the program for texts: .*' '3 of 3 crates are proved (manifest_text, [0-9]* s)'
+progress '3 of 3 crates are proved (print_schedule, [0-9][0-9]* s)' 'building the program for texts: .*' '3 of 3 crates are proved (manifest_text, [0-9][0-9]* s)'
 count progress_text $?
 first_run "$gyms" STUCK=1
 fails not_proved 'could not build the printer'

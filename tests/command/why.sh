@@ -668,11 +668,11 @@ asked_first() {
     for line; do grep -qx "why: $line" "$err" || return 1; done
 }
 first_question "$gyms"
-asked_first 'building the program for questions: rt proves the 3 crates it needs .*' '2 of 3 crates are proved (values, [0-9]* s)' '3 of 3 crates are proved (explain_label, [0-9]* s)' &&
+asked_first 'building the program for questions: rt proves the 3 crates it needs .*' '2 of 3 crates are proved (values, [0-9][0-9]* s)' '3 of 3 crates are proved (explain_label, [0-9][0-9]* s)' &&
     ! grep -q 'texts' "$err"
 count progress $?
 first_question "$room/texts/empty.pp"
-asked_first '3 of 3 crates are proved (explain_label, [0-9]* s)' 'building the program for texts: .*' '3 of 3 crates are proved (manifest_text, [0-9]* s)'
+asked_first '3 of 3 crates are proved (explain_label, [0-9][0-9]* s)' 'building the program for texts: .*' '3 of 3 crates are proved (manifest_text, [0-9][0-9]* s)'
 count progress_text $?
 first_question "$gyms" STUCK=1
 fails not_proved 'could not build the program for questions'

@@ -45,5 +45,5 @@ pub returns : goal.returns
 returns c = record {
   into_after = writing_done _ _ _ _ _ c.loop-n.invariant _ (omega (arith, c.least-some.ensures, c.least-all.ensures)) c.loop-n-test.false;
   prefix_len = counts _ _ (omega (arith, c.least-all.ensures, c.loop-n.invariant.within, writing_length _ _ _ _ _ c.loop-n.invariant));
-  value = omega (arith, c.least-some.ensures, c.least-all.ensures, c.loop-n.invariant.within, c.loop-n-test.false)
+  value = omega (arith, c.least-some.ensures, c.least-all.ensures, c.loop-n.invariant.within, c.loop-n-test.false);
 }
