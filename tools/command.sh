@@ -86,7 +86,7 @@ tell_progress() {
             crate=${line##* for } since=$(date +%s)
             ;;
         logic=not-proved* | 'rt: the library '*) crate='' ;;
-        'rt: note: '* | 'rt: running '*) ;;
+        'rt: note: '* | 'rt: running '* | 'rt: '*' begins with what a check kept in '*) ;;
         'rt: '*) say "${line#rt: }" ;;
         esac
     done
