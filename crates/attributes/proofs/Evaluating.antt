@@ -23,11 +23,11 @@ use Rattle.memory.specs.Contexts.{context_in}
 use Rattle.evaluator.specs.Answers.{refused_by}
 use Rattle.evaluator.specs.Known.{Ready, Tells, Sized}
 use Rattle.evaluator.proofs.Expressions.{resized}
-use Rattle.attributes.specs.declared.Gathered.TheVariants.{Done, Refused}
 use Rattle.attributes.specs.Names.{Alike, alike_none, alike}
 use Rattle.attributes.specs.Table.{given_at, Gives, Adds}
 use Rattle.attributes.specs.Evaluated.{GivenIn, not_given, given}
 use Rattle.attributes.proofs.Table.{gives_nothing}
+use Rattle.std.specs.Prelude.{Ok, Err}
 
 -- ---- What is left of the attributes
 
@@ -125,7 +125,7 @@ module _ {m w out : List ℕ} {fill : ℕ} {scope : Scope} {d first end q : ℕ}
     expression_sized s = resized s (omega (arith, (attribute_opens first_here.here deep).expression.stands.ends, s.manifest))
 
     module _ {o : Outcome Labelled} (told : StandsAs m (d - 1) ExpressionKind (q + 5) → Tells m w out fill scope o (λ k c st. evaluate k c st (expression_at m (d - 1) (q + 5)))) where
-      pub evaluating_stops : {why : Refusal} → o ≡ refused_by why → GivenIn m w out fill scope d first end t (Refused why)
+      pub evaluating_stops : {why : Refusal} → o ≡ refused_by why → GivenIn m w out fill scope d first end t (Err why)
       evaluating_stops is = not_given (rest_stops so_far.rest (d - 1) deep more told is)
 
       pub evaluating_on : (x : Labelled) {name r : ℕ} {t' : List ℕ} → o ≡ done x → name ≡ two m (q + 3) → Adds t t' name x → r ≡ end_of m q → Evaluating m w out fill scope d first end r t'
@@ -139,7 +139,7 @@ module _ {m w out : List ℕ} {fill : ℕ} {scope : Scope} {d first end q : ℕ}
             rest = rest_on so_far.rest (d - 1) deep more told x is;
           })
 
-  pub evaluating_ends : end ≤ q → GivenIn m w out fill scope d first end t Done
+  pub evaluating_ends : end ≤ q → GivenIn m w out fill scope d first end t (Ok tt)
   evaluating_ends over =
       let all : so_far.passed ≡ fields_in m first end = sym (append-nil so_far.passed) ∙ ap (λ (l : List ℕ). so_far.passed ++ l) (sym (no_sibling so_far.rest.attributes over).places) ∙ so_far.places in
       given so_far.gs so_far.gives (subst (λ (l : List ℕ). Alike m so_far.gs l) all so_far.alikes) (rest_ends so_far.rest over)

@@ -4,7 +4,7 @@ use mathlib.Core.Path.{◌≡◌, refl, sym, ap, ◌∙◌}
 use mathlib.Core.Bool.{Bool, true, false, ◌||◌}
 use mathlib.Core.List.{List, [], ◌∷◌}
 use native.Mathlib.Omega.{arith}
-use borrow.Author.Tests.{eqb-true, eqb-false, eq-eqb, ne_eqb, le-leb, lt-leb}
+use borrow.Author.Tests.{eqb-true, eqb-false, eq-eqb, le-leb, lt-leb}
 use lib.Dec.{eqb}
 use lib.ListN.{length, replicate}
 use Rattle.values.specs.declared.Reason.TheVariants.{AttributeAgain}
@@ -16,9 +16,8 @@ use Rattle.wire.proofs.Laws.{byte_outside, high_length, stored_byte, zeros_byte}
 use Rattle.rules.specs.Outcome.{Outcome, refused, done, ◌>>=◌, refuse_if}
 use Rattle.rules.specs.Evaluate.{any}
 use Rattle.rules.specs.Run.{Given, is_given, named_once}
-use Rattle.catalog.specs.declared.Place.{Place}
-use Rattle.catalog.specs.declared.Place.TheVariants.{At, Nothing}
 use Rattle.attributes.specs.Names.{has_name, named_in, name_from, repeated_in, is_marked, Marked, Marks, Unmarked, Alike, alike_none, alike}
+use Rattle.std.specs.Prelude.{Option, Some, None}
 
 -- ---- The ways of `is_named` and `has_name_from`: what is left from q on says what all of them say
 
@@ -40,17 +39,17 @@ module _ (m : List ℕ) (first end q : ℕ) (f : ℕ → Bool) (left : any f (fi
 -- ---- The ways of `find_named`, likewise
 
 module _ (m : List ℕ) (first end q name : ℕ) (left : named_in m name (fields_in m q end) ≡ named_in m name (fields_in m first end)) where
-  named_next : {b : Bool} → q < end → has_name m name q ≡ b → pick b (At q) (named_in m name (fields_in m (end_of m q) end)) ≡ named_in m name (fields_in m first end)
+  named_next : {b : Bool} → q < end → has_name m name q ≡ b → pick b (Some q) (named_in m name (fields_in m (end_of m q) end)) ≡ named_in m name (fields_in m first end)
   unfolding named_in
-  named_next more is = ap (λ (x : Bool). pick x (At q) (named_in m name (fields_in m (end_of m q) end))) (sym is) ∙ ap (named_in m name) (sym (field_first m q end more)) ∙ left
+  named_next more is = ap (λ (x : Bool). pick x (Some q) (named_in m name (fields_in m (end_of m q) end))) (sym is) ∙ ap (named_in m name) (sym (field_first m q end more)) ∙ left
 
-  pub named_found : q < end → has_name m name q ≡ true → At q ≡ named_in m name (fields_in m first end)
+  pub named_found : q < end → has_name m name q ≡ true → Some q ≡ named_in m name (fields_in m first end)
   named_found more is = named_next more is
 
   pub named_further : {r : ℕ} → q < end → has_name m name q ≡ false → r ≡ end_of m q → named_in m name (fields_in m r end) ≡ named_in m name (fields_in m first end)
   named_further more is next = ap (λ (p : ℕ). named_in m name (fields_in m p end)) next ∙ named_next more is
 
-  pub named_nowhere : end ≤ q → Nothing ≡ named_in m name (fields_in m first end)
+  pub named_nowhere : end ≤ q → None ≡ named_in m name (fields_in m first end)
   unfolding named_in
   named_nowhere over = ap (named_in m name) (sym (no_fields m q end over)) ∙ left
 
@@ -155,11 +154,11 @@ module _ {m : List ℕ} {first end q : ℕ} (s : Single m first end q) where
     decided : b ≡ any (has_name m (two m (q + 3))) s.earlier
     decided = named ∙ ap (λ (k : ℕ). any (has_name m k) (fields_in m first q)) read ∙ s.same (has_name m (two m (q + 3)))
 
-    choice : pick b (At q) (repeated_in m (q ∷ s.earlier) (fields_in m (end_of m q) end)) ≡ repeated_in m [] (fields_in m first end)
+    choice : pick b (Some q) (repeated_in m (q ∷ s.earlier) (fields_in m (end_of m q) end)) ≡ repeated_in m [] (fields_in m first end)
     unfolding repeated_in
-    choice = ap (λ (x : Bool). pick x (At q) (repeated_in m (q ∷ s.earlier) (fields_in m (end_of m q) end))) decided ∙ ap (repeated_in m s.earlier) (sym (field_first m q end more)) ∙ s.left
+    choice = ap (λ (x : Bool). pick x (Some q) (repeated_in m (q ∷ s.earlier) (fields_in m (end_of m q) end))) decided ∙ ap (repeated_in m s.earlier) (sym (field_first m q end more)) ∙ s.left
 
-    pub repeated_here : b ≡ true → At q ≡ repeated_in m [] (fields_in m first end)
+    pub repeated_here : b ≡ true → Some q ≡ repeated_in m [] (fields_in m first end)
     repeated_here is = rw is at choice
 
     pub repeated_further : {r : ℕ} → b ≡ false → r ≡ end_of m q → Single m first end r
@@ -171,7 +170,7 @@ module _ {m : List ℕ} {first end q : ℕ} (s : Single m first end q) where
       left = rw is at choice;
     })
 
-  pub repeated_nowhere : end ≤ q → Nothing ≡ repeated_in m [] (fields_in m first end)
+  pub repeated_nowhere : end ≤ q → None ≡ repeated_in m [] (fields_in m first end)
   unfolding repeated_in
   repeated_nowhere over = ap (repeated_in m s.earlier) (sym (no_fields m q end over)) ∙ s.left
 
@@ -195,9 +194,9 @@ marked_further {m} seen seen' {first} {end} {q} {r} {n} s marked read marks next
 -- ---- The evaluated 26s by their places
 
 -- "An attribute is named twice in one body", at the later one
-unfoldable pub repeated_outcome : Place → Outcome (Unit {0})
-repeated_outcome (At q) = refused AttributeAgain q
-repeated_outcome Nothing = done tt
+unfoldable pub repeated_outcome : Option ℕ → Outcome (Unit {0})
+repeated_outcome (Some q) = refused AttributeAgain q
+repeated_outcome None = done tt
 
 named_as : (m : List ℕ) (earlier : List Given) (places : List ℕ) {gs : List Given} {qs : List ℕ} → ((n : ℕ) → any (is_given n) earlier ≡ any (has_name m n) places) → Alike m gs qs → named_once earlier gs ≡ repeated_outcome (repeated_in m places qs)
 unfolding named_once repeated_in repeated_outcome any is_given refuse_if ◌>>=◌
@@ -208,10 +207,10 @@ named_as m earlier places same (alike {q = q} {x = x} {gs = gs} {qs = qs} a) =
     g : Given
     g = record { place = q; name = two m (q + 3); content = x }
 
-    go : named_once (g ∷ earlier) gs ≡ repeated_outcome (repeated_in m (q ∷ places) qs) → (b : Bool) → (refuse_if b AttributeAgain q >>= λ _. named_once (g ∷ earlier) gs) ≡ repeated_outcome (pick b (At q) (repeated_in m (q ∷ places) qs))
+    go : named_once (g ∷ earlier) gs ≡ repeated_outcome (repeated_in m (q ∷ places) qs) → (b : Bool) → (refuse_if b AttributeAgain q >>= λ _. named_once (g ∷ earlier) gs) ≡ repeated_outcome (pick b (Some q) (repeated_in m (q ∷ places) qs))
     go later true = refl
     go later false = later
 
-pub named_places : (m : List ℕ) {gs : List Given} {qs : List ℕ} {f : Place} → f ≡ repeated_in m [] qs → Alike m gs qs → named_once [] gs ≡ repeated_outcome f
+pub named_places : (m : List ℕ) {gs : List Given} {qs : List ℕ} {f : Option ℕ} → f ≡ repeated_in m [] qs → Alike m gs qs → named_once [] gs ≡ repeated_outcome f
 unfolding any
 named_places m e a = named_as m [] [] (λ n. refl) a ∙ ap repeated_outcome (sym e)

@@ -1,7 +1,7 @@
 -- The table: what is read of a name's row, what a store there leaves of the others, and which names have one. Assumes nothing.
 use Prim.Native.Nat.{ℕ, ◌+◌, ◌≤◌, ◌<◌}
 use mathlib.Core.Path.{◌≡◌, refl, sym, ap, ◌∙◌}
-use mathlib.Core.Bool.{Bool, true, false, ◌||◌}
+use mathlib.Core.Bool.{Bool, true, false, ◌||◌, false≢true}
 use mathlib.Core.List.{List, [], ◌∷◌, ◌++◌}
 use mathlib.Core.Option.{Option, none, some}
 use native.Mathlib.Omega.{arith}
@@ -14,16 +14,15 @@ use Rattle.wire.specs.Bytes.{pick, byte, two, end_of, fields_in}
 use Rattle.wire.specs.Runs.{over, zeros}
 use Rattle.wire.proofs.Fields.{field_first}
 use Rattle.wire.proofs.Laws.{over_length, zeros_byte}
-use Rattle.records.specs.declared.Held.{Held}
-use Rattle.records.specs.declared.Held.TheVariants.{Empty, Holds}
 use Rattle.records.specs.Record.{record_size, kind_at, record_bytes, record_in, held_of}
 use Rattle.records.proofs.Values.{Ranged}
-use Rattle.records.proofs.Laws.{record_length, record_back, record_outside, record_none, held_value, held_nothing}
+use Rattle.records.proofs.Laws.{record_length, record_back, record_outside, record_none, held_nothing}
 use Rattle.rules.specs.Evaluate.{any, first_with}
 use Rattle.rules.specs.Run.{Given, is_given}
 use Rattle.rules.proofs.Lists.{Each, none_left, also}
 use Rattle.attributes.specs.Names.{name_from}
 use Rattle.attributes.specs.Table.{given_place, HasRow, given_at, content_of, Gives, Adds, Rows, Fresh}
+use Rattle.std.specs.Prelude.{Option as CodeOption, None, is_some}
 
 -- ---- Tables that give nothing
 
@@ -102,11 +101,11 @@ fresh_all m k {qs} long = record { blank = no_given_zeros k; rows = rows_all m (
 -- ---- The ways of `given`
 
 module _ (t : List ℕ) (name : ℕ) where
-  pub given_no_row : length t < given_place name + record_size → Empty ≡ held_of (given_at t name)
+  pub given_no_row : length t < given_place name + record_size → None ≡ held_of (given_at t name)
   unfolding held_of
   given_no_row h = ap held_of (sym (given_short t name h))
 
-  pub given_read : {h : Held} → HasRow (length t) name → h ≡ held_of (record_in t (given_place name)) → h ≡ held_of (given_at t name)
+  pub given_read : {h : CodeOption Labelled} → HasRow (length t) name → h ≡ held_of (record_in t (given_place name)) → h ≡ held_of (given_at t name)
   given_read row read = read ∙ ap held_of (sym (given_within t name row))
 
 -- ---- The way of `put_given`
@@ -169,16 +168,22 @@ module _ (t : List ℕ) (name : ℕ) (x : Labelled) where
   pub adds_past : 1024 ≤ name → Adds t t name x
   adds_past past = adds_by t t name x (λ n l. rw (ne_eqb name n (λ e. omega arith)) (sym (or_none (given_at t n))))
 
-  module _ {h : Held} (read : h ≡ held_of (given_at t name)) where
-    pub adds_has : {y : Labelled} → h ≡ Holds y → Adds t t name x
-    unfolding or
-    adds_has {y} e = adds_by t t name x (λ n l. go n (eqb name n) refl)
+  module _ {h : CodeOption Labelled} (read : h ≡ held_of (given_at t name)) where
+    pub adds_has : is_some h ≡ true → Adds t t name x
+    unfolding or held_of
+    adds_has there = adds_by t t name x (λ n l. go n (eqb name n) refl)
       where
+        content : (o : Option Labelled) → is_some (held_of o) ≡ true → (y : Option Labelled) → o ≡ or o y
+        content (some z) e y = refl
+        content none e y = absurd (false≢true e)
+
         go : (n : ℕ) (b : Bool) → eqb name n ≡ b → given_at t n ≡ or (given_at t n) (pick b (some x) none)
-        go n true f = let there : given_at t n ≡ some y = ap (given_at t) (sym (eqb-true name n f)) ∙ held_value (given_at t name) read e in rw there
+        go n true f =
+            let here : given_at t n ≡ given_at t name = ap (given_at t) (sym (eqb-true name n f)) in
+            rw here (content (given_at t name) (ap (λ (o : CodeOption Labelled). is_some o) (sym read) ∙ there) (some x))
         go n false f = sym (or_none (given_at t n))
 
-    pub adds_put : {t' : List ℕ} → h ≡ Empty → ((n : ℕ) → given_at t' n ≡ pick (eqb n name) (some x) (given_at t n)) → Adds t t' name x
+    pub adds_put : {t' : List ℕ} → h ≡ None → ((n : ℕ) → given_at t' n ≡ pick (eqb n name) (some x) (given_at t n)) → Adds t t' name x
     unfolding or
     adds_put {t'} e put = adds_by t t' name x (λ n l. put n ∙ go n (eqb name n) refl)
       where

@@ -29,10 +29,8 @@ use Rattle.memory.specs.declared.Scope.{Scope}
 use Rattle.memory.specs.Contexts.{context_in}
 use Rattle.evaluator.specs.Answers.{refused_by}
 use Rattle.evaluator.specs.Known.{Ready, Tells}
-use Rattle.attributes.specs.declared.Gathered.{Gathered}
-use Rattle.attributes.specs.declared.Gathered.TheVariants.{Done, Refused}
-use Rattle.attributes.specs.declared.Title.TheVariants.{Value as IsTitle, Refused as NoTitle}
 use Rattle.attributes.specs.Evaluated.{GivenIn, not_given, given, Titled, titled_all, titled_at, TitledIn, not_titled, titled}
+use Rattle.std.specs.Prelude.{Result, Ok, Err}
 
 -- what follows the title x, with the value v for its kind
 abbrev titled_rest : List ℕ → (b p : ℕ) → Known → Context → State → Labelled → Value → Outcome Titled
@@ -66,12 +64,12 @@ module _ {m : List ℕ} {d p : ℕ} (s : StandsAs m d StatementKind p) (by : byt
         ap (λ (u : Outcome Labelled). u >>= λ x. titled_rest m (d - 1) p k (context_in scope path) (state_of w es n r) x x.value)
         ((told opened.title).says k path es n r h)
 
-    pub title_stops : {t : List ℕ} {why : Refusal} → o ≡ refused_by why → TitledIn m w out fill scope (d - 1) p t (NoTitle why)
+    pub title_stops : {t : List ℕ} {why : Refusal} → o ≡ refused_by why → TitledIn m w out fill scope (d - 1) p t (Err why)
     unfolding ◌>>=◌
     title_stops is = not_titled (record { says = λ k path es n z h. rw is at (titled_run_lem k path es n z h) })
 
     module _ (x : Labelled) (is : o ≡ done x) where
-      pub title_wrong : {t : List ℕ} {why : Refusal} → (tag_of the_type x.value ≡ 1 → ⊥) → why ≡ refusal_at WrongKind (p + 5) → TitledIn m w out fill scope (d - 1) p t (NoTitle why)
+      pub title_wrong : {t : List ℕ} {why : Refusal} → (tag_of the_type x.value ≡ 1 → ⊥) → why ≡ refusal_at WrongKind (p + 5) → TitledIn m w out fill scope (d - 1) p t (Err why)
       unfolding string_in at ◌>>=◌
       title_wrong unlike at-title = not_titled (record { says = λ k path es n r h. ap refused_by at-title ∙ sym (go x.value refl k (context_in scope path) es n r) ∙ (rw is at (titled_run_lem k path es n r h)) })
         where
@@ -81,10 +79,10 @@ module _ {m : List ℕ} {d p : ℕ} (s : StandsAs m d StatementKind p) (by : byt
           go (String z) f k c es n r = absurd (unlike (ap (tag_of the_type) f))
           go (Boolean z) f k c es n r = refl
 
-      module _ {title first end : ℕ} (string : x.value ≡ String title) (first_is : first ≡ end_of m (p + 5)) (end_is : end ≡ end_of m p) {t : List ℕ} {g : Gathered} (got : GivenIn m w out fill scope (d - 1) first end t g) where
-        here : {g' : Gathered} → g ≡ g' → GivenIn m w out fill scope (d - 1) (end_of m (p + 5)) (end_of m p) t g'
+      module _ {title first end : ℕ} (string : x.value ≡ String title) (first_is : first ≡ end_of m (p + 5)) (end_is : end ≡ end_of m p) {t : List ℕ} {g : Result Unit Refusal} (got : GivenIn m w out fill scope (d - 1) first end t g) where
+        here : {g' : Result Unit Refusal} → g ≡ g' → GivenIn m w out fill scope (d - 1) (end_of m (p + 5)) (end_of m p) t g'
         here {g'} f =
-            subst (λ (v : Gathered). GivenIn m w out fill scope (d - 1) (end_of m (p + 5)) (end_of m p) t v) f
+            subst (λ (v : Result Unit Refusal). GivenIn m w out fill scope (d - 1) (end_of m (p + 5)) (end_of m p) t v) f
             (subst (λ (j : ℕ). GivenIn m w out fill scope (d - 1) j (end_of m p) t g) first_is (subst (λ (j : ℕ). GivenIn m w out fill scope (d - 1) first j t g) end_is got))
 
         string_run : (k : Known) (path : Labels) (es : List Entry) (n r : ℕ) → Ready m w out fill k es
@@ -96,16 +94,16 @@ module _ {m : List ℕ} {d p : ℕ} (s : StandsAs m d StatementKind p) (by : byt
             ∙ ap (λ (v : Value). titled_rest m (d - 1) p k (context_in scope path) (state_of w es n r) x v) (sym string)
             ∙ (rw is at (titled_run_lem k path es n r h))
 
-        pub attributes_stop : {why : Refusal} → g ≡ Refused why → TitledIn m w out fill scope (d - 1) p t (NoTitle why)
+        pub attributes_stop : {why : Refusal} → g ≡ Err why → TitledIn m w out fill scope (d - 1) p t (Err why)
         unfolding ◌>>=◌
         attributes_stop {why} f = go (here f)
           where
-            go : GivenIn m w out fill scope (d - 1) (end_of m (p + 5)) (end_of m p) t (Refused why) → TitledIn m w out fill scope (d - 1) p t (NoTitle why)
+            go : GivenIn m w out fill scope (d - 1) (end_of m (p + 5)) (end_of m p) t (Err why) → TitledIn m w out fill scope (d - 1) p t (Err why)
             go (not_given tells) = not_titled (record { says = λ k path es n z h. string_run k path es n z h (tells.says k path es n z h) })
 
-        pub all_given : g ≡ Done → TitledIn m w out fill scope (d - 1) p t (IsTitle x)
+        pub all_given : g ≡ Ok tt → TitledIn m w out fill scope (d - 1) p t (Ok x)
         unfolding ◌>>=◌
         all_given f = go (here f)
           where
-            go : GivenIn m w out fill scope (d - 1) (end_of m (p + 5)) (end_of m p) t Done → TitledIn m w out fill scope (d - 1) p t (IsTitle x)
+            go : GivenIn m w out fill scope (d - 1) (end_of m (p + 5)) (end_of m p) t (Ok tt) → TitledIn m w out fill scope (d - 1) p t (Ok x)
             go (given gs gives alikes tells) = titled gs gives alikes (record { says = λ k path es n z h. string_run k path es n z h (tells.says k path es n z h) })

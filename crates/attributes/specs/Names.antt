@@ -1,29 +1,27 @@
 -- Attributes named twice, by their places in the manifest.
-use Rattle.std.specs.Prelude.{ℕ, ◌+◌, ◌<◌, ◌≡◌, Bool, false, ◌||◌, List, [], ◌∷◌, leb, eqb}
+use Rattle.std.specs.Prelude.{ℕ, ◌+◌, ◌<◌, ◌≡◌, Bool, false, ◌||◌, List, [], ◌∷◌, leb, eqb, Option, Some, None}
 use Rattle.wire.specs.Bytes.{pick, byte, two, fields_in}
 use Rattle.values.specs.declared.Labelled.{Labelled}
 use Rattle.rules.specs.Evaluate.{any}
 use Rattle.rules.specs.Run.{Given}
-use Rattle.catalog.specs.declared.Place.{Place}
-use Rattle.catalog.specs.declared.Place.TheVariants.{At, Nothing}
 
 -- the 26 at q has the name n
 abbrev pub has_name : List ℕ → (n q : ℕ) → Bool
 has_name m n q = eqb (two m (q + 3)) n
 
 -- the first of the places whose 26 has the name n
-unfoldable pub named_in : List ℕ → (n : ℕ) → (places : List ℕ) → Place
-named_in m n [] = Nothing
-named_in m n (q ∷ qs) = pick (has_name m n q) (At q) (named_in m n qs)
+unfoldable pub named_in : List ℕ → (n : ℕ) → (places : List ℕ) → Option ℕ
+named_in m n [] = None
+named_in m n (q ∷ qs) = pick (has_name m n q) (Some q) (named_in m n qs)
 
 -- the 26 at q has a name of `limit` or more
 abbrev pub name_from : List ℕ → (limit q : ℕ) → Bool
 name_from m limit q = leb limit (two m (q + 3))
 
 -- the first of the places whose name one before it has, or one of the earlier
-unfoldable pub repeated_in : List ℕ → (earlier places : List ℕ) → Place
-repeated_in m earlier [] = Nothing
-repeated_in m earlier (q ∷ qs) = pick (any (has_name m (two m (q + 3))) earlier) (At q) (repeated_in m (q ∷ earlier) qs)
+unfoldable pub repeated_in : List ℕ → (earlier places : List ℕ) → Option ℕ
+repeated_in m earlier [] = None
+repeated_in m earlier (q ∷ qs) = pick (any (has_name m (two m (q + 3))) earlier) (Some q) (repeated_in m (q ∷ earlier) qs)
 
 -- the name n is marked
 abbrev pub is_marked : (seen : List ℕ) (n : ℕ) → Bool

@@ -14,10 +14,8 @@ ghost use Rattle.attributes.specs.Names.{has_name, named_in, name_from, repeated
 ghost use Rattle.attributes.specs.Table.{HasRow, given_at, Adds, Fresh};
 ghost use Rattle.attributes.specs.Evaluated.{GivenIn, TitledIn};
 
-use evaluator::{Valued, value_of};
 use labels::Labels;
 use memory::Scope;
-use records::Held;
 use values::{Labelled, Reason, Refusal, Value};
 
 // The fields from `first` up to `end`: the attributes of a declaration, or the parameters of a definition.
@@ -25,19 +23,6 @@ use values::{Labelled, Reason, Refusal, Value};
 pub struct Span {
     pub first: usize,
     pub end: usize,
-}
-
-#[derive(Clone, Copy)]
-pub enum Gathered {
-    Done,
-    Refused(Refusal),
-}
-
-// The title of a declaration.
-#[derive(Clone, Copy)]
-pub enum Title {
-    Value(Labelled),
-    Refused(Refusal),
 }
 
 // ---- Names
@@ -58,18 +43,18 @@ pub fn is_named(m: &[u8], first: usize, end: usize, name: u16) -> bool
 }
 
 // The first of the attributes between two places that has this name.
-pub fn find_named(m: &[u8], first: usize, end: usize, name: u16) -> catalog::Place
+pub fn find_named(m: &[u8], first: usize, end: usize, name: u16) -> Option<usize>
     requires { end ≤ 65535 }
     ensures { (result ≡ named_in m.now name (fields_in m.now first end)) × Below end result }
 {
     let mut q = first;
     while q < end {
         if wire::two_at(m, q + 3) == name {
-            return catalog::Place::At(q);
+            return Some(q);
         }
         q = wire::end_of(m, q);
     }
-    catalog::Place::Nothing
+    None
 }
 
 // Whether one of the attributes between two places has a name of `limit` or more.
@@ -122,22 +107,22 @@ pub fn mark_names(m: &[u8], first: usize, end: usize, seen: &mut [u8])
 }
 
 // The first of the attributes between two places whose name one before it has.
-pub fn find_repeated(m: &[u8], first: usize, end: usize) -> catalog::Place
+pub fn find_repeated(m: &[u8], first: usize, end: usize) -> Option<usize>
     requires { end ≤ 65535 }
     ensures { (result ≡ repeated_in m.now [] (fields_in m.now first end)) × Below end result }
 {
     if end <= first {
-        return catalog::Place::Nothing;
+        return None;
     }
     let mut seen = [0u8; 1024];
     let mut q = first;
     while q < end {
         if is_again(m, first, q, wire::two_at(m, q + 3), &mut seen) {
-            return catalog::Place::At(q);
+            return Some(q);
         }
         q = wire::end_of(m, q);
     }
-    catalog::Place::Nothing
+    None
 }
 
 // ---- The table
@@ -152,12 +137,12 @@ pub const SMALL_NAMES: u16 = 64;
 pub const SMALL_TABLE: usize = 64 * records::SIZE;
 
 // The value given to a name.
-pub fn given(table: &[u8], name: u16) -> Held
+pub fn given(table: &[u8], name: u16) -> Option<Labelled>
     ensures { result ≡ held_of (given_at table.now name) }
 {
     let place = records::SIZE * name as usize;
     if table.len() < place + records::SIZE {
-        return Held::Empty;
+        return None;
     }
     records::record_at(table, place)
 }
@@ -178,10 +163,8 @@ fn add_given(table: &mut [u8], name: u16, x: Labelled)
     if 1024 <= name {
         return;
     }
-    let held = given(table, name);
-    match held {
-        Held::Holds(_) => {}
-        Held::Empty => put_given(table, name, x),
+    if given(table, name).is_none() {
+        put_given(table, name, x);
     }
 }
 
@@ -197,7 +180,7 @@ pub fn evaluate_attributes(
     fill: usize,
     scope: Scope,
     table: &mut [u8],
-) -> Gathered
+) -> Result<(), Refusal>
     requires { (Sized m.now work.now out.now fill span.end × Siblings m.now depth Attribute span.first span.end) × Fresh m.now table.old (fields_in m.now span.first span.end) }
     ensures { GivenIn m.now work.now out.now fill scope depth span.first span.end table.new result }
 {
@@ -205,17 +188,12 @@ pub fn evaluate_attributes(
     let mut q = span.first;
     while q < end {
         let mut set = [0u64; 4];
-        let e = evaluator::evaluate(m, depth - 1, q + 5, work, out, fill, scope, &mut set);
-        match value_of(e) {
-            Valued::Refused(refusal) => return Gathered::Refused(refusal),
-            Valued::Value(value) => {
-                let labels = Labels::in_words(&set);
-                add_given(table, wire::two_at(m, q + 3), Labelled { value, labels });
-            }
-        }
+        let value = evaluator::evaluate(m, depth - 1, q + 5, work, out, fill, scope, &mut set)?;
+        let labels = Labels::in_words(&set);
+        add_given(table, wire::two_at(m, q + 3), Labelled { value, labels });
         q = wire::end_of(m, q);
     }
-    Gathered::Done
+    Ok(())
 }
 
 // The title and the attributes of the 27 at p, with `depth` levels left for it.
@@ -228,28 +206,20 @@ pub fn evaluate_titled(
     fill: usize,
     scope: Scope,
     table: &mut [u8],
-) -> Title
+) -> Result<Labelled, Refusal>
     requires { ((Sized m.now work.now out.now fill p × StandsAs m.now depth Statement p) × (byte m.now p ≡ 0x27)) × Fresh m.now table.old (fields_in m.now (end_of m.now (p + 5)) (end_of m.now p)) }
     ensures { TitledIn m.now work.now out.now fill scope (depth - 1) p table.new result }
 {
     let mut set = [0u64; 4];
-    let t = evaluator::evaluate(m, depth - 1, p + 5, work, out, fill, scope, &mut set);
-    let value = match value_of(t) {
-        Valued::Refused(refusal) => return Title::Refused(refusal),
-        Valued::Value(value) => value,
-    };
+    let value = evaluator::evaluate(m, depth - 1, p + 5, work, out, fill, scope, &mut set)?;
     let Value::String(_) = value else {
-        return Title::Refused(Refusal::at(Reason::WrongKind, p + 5));
+        return Err(Refusal::at(Reason::WrongKind, p + 5));
     };
-    let first = wire::end_of(m, p + 5);
-    let end = wire::end_of(m, p);
-    let span = Span { first, end };
-    let g = evaluate_attributes(m, depth - 1, span, work, out, fill, scope, table);
-    match g {
-        Gathered::Refused(refusal) => Title::Refused(refusal),
-        Gathered::Done => {
-            let labels = Labels::in_words(&set);
-            Title::Value(Labelled { value, labels })
-        }
-    }
+    let span = Span {
+        first: wire::end_of(m, p + 5),
+        end: wire::end_of(m, p),
+    };
+    evaluate_attributes(m, depth - 1, span, work, out, fill, scope, table)?;
+    let labels = Labels::in_words(&set);
+    Ok(Labelled { value, labels })
 }

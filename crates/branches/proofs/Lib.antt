@@ -1,4 +1,5 @@
 pub mod Standing
 pub mod Names
+pub mod Joining
 pub mod Texts
 pub mod Marking

@@ -9,7 +9,7 @@ use borrow.Author.Tests.{leb-true, leb-false, le-leb, lt-leb, eqb-true, eqb-fals
 use lib.Bits.{bit_or, or_add_and, and_le_l, and_le_r}
 use lib.Count.{count_trailing_zeros}
 use lib.Dec.{eqb, leb, lit<}
-use lib.ListN.{length, get_or, set, replicate, length-set, get_or-eq_default}
+use lib.ListN.{length, get_or, set, replicate, get_or-eq_default}
 use lib.Pow.{shl_exact}
 use lib.Seq.{get_or-set_same, get_or-set_other}
 use Rattle.wire.specs.Runs.{zeros}
@@ -20,7 +20,6 @@ use Rattle.labels.specs.Sets.{bit_of, one_label, ◌∪◌, word_of, has}
 use Rattle.labels.proofs.Digits.{digit, digit_shift, digit_high, trailing_low, trailing_set}
 use Rattle.labels.proofs.Laws.{one_of, has_digit, has_union, has_one}
 use Rattle.branches.specs.Names.{bit_in, contains, in_word, four_from, holds_none}
-use Rattle.branches.specs.Texts.{named, Collects}
 
 -- ---- No name
 
@@ -60,10 +59,10 @@ pub or_false : (b : Bool) → b ≡ (b || false)
 or_false true = refl
 or_false false = refl
 
--- the way of `insert`
-pub inserted : (s : List ℕ) (x : ℕ) → length s ≡ 16 → x < 1024 → Collects s (set s (x / 64) (bit_or (get_or s (x / 64) 0) (1 * 2 ^ (x % 64) % 2 ^ 64))) false (named x)
+-- a name is put into its word
+pub inserted : (s : List ℕ) (x : ℕ) → length s ≡ 16 → x < 1024 → (n : ℕ) → contains (set s (x / 64) (bit_or (get_or s (x / 64) 0) (1 * 2 ^ (x % 64) % 2 ^ 64))) n ≡ (contains s n || eqb n x)
 unfolding contains bit_in
-inserted s x size small = record { size = length-set s (x / 64) _; members = members; declares = refl }
+inserted s x size small = members
   where
     v : ℕ
     v = bit_or (get_or s (x / 64) 0) (1 * 2 ^ (x % 64) % 2 ^ 64)

@@ -1,11 +1,12 @@
 -- The text at a place: what each sort of statement holds, and siblings one after the other. And the ways of the functions that walk over it, their premises
 -- as the callees ensure them.
-use Prim.Native.Nat.{ℕ, ◌+◌, ◌-◌, ◌<◌, ◌≤◌}
+use Prim.Native.Nat.{ℕ, ◌+◌, ◌-◌, ◌*◌, ◌/◌, ◌%◌, ◌^◌, ◌<◌, ◌≤◌}
 use mathlib.Core.Path.{◌≡◌, refl, sym, ap, ◌∙◌, fun_ext}
 use mathlib.Core.Bool.{Bool, true, false, ◌||◌}
 use mathlib.Core.List.{List}
 use lib.Dec.{eqb}
-use borrow.Author.Tests.{eq-eqb}
+use borrow.Author.Tests.{eq-eqb, eqb-true, eqb-false}
+use native.Mathlib.Omega.{arith}
 use Rattle.wire.specs.Bytes.{pick, byte, two, end_of, fields_in}
 use Rattle.rules.specs.Tree.{Block, Branches, branch, default_branch}
 use Rattle.rules.specs.Run.{assigns, declares}
@@ -17,9 +18,13 @@ use Rattle.places.proofs.Parts.{first_sibling, no_sibling}
 use Rattle.places.proofs.Open.{level}
 use Rattle.places.proofs.Statements.{assignment_opens, conditional_opens, choice_opens, resource_opens, defined_opens, class_opens, include_opens, block_opens}
 use Rattle.branches.specs.Names.{contains}
-use Rattle.branches.specs.Texts.{Text, text_of, text_in, text_any, plain, named, both, Small, Collects}
+use Rattle.branches.specs.Texts.{Text, text_of, text_in, text_any, plain, named, both, Small, held, Collects}
+use Rattle.branches.specs.declared.collected.Collected.{Collected}
 use Rattle.branches.proofs.Standing.{block_statements}
-use Rattle.branches.proofs.Names.{or_false}
+use Rattle.branches.proofs.Names.{or_false, inserted}
+use Rattle.branches.proofs.Joining.{Joining, joined_all}
+use lib.Bits.{bit_or}
+use lib.ListN.{length, get_or, set}
 
 -- ---- The text of a statement
 
@@ -47,6 +52,15 @@ module _ {m : List ℕ} {d p t : ℕ} (s : StandsAs m d StatementKind p) (read :
   pub include_text : t ≡ 0x29 → text_of (statement_at m d p) ≡ plain true
   unfolding assigns declares
   include_text h = ap text_of (include_opens s.stands (sym read ∙ h))
+
+  -- a 27, a 28 or a 29
+  pub declaring_text : 0x27 ≤ t → t ≤ 0x29 → text_of (statement_at m d p) ≡ plain true
+  declaring_text from to = go (eqb t 0x27) refl (eqb t 0x28) refl
+    where
+      go : (x : Bool) → eqb t 0x27 ≡ x → (y : Bool) → eqb t 0x28 ≡ y → text_of (statement_at m d p) ≡ plain true
+      go true e y f = defined_text (eqb-true t 0x27 e)
+      go false e true f = class_text (eqb-true t 0x28 f)
+      go false e false f = let a = eqb-false t 0x27 e in let b = eqb-false t 0x28 f in include_text (omega arith)
 
   resource_text : t ≡ 0x25 → text_of (statement_at m d p) ≡ plain false
   unfolding assigns declares
@@ -130,49 +144,61 @@ or_regroup false b c = refl
 pub text_same : {t u : Text} → ((n : ℕ) → t.assigns n ≡ u.assigns n) → t.declares ≡ u.declares → t ≡ u
 text_same a d = λ i. record { assigns = fun_ext a i; declares = d i }
 
-pub collects_same : {s s' : List ℕ} {r : Bool} {t u : Text} → t ≡ u → Collects s s' r u → Collects s s' r t
-collects_same e c = rw e c
+both_then : (a b c : Text) → both (both a b) c ≡ both a (both b c)
+unfolding both
+both_then a b c = text_same (λ n. or_regroup (a.assigns n) (b.assigns n) (c.assigns n)) (or_regroup a.declares b.declares c.declares)
 
--- nothing to collect
-pub collects_none : (s : List ℕ) {r : Bool} {t : Text} → t ≡ plain r → Collects s s r t
-collects_none s {r} e = rw e (record { size = refl; members = λ n. or_false (contains s n); declares = refl })
+both_none : (a : Text) → both a (plain false) ≡ a
+unfolding both
+both_none a = text_same (λ n. sym (or_false (a.assigns n))) (sym (or_false a.declares))
+
+pub collects_same : {c c' : Collected} {t u : Text} → t ≡ u → Collects c c' u → Collects c c' t
+collects_same e q = rw e q
+
+-- what joins it: no text, one that declares, one name, and all of another set
+module _ (c : Collected) where
+  pub collects_none : {t : Text} → t ≡ plain false → Collects c c t
+  collects_none e = record { joined = sym (both_none (held c)) ∙ ap (both (held c)) (sym e) }
+
+  module _ {c' : Collected} where
+    pub collects_declares : {t : Text} → t ≡ plain true → c'.names ≡ c.names → c'.declares ≡ true → Collects c c' t
+    unfolding both
+    collects_declares e names declares = rw e (record { joined = text_same (λ n. rw names (or_false (contains c.names n))) (rw declares (either c.declares)) })
+      where
+        either : (b : Bool) → true ≡ (b || true)
+        either true = refl
+        either false = refl
+
+    pub collects_name : (x : ℕ) → x < 1024 → c'.names ≡ set c.names (x / 64) (bit_or (get_or c.names (x / 64) 0) (1 * 2 ^ (x % 64) % 2 ^ 64)) → c'.declares ≡ c.declares → Collects c c' (named x)
+    unfolding both
+    collects_name x small names declares = record { joined = text_same (λ n. rw names (inserted c.names x c.words small n)) (rw declares (or_false c.declares)) }
+
+    pub collects_words : {f s : List ℕ} {i : ℕ} {b : Bool} → Joining f c.names i s → length f ≤ i → c'.names ≡ s → c'.declares ≡ (c.declares || b) → Collects c c' (record { assigns = contains f; declares = b })
+    unfolding both
+    collects_words q past names declares = record { joined = text_same (λ n. rw names (joined_all q past n)) declares }
 
 -- one text after the other
-pub collects_then : {s s₁ s₂ : List ℕ} {x y : Bool} {t u : Text} → Collects s s₁ x t → Collects s₁ s₂ y u → Collects s s₂ (x || y) (both t u)
-unfolding both
-collects_then {s} {t = t} {u = u} a b = record {
-  size = b.size ∙ a.size;
-  members = λ n. b.members n ∙ ap (λ (x : Bool). x || u.assigns n) (a.members n) ∙ or_regroup (contains s n) (t.assigns n) (u.assigns n);
-  declares = rw (a.declares, b.declares) refl;
-}
+pub collects_then : {c c₁ c₂ : Collected} {t u : Text} → Collects c c₁ t → Collects c₁ c₂ u → Collects c c₂ (both t u)
+collects_then {c} {t = t} {u = u} a b = record { joined = b.joined ∙ ap (λ (x : Text). both x u) a.joined ∙ both_then (held c) t u }
 
--- at a loop's head: what is collected, with what is left, is the whole
-pub record Collecting (s₀ s : List ℕ) (so_far : Bool) (left whole : Text) : Type 0 where
-  pub before : Text
-  pub collected : Collects s₀ s so_far before
-  pub same : both before left ≡ whole
+-- at a loop's head: what is collected, with what is left, is what was collected before, with the whole
+pub record Collecting (c₀ c : Collected) (left whole : Text) : Type 0 where
+  pub same : both (held c) left ≡ both (held c₀) whole
   pub small : Small left
 
-pub collecting : (s : List ℕ) {t : Text} → Small t → Collecting s s false t t
-unfolding both
-collecting s small = record { before = plain false; collected = collects_none s refl; same = refl; small = small }
+pub collecting : (c : Collected) {t : Text} → Small t → Collecting c c t t
+collecting c small = record { same = refl; small = small }
 
-module _ {s₀ s : List ℕ} {so_far : Bool} {left whole : Text} (i : Collecting s₀ s so_far left whole) where
-  pub collected_all : left ≡ plain false → Collects s₀ s so_far whole
-  unfolding both
-  collected_all none =
-      let all : i.before ≡ both i.before (plain false) = text_same (λ n. or_false (i.before.assigns n)) (or_false i.before.declares) in
-      collects_same (sym i.same ∙ ap (both i.before) none ∙ sym all) i.collected
+module _ {c₀ c : Collected} {left whole : Text} (i : Collecting c₀ c left whole) where
+  pub collected_all : left ≡ plain false → Collects c₀ c whole
+  collected_all none = record { joined = sym (both_none (held c)) ∙ ap (both (held c)) (sym none) ∙ i.same }
 
   module _ (here after : Text) (split : left ≡ both here after) where
     pub here_small : Small here
     here_small = small_first here after i.small split
 
-    pub collected_here : {s' : List ℕ} {r : Bool} → Collects s s' r here → Collecting s₀ s' (so_far || r) after whole
-    unfolding both
-    collected_here c = record {
-      before = both i.before here;
-      collected = collects_then i.collected c;
-      same = text_same (λ n. or_regroup (i.before.assigns n) (here.assigns n) (after.assigns n)) (or_regroup i.before.declares here.declares after.declares) ∙ ap (both i.before) (sym split) ∙ i.same;
+    pub collected_here : {c' : Collected} → Collects c c' here → Collecting c₀ c' after whole
+    collected_here q = record {
+      same = ap (λ (x : Text). both x after) q.joined ∙ both_then (held c) here after ∙ ap (both (held c)) (sym split) ∙ i.same;
       small = small_second here after i.small split;
     }

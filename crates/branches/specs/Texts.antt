@@ -1,8 +1,9 @@
 -- What the text of a statement, of a block or of branches holds, whatever of it runs.
-use Rattle.std.specs.Prelude.{ℕ, ◌<◌, ◌≡◌, Bool, true, false, ◌||◌, List, eqb, length}
+use Rattle.std.specs.Prelude.{ℕ, ◌<◌, ◌≡◌, Bool, true, false, ◌||◌, eqb}
 use Rattle.rules.specs.Tree.{Statement, Block, Branches}
 use Rattle.rules.specs.Run as rules
 use Rattle.branches.specs.Names.{contains}
+use Rattle.branches.specs.declared.collected.Collected.{Collected}
 
 -- the names that its 21s assign, and whether a 27, 28 or 29 stands in it
 pub record Text : Type 0 where
@@ -33,8 +34,10 @@ both a b = record { assigns = λ n. a.assigns n || b.assigns n; declares = a.dec
 pub record Small (t : Text) : Type 0 where
   pub each : (n : ℕ) → t.assigns n ≡ true → n < 1024
 
--- from the set s to s' the names of a text join it, and the answer is whether the text declares
-pub record Collects (s s' : List ℕ) (answer : Bool) (t : Text) : Type 0 where
-  pub size : length s' ≡ length s
-  pub members : (n : ℕ) → contains s' n ≡ (contains s n || t.assigns n)
-  pub declares : answer ≡ t.declares
+-- what was collected, as a text
+abbrev pub held : Collected → Text
+held c = record { assigns = contains c.names; declares = c.declares }
+
+-- from c to c' a text joins what was collected
+pub record Collects (c c' : Collected) (t : Text) : Type 0 where
+  pub joined : held c' ≡ both (held c) t

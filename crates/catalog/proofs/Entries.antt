@@ -26,12 +26,11 @@ use Rattle.rules.specs.Evaluate.{first_with, is_entry, is_attribute}
 use Rattle.catalog.specs.Layout.{entry_type, entry_title, entry_labels, entry_attributes, attribute_name, attribute_labels, attribute_value}
 use Rattle.rules.specs.Catalog.{field_bytes, boolean_byte, value_bytes, attribute_bytes, attributes_bytes, entry_bytes, catalog_bytes}
 use Rattle.rules.proofs.ReadBack.{FitsValue, fits_integer, fits_string, fits_boolean, FitsAttribute, FitsEntry, field_length, integer_back}
-use Rattle.catalog.specs.declared.Place.{Place}
-use Rattle.catalog.specs.declared.Place.TheVariants.{At}
 use Rattle.catalog.specs.Finding.{Written, Stands, EntryAt, Listed, entry_place, attribute_place, Below, value_at, content_at}
 use Rattle.catalog.proofs.Making.{entry_size}
 use Rattle.catalog.proofs.Standing.{stands_next, stands_same, stands_byte, stands_two, stands_run, field_end, field_body}
 use Rattle.catalog.proofs.Search.{Hit, hits, FirstListed, first_listed}
+use Rattle.std.specs.Prelude.{Option, Some}
 
 -- ---- An entry that stands at p
 
@@ -168,7 +167,7 @@ entries_listed m fill es small within w =
 
 -- ---- What is found, and where
 
-pub below_at : {r : Place} {p e : ℕ} → Below e r → r ≡ At p → p < e
+pub below_at : {r : Option ℕ} {p e : ℕ} → Below e r → r ≡ Some p → p < e
 unfolding Below
 below_at b is = rw is at b
 

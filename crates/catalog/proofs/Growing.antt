@@ -18,11 +18,11 @@ use Rattle.catalog.specs.Layout.{entry_attributes, attribute_value}
 use Rattle.rules.specs.Catalog.{value_bytes, attribute_bytes, attributes_bytes, entry_bytes, catalog_bytes}
 use Rattle.rules.proofs.Lists.{Each, none_left, also}
 use Rattle.rules.proofs.ReadBack.{FitsEntry}
-use Rattle.catalog.specs.declared.Finished.TheVariants.{Fits, TooLong}
 use Rattle.catalog.specs.Making.{stored, add_attribute, Holding, put_entry, cleared_from}
 use Rattle.catalog.specs.Finding.{Written}
 use Rattle.catalog.proofs.Making.{value_least, value_most, attribute_size}
 use Rattle.catalog.proofs.Stores.{drop_take, part_lent, part_back}
+use Rattle.std.specs.Prelude.{Some, None}
 
 -- ---- The rest alone
 
@@ -129,26 +129,26 @@ module _ (out : List ℕ) (fill : ℕ) (within : fill ≤ length out) (rest' : L
 
   module _ (room : ℕ) (e : Entry) (enough : room ≤ length out - fill) where
     put_entry_lem : put_entry (mid_of fill (length out - fill) out) room e
-        ≡ pick (ltb room (length (entry_bytes e))) (stored TooLong (drop fill out)) (stored (Fits (length (entry_bytes e))) (entry_bytes e ++ drop (fill + length (entry_bytes e)) out))
+        ≡ pick (ltb room (length (entry_bytes e))) (stored None (drop fill out)) (stored (Some (length (entry_bytes e))) (entry_bytes e ++ drop (fill + length (entry_bytes e)) out))
     unfolding put_entry
     put_entry_lem = ap (λ (l : List ℕ). put_entry l room e) (part_lent out fill) ∙ go (ltb (length (drop fill out)) (length (entry_bytes e))) refl
       where
         go : (b : Bool) → ltb (length (drop fill out)) (length (entry_bytes e)) ≡ b
-            → pick b (stored TooLong (drop fill out)) (pick (ltb room (length (entry_bytes e))) (stored TooLong (drop fill out)) (stored (Fits (length (entry_bytes e))) (entry_bytes e ++ drop (length (entry_bytes e)) (drop fill out))))
-            ≡ pick (ltb room (length (entry_bytes e))) (stored TooLong (drop fill out)) (stored (Fits (length (entry_bytes e))) (entry_bytes e ++ drop (fill + length (entry_bytes e)) out))
+            → pick b (stored None (drop fill out)) (pick (ltb room (length (entry_bytes e))) (stored None (drop fill out)) (stored (Some (length (entry_bytes e))) (entry_bytes e ++ drop (length (entry_bytes e)) (drop fill out))))
+            ≡ pick (ltb room (length (entry_bytes e))) (stored None (drop fill out)) (stored (Some (length (entry_bytes e))) (entry_bytes e ++ drop (fill + length (entry_bytes e)) out))
         go true t =
             let past : length (drop fill out) < length (entry_bytes e) = ltb-true _ _ t in
             rw (lt-ltb room (length (entry_bytes e)) (omega (arith, length-drop fill out)))
         go false t = rw (drop-drop (length (entry_bytes e)) fill out)
 
-    pub entry_joined : (es : List Entry) {n : ℕ} → take fill out ≡ catalog_bytes es → stored (Fits n) rest' ≡ put_entry (mid_of fill (length out - fill) out) room e
+    pub entry_joined : (es : List Entry) {n : ℕ} → take fill out ≡ catalog_bytes es → stored (Some n) rest' ≡ put_entry (mid_of fill (length out - fill) out) room e
         → Joined out (put_mid fill (length out - fill) out rest') fill room n es e
     entry_joined es {n} front f = go (ltb room (length (entry_bytes e))) refl
       where
         go : (b : Bool) → ltb room (length (entry_bytes e)) ≡ b → Joined out (put_mid fill (length out - fill) out rest') fill room n es e
-        go true t = let g : stored (Fits n) rest' ≡ stored TooLong (drop fill out) = f ∙ put_entry_lem ∙ rw t in let z : ◌≡◌ {A = ℕ} 0 1 = cc in absurd (omega arith)
+        go true t = let g : stored (Some n) rest' ≡ stored None (drop fill out) = f ∙ put_entry_lem ∙ rw t in let z : ◌≡◌ {A = ℕ} 0 1 = cc in absurd (omega arith)
         go false t =
-            let g : stored (Fits n) rest' ≡ stored (Fits (length (entry_bytes e))) (entry_bytes e ++ drop (fill + length (entry_bytes e)) out) = f ∙ put_entry_lem ∙ rw t in
+            let g : stored (Some n) rest' ≡ stored (Some (length (entry_bytes e))) (entry_bytes e ++ drop (fill + length (entry_bytes e)) out) = f ∙ put_entry_lem ∙ rw t in
             let size : n ≡ length (entry_bytes e) = cc in
             let short : length (entry_bytes e) ≤ room = ltb-false room (length (entry_bytes e)) t in
             let rest : rest' ≡ entry_bytes e ++ drop (fill + n) out = (let r : rest' ≡ entry_bytes e ++ drop (fill + length (entry_bytes e)) out = cc in r ∙ rw size) in
@@ -164,16 +164,16 @@ module _ (out : List ℕ) (fill : ℕ) (within : fill ≤ length out) (rest' : L
               after = ap (drop (fill + n)) whole ∙ drop_at (take fill out ++ entry_bytes e) (drop (fill + n) out) (fill + n) wide;
             }
 
-    pub entry_refused : stored TooLong rest' ≡ put_entry (mid_of fill (length out - fill) out) room e → Refused out (put_mid fill (length out - fill) out rest') room e
+    pub entry_refused : stored None rest' ≡ put_entry (mid_of fill (length out - fill) out) room e → Refused out (put_mid fill (length out - fill) out rest') room e
     entry_refused f = go (ltb room (length (entry_bytes e))) refl
       where
         go : (b : Bool) → ltb room (length (entry_bytes e)) ≡ b → Refused out (put_mid fill (length out - fill) out rest') room e
         go true t =
-            let g : stored TooLong rest' ≡ stored TooLong (drop fill out) = f ∙ put_entry_lem ∙ rw t in
+            let g : stored None rest' ≡ stored None (drop fill out) = f ∙ put_entry_lem ∙ rw t in
             let same : rest' ≡ drop fill out = cc in
             record { long = t; same = part_back out fill rest' ∙ ap (λ (l : List ℕ). take fill out ++ l) same ∙ take-append-drop fill out }
         go false t =
-            let g : stored TooLong rest' ≡ stored (Fits (length (entry_bytes e))) (entry_bytes e ++ drop (fill + length (entry_bytes e)) out) = f ∙ put_entry_lem ∙ rw t in
+            let g : stored None rest' ≡ stored (Some (length (entry_bytes e))) (entry_bytes e ++ drop (fill + length (entry_bytes e)) out) = f ∙ put_entry_lem ∙ rw t in
             let z : ◌≡◌ {A = ℕ} 0 1 = cc in
             absurd (omega arith)
 

@@ -21,9 +21,10 @@ use Rattle.rules.specs.State.{Attribute}
 use Rattle.rules.specs.Catalog.{field_bytes, boolean_byte, value_bytes, attribute_bytes, attributes_bytes, entry_bytes}
 use Rattle.rules.proofs.ReadBack.{field_length}
 use Rattle.catalog.specs.Layout.{header_size, entry_type, entry_title, entry_labels, entry_attributes, attribute_name, attribute_labels, attribute_value, before_value}
-use Rattle.catalog.specs.declared.Finished.TheVariants.{Fits, TooLong}
 use Rattle.catalog.specs.Making.{stored, attribute, entry, add_attribute, Holding, put_entry}
 use Rattle.catalog.proofs.Stores.{over_start}
+use Rattle.std.specs.Int.{from_bool}
+use Rattle.std.specs.Prelude.{Some, None}
 
 -- ---- Fields
 
@@ -32,6 +33,11 @@ pub field_stored : (m : List ℕ) (p t n : ℕ) (b : List ℕ) {m1 m2 : List ℕ
 unfolding field_bytes
 field_stored m p t n b header body size =
     then_store m p (t ∷ high_bytes 2 n) (p + 3) b header body (omega (arith, high_length 2 n)) ∙ ap (λ (k : ℕ). over m p (t ∷ high_bytes 2 k ++ b)) size
+
+pub as_byte : (b : Bool) → from_bool b ≡ boolean_byte b
+unfolding boolean_byte
+as_byte true = refl
+as_byte false = refl
 
 boolean_small : (b : Bool) → boolean_byte b < 256
 unfolding boolean_byte
@@ -139,13 +145,13 @@ entry_size size t n k ats e =
     ap length (entry_parts size t n k ats e) ∙ length-append (head_bytes size t n k) (attributes_bytes ats) ∙ omega (arith, head_length_lem size t n k)
 
 module _ (m : List ℕ) (size room t n : ℕ) (k : Labels) where
-  pub too_long : length m < size → (ats : List Attribute) → Holding m size ats → stored TooLong m ≡ put_entry m room (entry t n k ats)
+  pub too_long : length m < size → (ats : List Attribute) → Holding m size ats → stored None m ≡ put_entry m room (entry t n k ats)
   unfolding put_entry
   too_long short ats h =
       let e : length (entry_bytes (entry t n k ats)) ≡ size = entry_size size t n k ats h.grown in
       rw (e, lt-ltb (length m) size short)
 
-  pub no_room : size ≤ length m → room < size → (ats : List Attribute) → Holding m size ats → stored TooLong m ≡ put_entry m room (entry t n k ats)
+  pub no_room : size ≤ length m → room < size → (ats : List Attribute) → Holding m size ats → stored None m ≡ put_entry m room (entry t n k ats)
   unfolding put_entry
   no_room fits short ats h =
       let e : length (entry_bytes (entry t n k ats)) ≡ size = entry_size size t n k ats h.grown in
@@ -177,7 +183,7 @@ module _ (m : List ℕ) (size room t n : ℕ) (k : Labels) where
       ∙ sym (append_assoc (head_bytes size t n k) (attributes_bytes ats) (drop size m)) ∙ ap (λ (l : List ℕ). l ++ drop size m) (sym (entry_parts size t n k ats grown))
 
   pub entry_finished : {m1 m2 m3 m4 : List ℕ} → size ≤ length m → size ≤ room → m1 ≡ over m 0 (0x40 ∷ high_bytes 2 (size - header_size)) → m2 ≡ over m1 entry_type (high_bytes 2 t) → m3 ≡ over m2 entry_title (high_bytes 2 n) → m4 ≡ over m3 entry_labels (label_bytes k)
-      → (ats : List Attribute) → Holding m size ats → stored (Fits size) m4 ≡ put_entry m room (entry t n k ats)
+      → (ats : List Attribute) → Holding m size ats → stored (Some size) m4 ≡ put_entry m room (entry t n k ats)
   unfolding put_entry
   entry_finished {m4 = m4} fits small p1 p2 p3 p4 ats h =
       let e : length (entry_bytes (entry t n k ats)) ≡ size = entry_size size t n k ats h.grown in

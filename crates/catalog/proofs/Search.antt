@@ -12,15 +12,14 @@ use Rattle.rules.specs.Evaluate.{any, first_with}
 use Rattle.rules.specs.Catalog.{field_bytes}
 use Rattle.rules.proofs.Lists.{Each, also}
 use Rattle.rules.proofs.ReadBack.{field_length}
-use Rattle.catalog.specs.declared.Place.{Place}
-use Rattle.catalog.specs.declared.Place.TheVariants.{At, Nothing}
 use Rattle.catalog.specs.Finding.{Stands, Listed, place_with}
 use Rattle.catalog.proofs.Standing.{stands_first, stands_next, stands_same, field_end}
+use Rattle.std.specs.Prelude.{Option as CodeOption, Some, None}
 
 -- where the first that passes stands
-pub data Hit {A : Type 0} (bytes_of : A → List ℕ) (Fits : A → Type 0) (m : List ℕ) : Option A → Place → Type 0 where
-  missed : Hit bytes_of Fits m none Nothing
-  hit : {x : A} {p : ℕ} → Fits x → Stands m p (bytes_of x) → length (bytes_of x) ≤ 65535 → Hit bytes_of Fits m (some x) (At p)
+pub data Hit {A : Type 0} (bytes_of : A → List ℕ) (Fits : A → Type 0) (m : List ℕ) : Option A → CodeOption ℕ → Type 0 where
+  missed : Hit bytes_of Fits m none None
+  hit : {x : A} {p : ℕ} → Fits x → Stands m p (bytes_of x) → length (bytes_of x) ≤ 65535 → Hit bytes_of Fits m (some x) (Some p)
 
 -- what stands at a place that was found
 pub record HitAt {A : Type 0} (bytes_of : A → List ℕ) (Fits : A → Type 0) (m : List ℕ) (o : Option A) (p : ℕ) : Type 0 where
@@ -31,11 +30,11 @@ pub record HitAt {A : Type 0} (bytes_of : A → List ℕ) (Fits : A → Type 0) 
   pub short : length (bytes_of x) ≤ 65535
 
 module _ {A : Type 0} {bytes_of : A → List ℕ} {Fits : A → Type 0} {m : List ℕ} where
-  pub hit_nothing : {o : Option A} {q : Place} → Hit bytes_of Fits m o q → q ≡ Nothing → o ≡ none
+  pub hit_nothing : {o : Option A} {q : CodeOption ℕ} → Hit bytes_of Fits m o q → q ≡ None → o ≡ none
   hit_nothing missed e = refl
   hit_nothing (hit f s l) e = let z : ◌≡◌ {A = ℕ} 0 1 = cc in absurd (omega arith)
 
-  pub hit_at : {o : Option A} {q : Place} (p : ℕ) → Hit bytes_of Fits m o q → q ≡ At p → HitAt bytes_of Fits m o p
+  pub hit_at : {o : Option A} {q : CodeOption ℕ} (p : ℕ) → Hit bytes_of Fits m o q → q ≡ Some p → HitAt bytes_of Fits m o p
   hit_at p missed e = let z : ◌≡◌ {A = ℕ} 0 1 = cc in absurd (omega arith)
   hit_at p (hit {x = x} {p = p'} f s l) e = let same : p' ≡ p = cc in record { x = x; first = refl; fits = f; stands = rw same at s; short = l }
 
@@ -94,7 +93,7 @@ module _ {A : Type 0} (tag : ℕ) (body : A → List ℕ) (bytes_of : A → List
   hits (x ∷ xs) {p} l = go (test x) (hits xs (others_listed x xs l))
     where
       go : (b : Bool) → Hit bytes_of Fits m (first_with test xs) (place_with bytes_of test xs (p + length (bytes_of x)))
-          → Hit bytes_of Fits m (elim b [ true ↦ some x | false ↦ first_with test xs ]) (pick b (At p) (place_with bytes_of test xs (p + length (bytes_of x))))
+          → Hit bytes_of Fits m (elim b [ true ↦ some x | false ↦ first_with test xs ]) (pick b (Some p) (place_with bytes_of test xs (p + length (bytes_of x))))
       go true h = hit (first_fits x xs l.fits) (first_stands x xs l.stands) (omega (arith, size_more x xs, l.short))
       go false h = h
 

@@ -1,5 +1,5 @@
 -- The catalog so far in the output, and what is found in it.
-use Rattle.std.specs.Prelude.{ℕ, ◌+◌, ◌≤◌, ◌<◌, ◌≡◌, Bool, List, [], ◌∷◌, ◌++◌, eqb, length, take, drop}
+use Rattle.std.specs.Prelude.{ℕ, ◌+◌, ◌≤◌, ◌<◌, ◌≡◌, Bool, List, [], ◌∷◌, ◌++◌, eqb, length, take, drop, Option as CodeOption, Some, None}
 use Rattle.std.proofs.Math.Option.{Option, none, some}
 use Rattle.labels.specs.Bytes.{set_at}
 use Rattle.values.specs.declared.Value.{Value}
@@ -13,10 +13,6 @@ use Rattle.rules.specs.Evaluate.{first_with, is_entry, is_attribute}
 use Rattle.catalog.specs.Layout.{header_size, entry_attributes, attribute_labels, attribute_value}
 use Rattle.rules.specs.Catalog.{attribute_bytes, entry_bytes, catalog_bytes}
 use Rattle.rules.specs.Ranges.{Each, FitsEntry}
-use Rattle.catalog.specs.declared.Place.{Place}
-use Rattle.catalog.specs.declared.Place.TheVariants.{At, Nothing}
-use Rattle.catalog.specs.declared.Found.{Found}
-use Rattle.catalog.specs.declared.Found.TheVariants.{Content, Nothing as NotFound}
 
 -- ---- What stands in the output
 
@@ -46,21 +42,21 @@ pub record Listed {A : Type 0} (Fits : A → Type 0) (all_of : List A → List �
 -- ---- Places
 
 -- the place of the first that passes a test, among things written one after the other from p on
-unfoldable pub place_with : {A : Type 0} → (A → List ℕ) → (A → Bool) → List A → ℕ → Place
-place_with bytes_of test [] p = Nothing
-place_with bytes_of test (x ∷ xs) p = pick (test x) (At p) (place_with bytes_of test xs (p + length (bytes_of x)))
+unfoldable pub place_with : {A : Type 0} → (A → List ℕ) → (A → Bool) → List A → ℕ → CodeOption ℕ
+place_with bytes_of test [] p = None
+place_with bytes_of test (x ∷ xs) p = pick (test x) (Some p) (place_with bytes_of test xs (p + length (bytes_of x)))
 
-unfoldable pub entry_place : (type title : ℕ) → List Entry → Place
+unfoldable pub entry_place : (type title : ℕ) → List Entry → CodeOption ℕ
 entry_place t m es = place_with entry_bytes (is_entry t m) es 0
 
 -- in the entry at p
-unfoldable pub attribute_place : (name : ℕ) → Entry → ℕ → Place
+unfoldable pub attribute_place : (name : ℕ) → Entry → ℕ → CodeOption ℕ
 attribute_place n e p = place_with attribute_bytes (is_attribute n) e.attributes (p + entry_attributes)
 
 -- a place found is below an end
-unfoldable pub Below : ℕ → Place → Type 0
-Below e (At p) = p < e
-Below e Nothing = Unit {0}
+unfoldable pub Below : ℕ → CodeOption ℕ → Type 0
+Below e (Some p) = p < e
+Below e None = Unit {0}
 
 -- ---- Contents
 
@@ -85,6 +81,6 @@ content_in n (some e) = content_of (first_with (is_attribute n) e.attributes)
 unfoldable pub look_up : (type title name : ℕ) → List Entry → Option Labelled
 look_up t m n es = content_in n (first_with (is_entry t m) es)
 
-unfoldable pub found_in : Option Labelled → Found
-found_in none = NotFound
-found_in (some x) = Content x
+unfoldable pub found_in : Option Labelled → CodeOption Labelled
+found_in none = None
+found_in (some x) = Some x

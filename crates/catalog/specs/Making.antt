@@ -1,5 +1,5 @@
 -- An entry in the making, in the rest of the output from the fill point on: what each call answers, and all bytes lent to it.
-use Rattle.std.specs.Prelude.{ℕ, ◌+◌, ◌-◌, ◌≤◌, ◌≡◌, List, ◌++◌, ltb, length, take, drop}
+use Rattle.std.specs.Prelude.{ℕ, ◌+◌, ◌-◌, ◌≤◌, ◌≡◌, List, ◌++◌, ltb, length, take, drop, Option, Some, None}
 use Rattle.labels.specs.declared.Labels.{Labels}
 use Rattle.values.specs.declared.Labelled.{Labelled}
 use Rattle.wire.specs.Bytes.{pick}
@@ -7,8 +7,6 @@ use Rattle.wire.specs.Runs.{over, zeros}
 use Rattle.rules.specs.State.{Attribute, Entry}
 use Rattle.rules.specs.Catalog.{attribute_bytes, attributes_bytes, entry_bytes, no_parts}
 use Rattle.catalog.specs.Layout.{entry_attributes}
-use Rattle.catalog.specs.declared.Finished.{Finished}
-use Rattle.catalog.specs.declared.Finished.TheVariants.{Fits, TooLong}
 
 -- an answer, with the bytes lent as they are after the call
 pub data Stored (A : Type 0) : Type 0 where
@@ -32,11 +30,11 @@ pub record Holding (rest : List ℕ) (size : ℕ) (ats : List Attribute) : Type 
   pub bytes : size ≤ length rest → take (size - entry_attributes) (drop entry_attributes rest) ≡ attributes_bytes ats
 
 -- an entry at the start of the rest, if the rest and the room are long enough for it; else the rest is as it was
-unfoldable pub put_entry : (rest : List ℕ) → (room : ℕ) → Entry → Stored Finished
+unfoldable pub put_entry : (rest : List ℕ) → (room : ℕ) → Entry → Stored (Option ℕ)
 put_entry rest room e =
-    pick (ltb (length rest) (length (entry_bytes e))) (stored TooLong rest)
-    (pick (ltb room (length (entry_bytes e))) (stored TooLong rest)
-    (stored (Fits (length (entry_bytes e))) (entry_bytes e ++ drop (length (entry_bytes e)) rest)))
+    pick (ltb (length rest) (length (entry_bytes e))) (stored None rest)
+    (pick (ltb room (length (entry_bytes e))) (stored None rest)
+    (stored (Some (length (entry_bytes e))) (entry_bytes e ++ drop (length (entry_bytes e)) rest)))
 
 -- zeros from p on
 unfoldable pub cleared_from : ℕ → List ℕ → List ℕ

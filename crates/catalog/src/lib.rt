@@ -5,7 +5,7 @@
 ghost use Rattle.std.specs.Prelude.{◌≡◌, List, ◌≤◌, length};
 ghost use Rattle.wire.specs.Runs.{over};
 ghost use Rattle.rules.specs.State.{Attribute};
-ghost use Rattle.rules.specs.Catalog.{boolean_byte, value_bytes};
+ghost use Rattle.rules.specs.Catalog.{value_bytes};
 ghost use Rattle.catalog.specs.Layout.{entry_attributes};
 ghost use Rattle.catalog.specs.Making.{stored, attribute, entry, add_attribute, Holding, put_entry, cleared_from};
 ghost use Rattle.catalog.specs.Finding.{value_at, content_at};
@@ -19,34 +19,7 @@ use values::{Labelled, Value};
 
 pub mod layout; // layout.rt: where the parts of an entry and of an attribute stand
 
-// What finishing an entry answers: its length, or that it does not fit.
-#[derive(Clone, Copy)]
-pub enum Finished {
-    Fits(usize),
-    TooLong,
-}
-
-// Where a search found something.
-#[derive(Clone, Copy)]
-pub enum Place {
-    At(usize),
-    Nothing,
-}
-
-// What reading an attribute finds.
-#[derive(Clone, Copy)]
-pub enum Found {
-    Content(Labelled),
-    Nothing,
-}
-
 // ---- Writing
-
-fn boolean_byte(b: bool) -> u8
-    ensures { result ≡ boolean_byte b }
-{
-    if b { 1 } else { 0 }
-}
 
 fn value_size(v: Value) -> u16
     ensures { result ≡ length (value_bytes v) }
@@ -73,7 +46,7 @@ fn put_value(rest: &mut [u8], at: usize, v: Value)
         }
         Value::Boolean(b) => {
             wire::put_header(rest, at, 0x44, 1);
-            wire::put_byte(rest, at + HEADER, boolean_byte(b));
+            wire::put_byte(rest, at + HEADER, u8::from(b));
         }
     }
 }
@@ -105,21 +78,21 @@ pub fn finish_entry(
     kind: u16,
     title: u16,
     labels: Labels,
-) -> Finished
+) -> Option<usize>
     requires { (entry_attributes ≤ size) × (room ≤ 65535) }
     ensures { (ats : List Attribute) → Holding rest.old size ats → stored result rest.new ≡ put_entry rest.old room (entry kind title labels ats) }
 {
     if rest.len() < size {
-        return Finished::TooLong;
+        return None;
     }
     if room < size {
-        return Finished::TooLong;
+        return None;
     }
     wire::put_header(rest, 0, 0x40, (size - HEADER) as u16);
     wire::put_two(rest, ENTRY_TYPE, kind);
     wire::put_two(rest, ENTRY_TITLE, title);
     labels.write_at(rest, ENTRY_LABELS);
-    Finished::Fits(size)
+    Some(size)
 }
 
 // All bytes from `from` on become zero.

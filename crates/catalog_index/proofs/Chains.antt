@@ -9,10 +9,9 @@ use lib.Dec.{eqb}
 use lib.ListN.{length}
 use Rattle.wire.specs.Bytes.{pick}
 use Rattle.cells.specs.Layout.{most_chains}
-use Rattle.catalog.specs.declared.Place.{Place}
-use Rattle.catalog.specs.declared.Place.TheVariants.{At}
 use Rattle.catalog.specs.Finding.{Below}
 use Rattle.catalog_index.specs.Chains.{follow, last_with, Posting, posting, places_in, Chained}
+use Rattle.std.specs.Prelude.{Option, Some}
 
 -- ---- A walk
 
@@ -60,11 +59,11 @@ follow_same places links places' links' (suc k) p l r =
 -- ---- The last that passes a test, seen from the first on
 
 module _ (f : ℕ → Bool) where
-  pub last_none : {ps : List ℕ} (v : Place) → ps ≡ [] → last_with f v ps ≡ v
+  pub last_none : {ps : List ℕ} (v : Option ℕ) → ps ≡ [] → last_with f v ps ≡ v
   unfolding last_with
   last_none v e = rw e
 
-  pub last_next : {ps qs : List ℕ} {p : ℕ} (v : Place) → ps ≡ p ∷ qs → last_with f v ps ≡ last_with f (pick (f p) (At p) v) qs
+  pub last_next : {ps qs : List ℕ} {p : ℕ} (v : Option ℕ) → ps ≡ p ∷ qs → last_with f v ps ≡ last_with f (pick (f p) (Some p) v) qs
   unfolding last_with
   last_next v e = rw e
 
@@ -103,24 +102,24 @@ module _ {heads places links heads' places' links' : ℕ → ℕ} (ts : List Pos
           rw (kept, ne_eqb (heads d) (suc (length ts)) (λ q. omega (arith, c.low d h)), later (heads d), c.follows d h)
 
 -- a place that passed is kept, and another is not
-module _ (f : ℕ → Bool) {p : ℕ} (found : Place) {t : Place} {b : Bool} (test : b ≡ f p) where
-  pub taken : b ≡ true → t ≡ At p → t ≡ pick (f p) (At p) found
+module _ (f : ℕ → Bool) {p : ℕ} (found : Option ℕ) {t : Option ℕ} {b : Bool} (test : b ≡ f p) where
+  pub taken : b ≡ true → t ≡ Some p → t ≡ pick (f p) (Some p) found
   taken is e = rw (sym test, is) e
 
-  pub passed_over : b ≡ false → t ≡ found → t ≡ pick (f p) (At p) found
+  pub passed_over : b ≡ false → t ≡ found → t ≡ pick (f p) (Some p) found
   passed_over is e = rw (sym test, is) e
 
-pub below_place : {t : Place} {p e : ℕ} → t ≡ At p → p < e → Below e t
+pub below_place : {t : Option ℕ} {p e : ℕ} → t ≡ Some p → p < e → Below e t
 unfolding Below
 below_place is h = rw is h
 
-pub below_same : {t v : Place} (e : ℕ) → t ≡ v → Below e v → Below e t
+pub below_same : {t v : Option ℕ} (e : ℕ) → t ≡ v → Below e v → Below e t
 below_same e is h = rw is h
 
 -- ---- The ways of `find`: so far the walk came to reference r, below record k, and `found` is the last place that passed
 
-module _ (f : ℕ → Bool) (places links : ℕ → ℕ) {whole : Place} (found : Place) (k r : ℕ) (so_far : last_with f found (follow places links k r) ≡ whole) where
-  pub walk_on : {p next : ℕ} (t : Place) → 0 < r → r ≤ k → p ≡ places (r - 1) → next ≡ links (r - 1) → t ≡ pick (f p) (At p) found → last_with f t (follow places links (r - 1) next) ≡ whole
+module _ (f : ℕ → Bool) (places links : ℕ → ℕ) {whole : Option ℕ} (found : Option ℕ) (k r : ℕ) (so_far : last_with f found (follow places links k r) ≡ whole) where
+  pub walk_on : {p next : ℕ} (t : Option ℕ) → 0 < r → r ≤ k → p ≡ places (r - 1) → next ≡ links (r - 1) → t ≡ pick (f p) (Some p) found → last_with f t (follow places links (r - 1) next) ≡ whole
   walk_on {p} {next} t some within place link passed =
       let one_more : suc (r - 1) ≡ r = omega arith in
       let step = follow_on places links k (r - 1) (omega arith) in

@@ -8,51 +8,50 @@ use borrow.Author.Tests.{eq-eqb}
 use lib.Dec.{eqb}
 use lib.ListN.{length, length-append}
 use Rattle.wire.specs.Bytes.{pick}
-use Rattle.catalog.specs.declared.Place.{Place}
-use Rattle.catalog.specs.declared.Place.TheVariants.{At, Nothing}
 use Rattle.catalog.specs.Finding.{Stands, Listed, place_with}
 use Rattle.catalog.proofs.Search.{FirstListed}
 use Rattle.catalog_index.specs.Chains.{last_with, Posting, posting, places_in, gather}
+use Rattle.std.specs.Prelude.{Option, Some, None}
 
 -- the last posting of a bucket whose place passes a test, or else another place
-unfoldable pub last_in : (bucket : ℕ) → (ℕ → Bool) → (otherwise : Place) → List Posting → Place
+unfoldable pub last_in : (bucket : ℕ) → (ℕ → Bool) → (otherwise : Option ℕ) → List Posting → Option ℕ
 last_in b f v [] = v
-last_in b f v (t ∷ ts) = last_in b f (pick (eqb t.bucket b) (pick (f t.place) (At t.place) v) v) ts
+last_in b f v (t ∷ ts) = last_in b f (pick (eqb t.bucket b) (pick (f t.place) (Some t.place) v) v) ts
 
-pub last_in_lem : (b : ℕ) (f : ℕ → Bool) (v : Place) (ts : List Posting) → last_with f v (places_in b ts) ≡ last_in b f v ts
+pub last_in_lem : (b : ℕ) (f : ℕ → Bool) (v : Option ℕ) (ts : List Posting) → last_with f v (places_in b ts) ≡ last_in b f v ts
 unfolding last_in last_with places_in
 last_in_lem b f v [] = refl
 last_in_lem b f v (t ∷ ts) =
-    let there : Place = pick (f t.place) (At t.place) v in
+    let there : Option ℕ = pick (f t.place) (Some t.place) v in
     go (last_in_lem b f there ts) (last_in_lem b f v ts) (eqb t.bucket b)
   where
-    go : last_with f (pick (f t.place) (At t.place) v) (places_in b ts) ≡ last_in b f (pick (f t.place) (At t.place) v) ts → last_with f v (places_in b ts) ≡ last_in b f v ts
-        → (s : Bool) → last_with f v (pick s (t.place ∷ places_in b ts) (places_in b ts)) ≡ last_in b f (pick s (pick (f t.place) (At t.place) v) v) ts
+    go : last_with f (pick (f t.place) (Some t.place) v) (places_in b ts) ≡ last_in b f (pick (f t.place) (Some t.place) v) ts → last_with f v (places_in b ts) ≡ last_in b f v ts
+        → (s : Bool) → last_with f v (pick s (t.place ∷ places_in b ts) (places_in b ts)) ≡ last_in b f (pick s (pick (f t.place) (Some t.place) v) v) ts
     go same other true = same
     go same other false = other
 
 -- one posting: what passes the test is in the bucket
-pub posted : (b : ℕ) (f : ℕ → Bool) {p c : ℕ} (t : Bool) (v : Place) (ts : List Posting) → f p ≡ t → (t ≡ true → c ≡ b) → last_in b f v (posting p c ∷ ts) ≡ last_in b f (pick t (At p) v) ts
+pub posted : (b : ℕ) (f : ℕ → Bool) {p c : ℕ} (t : Bool) (v : Option ℕ) (ts : List Posting) → f p ≡ t → (t ≡ true → c ≡ b) → last_in b f v (posting p c ∷ ts) ≡ last_in b f (pick t (Some p) v) ts
 unfolding last_in
 posted b f {p} {c} t v ts is inside = go t is inside (eqb c b) refl
   where
-    go : (t : Bool) → f p ≡ t → (t ≡ true → c ≡ b) → (s : Bool) → eqb c b ≡ s → last_in b f (pick s (pick (f p) (At p) v) v) ts ≡ last_in b f (pick t (At p) v) ts
+    go : (t : Bool) → f p ≡ t → (t ≡ true → c ≡ b) → (s : Bool) → eqb c b ≡ s → last_in b f (pick s (pick (f p) (Some p) v) v) ts ≡ last_in b f (pick t (Some p) v) ts
     go true is inside s e = rw (sym e, eq-eqb c b (inside refl), is)
     go false is inside true e = rw is
     go false is inside false e = refl
 
 -- the place of the first that passes a test, among things written one after the other from q on, or else another place
-unfoldable pub place_or : {A : Type 0} → (A → List ℕ) → (A → Bool) → (otherwise : Place) → List A → ℕ → Place
+unfoldable pub place_or : {A : Type 0} → (A → List ℕ) → (A → Bool) → (otherwise : Option ℕ) → List A → ℕ → Option ℕ
 place_or bytes_of test v [] q = v
-place_or bytes_of test v (x ∷ xs) q = pick (test x) (At q) (place_or bytes_of test v xs (q + length (bytes_of x)))
+place_or bytes_of test v (x ∷ xs) q = pick (test x) (Some q) (place_or bytes_of test v xs (q + length (bytes_of x)))
 
 module _ {A : Type 0} (bytes_of : A → List ℕ) where
-  pub or_nothing : (test : A → Bool) (xs : List A) (q : ℕ) → place_or bytes_of test Nothing xs q ≡ place_with bytes_of test xs q
+  pub or_nothing : (test : A → Bool) (xs : List A) (q : ℕ) → place_or bytes_of test None xs q ≡ place_with bytes_of test xs q
   unfolding place_or place_with
   or_nothing test [] q = refl
-  or_nothing test (x ∷ xs) q = ap (pick (test x) (At q)) (or_nothing test xs (q + length (bytes_of x)))
+  or_nothing test (x ∷ xs) q = ap (pick (test x) (Some q)) (or_nothing test xs (q + length (bytes_of x)))
 
-  pub or_never : (v : Place) (xs : List A) (q : ℕ) → place_or bytes_of (λ x. false) v xs q ≡ v
+  pub or_never : (v : Option ℕ) (xs : List A) (q : ℕ) → place_or bytes_of (λ x. false) v xs q ≡ v
   unfolding place_or
   or_never v [] q = refl
   or_never v (x ∷ xs) q = or_never v xs (q + length (bytes_of x))
@@ -79,8 +78,8 @@ module _ {A : Type 0} (bytes_of : A → List ℕ) (Fits : A → Type 0) (all_of 
   module _ (put : ℕ → A → List Posting → List Posting) where
     -- if each puts down what a test tells, the first that passes it is found
     pub among : (b : ℕ) (f : ℕ → Bool) (test : A → Bool) (xs : List A) (q : ℕ) → Listed Fits all_of m q end xs
-        → ((x : A) (p : ℕ) → One bytes_of Fits m end q p x → (v : Place) (ts : List Posting) → last_in b f v (put p x ts) ≡ last_in b f (pick (test x) (At p) v) ts)
-        → (v : Place) (ts : List Posting) → last_in b f v (gather bytes_of put xs q ts) ≡ last_in b f (place_or bytes_of test v xs q) ts
+        → ((x : A) (p : ℕ) → One bytes_of Fits m end q p x → (v : Option ℕ) (ts : List Posting) → last_in b f v (put p x ts) ≡ last_in b f (pick (test x) (Some p) v) ts)
+        → (v : Option ℕ) (ts : List Posting) → last_in b f v (gather bytes_of put xs q ts) ≡ last_in b f (place_or bytes_of test v xs q) ts
     unfolding gather place_or
     among b f test [] q l step v ts = refl
     among b f test (x ∷ xs) q l step v ts =

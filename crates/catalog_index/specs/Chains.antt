@@ -1,9 +1,7 @@
 -- Chains of records, each with a place, and what they hold: postings, gathered from things that are written one after the other.
-use Rattle.std.specs.Prelude.{ℕ, zero, suc, ◌+◌, ◌≤◌, ◌<◌, ◌≡◌, Bool, List, [], ◌∷◌, eqb, length}
+use Rattle.std.specs.Prelude.{ℕ, zero, suc, ◌+◌, ◌≤◌, ◌<◌, ◌≡◌, Bool, List, [], ◌∷◌, eqb, length, Option, Some}
 use Rattle.wire.specs.Bytes.{pick}
 use Rattle.cells.specs.Layout.{most_chains}
-use Rattle.catalog.specs.declared.Place.{Place}
-use Rattle.catalog.specs.declared.Place.TheVariants.{At}
 
 -- ---- Walking down a chain
 
@@ -13,9 +11,9 @@ follow places links zero r = []
 follow places links (suc k) r = pick (eqb r (suc k)) (places k ∷ follow places links k (links k)) (follow places links k r)
 
 -- the last of some places that passes a test, or else another place
-unfoldable pub last_with : (ℕ → Bool) → (otherwise : Place) → List ℕ → Place
+unfoldable pub last_with : (ℕ → Bool) → (otherwise : Option ℕ) → List ℕ → Option ℕ
 last_with f v [] = v
-last_with f v (p ∷ ps) = last_with f (pick (f p) (At p) v) ps
+last_with f v (p ∷ ps) = last_with f (pick (f p) (Some p) v) ps
 
 -- ---- Postings
 

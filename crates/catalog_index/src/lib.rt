@@ -2,21 +2,20 @@
 // sees one chain, and each place in it is tested in the output. Whatever catalog the output and the index stand for, the answer is right for that one.
 #![tactic(auto)]
 
-ghost use Rattle.std.specs.Prelude.{◌≡◌, List, [], ◌∷◌, ◌++◌, ℕ, ◌+◌, ◌≤◌, ◌<◌, length};
+ghost use Rattle.std.specs.Prelude.{◌≡◌, List, [], ◌∷◌, ◌++◌, ℕ, ◌+◌, ◌≤◌, ◌<◌, length, Some, None};
 ghost use Rattle.std.proofs.Math.Option.{some};
 ghost use Rattle.wire.specs.Bytes.{end_of};
 ghost use Rattle.rules.specs.State.{Entry};
 ghost use Rattle.rules.specs.Evaluate.{any, first_with, is_entry};
 ghost use Rattle.rules.specs.Catalog.{catalog_bytes};
-ghost use Rattle.catalog.specs.declared.Place.TheVariants.{At, Nothing};
 ghost use Rattle.catalog.specs.Finding.{Written, entry_place, attribute_place, Below, look_up, found_in};
 ghost use Rattle.cells.specs.Layout.{most_chains};
 ghost use Rattle.catalog_index.specs.Chains.{last_with};
 ghost use Rattle.catalog_index.specs.Index.{entry_bucket, attribute_chains, attribute_bucket, chain_in, Indexed, Recorded, Extended, sought_at};
 
 use catalog::layout::{ATTRIBUTE_NAME, ENTRY_ATTRIBUTES, ENTRY_TITLE, ENTRY_TYPE};
-use catalog::{Found, Place};
 use cells::layout::{COUNT, HEAD_SIZE, HEADS, MOST_RECORDS, RECORD_LINK, RECORD_SIZE, RECORDS};
+use values::Labelled;
 
 // The first chains are for entries, by their titles.
 const TITLE_CHAINS: usize = 256;
@@ -96,11 +95,11 @@ fn is_sought(out: &[u8], fill: usize, p: usize, sought: Sought) -> bool
 }
 
 // The last place in a chain that is sought: of the places written, the first.
-fn find(work: &[u8], out: &[u8], fill: usize, bucket: usize, sought: Sought) -> Place
+fn find(work: &[u8], out: &[u8], fill: usize, bucket: usize, sought: Sought) -> Option<usize>
     requires { (65536 ≤ length work.now) × ((fill ≤ length out.now) × (bucket < most_chains)) }
-    ensures { (result ≡ last_with (sought_at out.now fill sought) Nothing (chain_in work.now bucket)) × Below 65536 result }
+    ensures { (result ≡ last_with (sought_at out.now fill sought) None (chain_in work.now bucket)) × Below 65536 result }
 {
-    let mut found = Place::Nothing;
+    let mut found = None;
     let mut below = MOST_RECORDS;
     let mut r = wire::two_in(work, HEADS + HEAD_SIZE * bucket);
     while 0 < r {
@@ -111,7 +110,7 @@ fn find(work: &[u8], out: &[u8], fill: usize, bucket: usize, sought: Sought) -> 
         let at = RECORDS + RECORD_SIZE * below as usize;
         let p = wire::two_in(work, at) as usize;
         if is_sought(out, fill, p, sought) {
-            found = Place::At(p);
+            found = Some(p);
         }
         r = wire::two_in(work, at + RECORD_LINK);
     }
@@ -119,7 +118,7 @@ fn find(work: &[u8], out: &[u8], fill: usize, bucket: usize, sought: Sought) -> 
 }
 
 // The place of the first entry of this type and title.
-fn find_entry(work: &[u8], out: &[u8], fill: usize, kind: u16, title: u16) -> Place
+fn find_entry(work: &[u8], out: &[u8], fill: usize, kind: u16, title: u16) -> Option<usize>
     requires { (65536 ≤ length work.now) × ((fill ≤ length out.now) × (fill ≤ 65535)) }
     ensures { ((es : List Entry) → Written out.now fill es → Indexed work.now es → result ≡ entry_place kind title es) × Below 65536 result }
 {
@@ -128,9 +127,9 @@ fn find_entry(work: &[u8], out: &[u8], fill: usize, kind: u16, title: u16) -> Pl
 }
 
 // The place of the first attribute of this name in the entry at a place, which is the first of its type and title.
-fn find_attribute(work: &[u8], out: &[u8], fill: usize, at: usize, name: u16) -> Place
+fn find_attribute(work: &[u8], out: &[u8], fill: usize, at: usize, name: u16) -> Option<usize>
     requires { (65536 ≤ length work.now) × ((fill ≤ length out.now) × ((fill ≤ 65535) × (at ≤ 65535))) }
-    ensures { ((es : List Entry) (kind title : ℕ) (e : Entry) → Written out.now fill es → Indexed work.now es → entry_place kind title es ≡ At at → first_with (is_entry kind title) es ≡ some e → result ≡ attribute_place name e at) × Below 65536 result }
+    ensures { ((es : List Entry) (kind title : ℕ) (e : Entry) → Written out.now fill es → Indexed work.now es → entry_place kind title es ≡ Some at → first_with (is_entry kind title) es ≡ some e → result ≡ attribute_place name e at) × Below 65536 result }
 {
     let from = at + ENTRY_ATTRIBUTES;
     let end = wire::end_of(out, at);
@@ -145,17 +144,20 @@ fn find_attribute(work: &[u8], out: &[u8], fill: usize, at: usize, name: u16) ->
 }
 
 // What the catalog so far has under this type, title and attribute name.
-pub fn read(work: &[u8], out: &[u8], fill: usize, kind: u16, title: u16, name: u16) -> Found
+pub fn read(
+    work: &[u8],
+    out: &[u8],
+    fill: usize,
+    kind: u16,
+    title: u16,
+    name: u16,
+) -> Option<Labelled>
     requires { (65536 ≤ length work.now) × ((fill ≤ length out.now) × (fill ≤ 65535)) }
     ensures { (es : List Entry) → Written out.now fill es → Indexed work.now es → result ≡ found_in (look_up kind title name es) }
 {
-    let Place::At(entry) = find_entry(work, out, fill, kind, title) else {
-        return Found::Nothing;
-    };
-    let Place::At(at) = find_attribute(work, out, fill, entry, name) else {
-        return Found::Nothing;
-    };
-    Found::Content(catalog::read_attribute(out, at))
+    let entry = find_entry(work, out, fill, kind, title)?;
+    let at = find_attribute(work, out, fill, entry, name)?;
+    Some(catalog::read_attribute(out, at))
 }
 
 // Whether the catalog so far has an entry of this type and title.
@@ -163,10 +165,7 @@ pub fn has_entry(work: &[u8], out: &[u8], fill: usize, kind: u16, title: u16) ->
     requires { (65536 ≤ length work.now) × ((fill ≤ length out.now) × (fill ≤ 65535)) }
     ensures { (es : List Entry) → Written out.now fill es → Indexed work.now es → result ≡ any (is_entry kind title) es }
 {
-    match find_entry(work, out, fill, kind, title) {
-        Place::At(_) => true,
-        Place::Nothing => false,
-    }
+    find_entry(work, out, fill, kind, title).is_some()
 }
 
 // ---- Storing
@@ -196,10 +195,8 @@ pub fn index_entry(work: &mut [u8], out: &[u8], entry: usize, end: usize)
 {
     let title = wire::two_at(out, entry + ENTRY_TITLE);
     add_record(work, entry_bucket(title), entry as u16);
-    let mut q = entry + ENTRY_ATTRIBUTES;
-    while q < end {
+    for q in wire::fields_in(out, entry + ENTRY_ATTRIBUTES, end) {
         let name = wire::two_at(out, q + ATTRIBUTE_NAME);
         add_record(work, attribute_bucket(entry, end, name), q as u16);
-        q = wire::end_of(out, q);
     }
 }

@@ -1,4 +1,5 @@
 -- From slots to cells by scope number and name. No invariant is needed: the first match determines every cell.
+use Rattle.std.proofs.lemmas.Bool.{false_from_ne_true}
 use mathlib.Core.Path.{◌≡◌, refl, sym, ap, ◌∙◌}
 use mathlib.Core.Bool.{Bool, true, false, not, ◌&&◌, false≢true}
 use mathlib.Core.Option.{none}
@@ -11,13 +12,12 @@ use borrow.Author.Tests.{eqb-true, eqb-false, eq-eqb}
 use Rattle.labels.specs.Sets.{no_labels}
 use Rattle.wire.specs.Bytes.{pick}
 use Rattle.rules.specs.State.{no_cell, count, is_some, one_if}
-use Rattle.cells.specs.declared.Found.{Found}
-use Rattle.cells.specs.declared.Found.TheVariants.{At, Nothing}
 use Rattle.cells.specs.Layout.{Slot, slot, put_at}
 use Rattle.cells.specs.Slots.{hit, hit_as, is_for, in_use, is_reached, never_used, value_in, mark_in, cell_in, renewed, claimed, last_below, slot_in, slot_for, Open, FindsOpen, opened, full, Claims, claims, refuses, Obtains, holds, lacks}
 use Rattle.cells.specs.Memory.{cell_at, cells_in, used_in}
 use Rattle.cells.proofs.Tables.{put_same, put_other, put_put, put_kept}
 use Rattle.cells.proofs.Search.{Below, was_last, not_last, last_new, count_new, count_all, count_le, count_room}
+use Rattle.std.specs.Prelude.{Option, Some, None}
 
 -- ---- Keys
 
@@ -50,12 +50,8 @@ hit_used s n x e = for_used s n x (both (is_reached x) (is_for 1 s n x) e).1
 pub hit_reached : (s n : ℕ) (x : Slot) → hit s n x ≡ true → is_reached x ≡ true
 hit_reached s n x e = (both (is_reached x) (is_for 1 s n x) e).0
 
-pub to_false : (b : Bool) → (b ≡ true → ⊥) → b ≡ false
-to_false true h = absurd (h refl)
-to_false false h = refl
-
 pub free_miss : (s n : ℕ) (x : Slot) → in_use x ≡ false → hit s n x ≡ false
-free_miss s n x e = to_false (hit s n x) (λ h. false≢true (sym e ∙ hit_used s n x h))
+free_miss s n x e = false_from_ne_true (hit s n x) (λ h. false≢true (sym e ∙ hit_used s n x h))
 
 -- a slot that is in use was used
 pub used_once : (x : Slot) → in_use x ≡ true → never_used x ≡ false
@@ -63,10 +59,10 @@ unfolding in_use never_used
 used_once (slot r t s n c m) u = rw (eqb-true t 1 u) refl
 
 pub never_free : (x : Slot) → never_used x ≡ true → in_use x ≡ false
-never_free x e = to_false (in_use x) (λ u. false≢true (sym (used_once x u) ∙ e))
+never_free x e = false_from_ne_true (in_use x) (λ u. false≢true (sym (used_once x u) ∙ e))
 
 pub not_hit : (s n s' n' : ℕ) (x : Slot) → hit s n x ≡ true → (s' ≡ s → n' ≡ n → ⊥) → hit s' n' x ≡ false
-not_hit s n s' n' x e ne = to_false (hit s' n' x) (λ p. (let k = hit_key s n s' n' x e p in ne k.0 k.1))
+not_hit s n s' n' x e ne = false_from_ne_true (hit s' n' x) (λ p. (let k = hit_key s n s' n' x e p in ne k.0 k.1))
 
 pub claimed_hit : (s n : ℕ) (x : Slot) → hit s n (claimed s n x) ≡ true
 unfolding is_reached is_for claimed
@@ -78,14 +74,14 @@ Keeps x y = (s n : ℕ) → hit s n x ≡ hit s n y
 
 -- ---- Slot i becomes the one of s and n, and is of no other key before and after
 
-module _ (f : ℕ → Slot) (i : ℕ) (x : Slot) (s n : ℕ) (found : slot_for (put_at i x f) s n ≡ At i) (apart : (s' n' : ℕ) → (s' ≡ s → n' ≡ n → ⊥) → (hit s' n' x ≡ false) × (hit s' n' (f i) ≡ false)) where
-  kept_cell_lem : (s' n' : ℕ) → hit s' n' (f i) ≡ false → (r : Found) → slot_for f s' n' ≡ r → cell_at (put_at i x f) r ≡ cell_at f r
+module _ (f : ℕ → Slot) (i : ℕ) (x : Slot) (s n : ℕ) (found : slot_for (put_at i x f) s n ≡ Some i) (apart : (s' n' : ℕ) → (s' ≡ s → n' ≡ n → ⊥) → (hit s' n' x ≡ false) × (hit s' n' (f i) ≡ false)) where
+  kept_cell_lem : (s' n' : ℕ) → hit s' n' (f i) ≡ false → (r : Option ℕ) → slot_for f s' n' ≡ r → cell_at (put_at i x f) r ≡ cell_at f r
   unfolding cell_at slot_in
-  kept_cell_lem s' n' miss (At j) q =
+  kept_cell_lem s' n' miss (Some j) q =
       let h = was_last 512 (λ k. hit s' n' (f k)) j q in
       let ne : j ≡ i → ⊥ = λ e. (let a : hit s' n' (f i) ≡ true = rw e at h.passes in let z : ◌≡◌ {A = ℕ} 0 1 = cc in omega arith) in
       rw (put_other i x f j ne)
-  kept_cell_lem s' n' miss Nothing q = refl
+  kept_cell_lem s' n' miss None q = refl
 
   other_cell : (s' n' : ℕ) → (s' ≡ s → n' ≡ n → ⊥) → cell_at (put_at i x f) (slot_for (put_at i x f) s' n') ≡ cell_at f (slot_for f s' n')
   unfolding slot_in
@@ -123,12 +119,12 @@ unfolding used_in
 used_small f = count_le 512 (λ i. in_use (f i))
 
 -- a key that is there
-module _ (f : ℕ → Slot) (s n i : ℕ) (found : slot_for f s n ≡ At i) where
+module _ (f : ℕ → Slot) (s n i : ℕ) (found : slot_for f s n ≡ Some i) where
   there : Below 512 (λ k. hit s n (f k)) i
   unfolding slot_in
   there = was_last 512 (λ k. hit s n (f k)) i found
 
-  still_found : (x : Slot) → Keeps x (f i) → slot_for (put_at i x f) s n ≡ At i
+  still_found : (x : Slot) → Keeps x (f i) → slot_for (put_at i x f) s n ≡ Some i
   unfolding slot_in
   still_found x keeps = ap (last_below 512) (put_kept (hit s n) i x f (keeps s n)) ∙ found
 
@@ -160,9 +156,9 @@ unfolding mark_in claimed
 claimed_mark s n (slot r t a b y m) = refl
 
 -- a new key, in a free slot
-module _ (f : ℕ → Slot) (s n i : ℕ) (missing : slot_for f s n ≡ Nothing) (free : Open f i) where
+module _ (f : ℕ → Slot) (s n i : ℕ) (missing : slot_for f s n ≡ None) (free : Open f i) where
   module _ (x : Slot) (is : hit s n x ≡ true) where
-    new_found : slot_for (put_at i x f) s n ≡ At i
+    new_found : slot_for (put_at i x f) s n ≡ Some i
     unfolding slot_in
     new_found = last_new 512 (λ k. hit s n (f k)) (λ k. hit s n (put_at i x f k)) i (not_last 512 (λ k. hit s n (f k)) missing) free.below (rw (put_same i x f) is) (λ l ne. ap (hit s n) (put_other i x f l ne))
 
@@ -197,25 +193,25 @@ module _ (f : ℕ → Slot) (s n i : ℕ) (missing : slot_for f s n ≡ Nothing)
 -- ---- What `obtain` did
 
 module _ (f : ℕ → Slot) (s n : ℕ) where
-  pub ready : (i : ℕ) {q : Found} {f' : ℕ → Slot} → Obtains f s n q f' → q ≡ At i → Ready f s n i f'
-  ready i (holds {i = j} p) e = let same : i ≡ j = cc in ready_old f s n i (p ∙ ap At (sym same))
+  pub ready : (i : ℕ) {q : Option ℕ} {f' : ℕ → Slot} → Obtains f s n q f' → q ≡ Some i → Ready f s n i f'
+  ready i (holds {i = j} p) e = let same : i ≡ j = cc in ready_old f s n i (p ∙ ap Some (sym same))
   ready i (lacks p (claims {i = j} free z)) e = let same : j ≡ i = cc in rw z (rw same (ready_new f s n i p (rw same at free)))
   ready i (lacks p (refuses all)) e = let z : ◌≡◌ {A = ℕ} 0 1 = cc in absurd (omega arith)
 
   -- none was left: there is no such cell, and all are in use
-  pub all_taken : {q : Found} {f' : ℕ → Slot} → Obtains f s n q f' → q ≡ Nothing → (cells_in f s n ≡ no_cell) × (used_in f ≡ 512)
+  pub all_taken : {q : Option ℕ} {f' : ℕ → Slot} → Obtains f s n q f' → q ≡ None → (cells_in f s n ≡ no_cell) × (used_in f ≡ 512)
   unfolding cells_in cell_at used_in
   all_taken (holds p) e = let z : ◌≡◌ {A = ℕ} 0 1 = cc in absurd (omega arith)
   all_taken (lacks p (claims free y)) e = let z : ◌≡◌ {A = ℕ} 0 1 = cc in absurd (omega arith)
   all_taken (lacks p (refuses all)) e = (rw p, count_all 512 (λ k. in_use (f k)) all)
 
   -- where none was left, or the cell has a value already, no slot was changed
-  pub none_changed : {q : Found} {f' : ℕ → Slot} → Obtains f s n q f' → q ≡ Nothing → f' ≡ f
+  pub none_changed : {q : Option ℕ} {f' : ℕ → Slot} → Obtains f s n q f' → q ≡ None → f' ≡ f
   none_changed (holds p) e = refl
   none_changed (lacks p (claims free y)) e = let z : ◌≡◌ {A = ℕ} 0 1 = cc in absurd (omega arith)
   none_changed (lacks p (refuses all)) e = refl
 
-  pub value_kept : {q : Found} {f' : ℕ → Slot} → Obtains f s n q f' → is_some (cells_in f s n).value ≡ true → f' ≡ f
+  pub value_kept : {q : Option ℕ} {f' : ℕ → Slot} → Obtains f s n q f' → is_some (cells_in f s n).value ≡ true → f' ≡ f
   unfolding cells_in cell_at no_cell is_some
   value_kept (holds p) e = refl
   value_kept (lacks p made) e = let none_there : is_some (cells_in f s n).value ≡ false = rw p refl in absurd (false≢true (sym none_there ∙ e))
@@ -230,7 +226,7 @@ freed_again s n (slot r t a b y m) e =
     let k = split_key (eqb a s) (eqb b n) (eqb t 5) there.1 in
     rw (eqb-true a s k.0, eqb-true b n k.1.0, eqb-true t 5 k.1.1, there.0) (refl, (refl, refl))
 
-pub claim_freed : (f : ℕ → Slot) (s n i : ℕ) {f' : ℕ → Slot} {q : Found} → q ≡ slot_in 5 f s n → q ≡ At i → f' ≡ put_at i (renewed (f i)) f → Claims f s n (At i) f'
+pub claim_freed : (f : ℕ → Slot) (s n i : ℕ) {f' : ℕ → Slot} {q : Option ℕ} → q ≡ slot_in 5 f s n → q ≡ Some i → f' ≡ put_at i (renewed (f i)) f → Claims f s n (Some i) f'
 unfolding slot_in
 claim_freed f s n i p at e =
     let found = was_last 512 (λ k. hit_as 5 s n (f k)) i (sym p ∙ at) in
@@ -238,13 +234,13 @@ claim_freed f s n i p at e =
     claims (record {
       below = found.below;
       unused = again.1.0;
-      turn = λ packed k l. to_false (never_used (f k)) (λ never. false≢true (sym again.1.1 ∙ packed k i never (omega arith)));
+      turn = λ packed k l. false_from_ne_true (never_used (f k)) (λ never. false≢true (sym again.1.1 ∙ packed k i never (omega arith)));
     }) (e ∙ rw again.0 refl)
 
-pub open_at : (f : ℕ → Slot) (i : ℕ) {q : Found} → FindsOpen f q → q ≡ At i → Open f i
+pub open_at : (f : ℕ → Slot) (i : ℕ) {q : Option ℕ} → FindsOpen f q → q ≡ Some i → Open f i
 open_at f i (opened {i = j} free) e = let same : j ≡ i = cc in rw same at free
 open_at f i (full all) e = let z : ◌≡◌ {A = ℕ} 0 1 = cc in absurd (omega arith)
 
-pub all_used : (f : ℕ → Slot) (s n : ℕ) {q : Found} → FindsOpen f q → q ≡ Nothing → Claims f s n Nothing f
+pub all_used : (f : ℕ → Slot) (s n : ℕ) {q : Option ℕ} → FindsOpen f q → q ≡ None → Claims f s n None f
 all_used f s n (opened free) e = let z : ◌≡◌ {A = ℕ} 0 1 = cc in absurd (omega arith)
 all_used f s n (full all) e = refuses all

@@ -1,4 +1,5 @@
 -- Freeing a scope: the loop, the cells, and the count, for which the invariant is needed.
+use Rattle.std.proofs.lemmas.Bool.{false_from_ne_true}
 use mathlib.Core.Path.{◌≡◌, refl, sym, ap, ◌∙◌, fun_ext}
 use mathlib.Core.Bool.{Bool, true, false, ◌&&◌, ◌||◌, false≢true}
 use mathlib.Core.List.{List}
@@ -11,8 +12,6 @@ use Rattle.wire.specs.Bytes.{pick, byte}
 use Rattle.wire.specs.Numbers.{high_bytes}
 use Rattle.wire.specs.Runs.{over}
 use Rattle.rules.specs.State.{same_scope, Cell, no_cell, freed, count, free}
-use Rattle.cells.specs.declared.Found.{Found}
-use Rattle.cells.specs.declared.Found.TheVariants.{At, Nothing}
 use Rattle.cells.specs.Layout.{table, Slot, slot, blank_slot, slots_of, beside_slots, put_at}
 use Rattle.cells.specs.Scopes.{scope_of}
 use Rattle.cells.specs.Slots.{StoresAt, hit, is_for, in_use, is_reached, never_used, of_scope, emptied, freed_slot, slot_in, slot_for, last_below, FineSlots}
@@ -21,9 +20,10 @@ use Rattle.cells.proofs.Tables.{put_self}
 use Rattle.cells.proofs.Slots.{never_read, name_of, empty_way}
 use Rattle.cells.proofs.Search.{was_last, not_last, last_nothing, tally, count_zero, count_more, count_same, count_none, count_new, count_split}
 use Rattle.cells.proofs.Scopes.{cell_at_lem, by_number}
-use Rattle.cells.proofs.Cells.{split_key, both, to_false, hit_used, never_free, free_miss, not_hit}
+use Rattle.cells.proofs.Cells.{split_key, both, hit_used, never_free, free_miss, not_hit}
 use Rattle.cells.proofs.Keep.{fine_fewer}
 use Rattle.cells.proofs.Regions.{trail_after, records_after, rest_after, names_by, classes_by}
+use Rattle.std.specs.Prelude.{Option, Some, None}
 
 -- ---- At a slot
 
@@ -111,7 +111,7 @@ freed_rest i s f g e free = e ∙ fun_ext (λ j. go j (ltb j i) refl (ap (λ (h 
     go j false p q = sym (unused_stays s (f j) (sym (ap in_use q) ∙ free j (ltb-false j i p)))
 
 no_hit : (s n : ℕ) (x : Slot) → of_scope s x ≡ false → hit s n x ≡ false
-no_hit s n x o = to_false (hit s n x) (λ h. (let t : of_scope s x ≡ true = hit_scoped s n x h in let z : ◌≡◌ {A = ℕ} 0 1 = cc in omega arith))
+no_hit s n x o = false_from_ne_true (hit s n x) (λ h. (let t : of_scope s x ≡ true = hit_scoped s n x h in let z : ◌≡◌ {A = ℕ} 0 1 = cc in omega arith))
 
 freed_miss : (s n : ℕ) (x : Slot) → hit s n (freed_slot s x) ≡ false
 freed_miss s n x = freed_cases (λ y. hit s n y ≡ false) s x (λ o. free_miss s n (emptied x) (emptied_free x)) (λ o. no_hit s n x o)
@@ -119,7 +119,7 @@ freed_miss s n x = freed_cases (λ y. hit s n y ≡ false) s x (λ o. free_miss 
 freed_keeps : (s s' n : ℕ) (x : Slot) → (s' ≡ s → ⊥) → hit s' n (freed_slot s x) ≡ hit s' n x
 freed_keeps s s' n x ne =
     freed_cases (λ y. hit s' n y ≡ hit s' n x) s x
-    (λ o. free_miss s' n (emptied x) (emptied_free x) ∙ sym (to_false (hit s' n x) (λ h. ne (scope_one s s' n x o h))))
+    (λ o. free_miss s' n (emptied x) (emptied_free x) ∙ sym (false_from_ne_true (hit s' n x) (λ h. ne (scope_one s s' n x o h))))
     (λ o. refl)
 
 freed_stays : (s s' n : ℕ) (x : Slot) → (s' ≡ s → ⊥) → hit s' n x ≡ true → freed_slot s x ≡ x
@@ -142,10 +142,10 @@ freed_never s x =
 -- ---- The cells
 
 module _ (s : ℕ) (f : ℕ → Slot) where
-  stay : (s' n : ℕ) → (s' ≡ s → ⊥) → (r : Found) → slot_for f s' n ≡ r → cell_at (freed_slots s f) r ≡ cell_at f r
+  stay : (s' n : ℕ) → (s' ≡ s → ⊥) → (r : Option ℕ) → slot_for f s' n ≡ r → cell_at (freed_slots s f) r ≡ cell_at f r
   unfolding cell_at freed_slots slot_in
-  stay s' n ne (At j) q = rw (freed_stays s s' n (f j) ne (was_last 512 (λ k. hit s' n (f k)) j q).passes) refl
-  stay s' n ne Nothing q = refl
+  stay s' n ne (Some j) q = rw (freed_stays s s' n (f j) ne (was_last 512 (λ k. hit s' n (f k)) j q).passes) refl
+  stay s' n ne None q = refl
 
   freed_cells : (s' n : ℕ) → cells_in (freed_slots s f) s' n ≡ freed (eqb s' s) (cells_in f s' n)
   unfolding cells_in cell_at freed_slots slot_in freed
@@ -207,7 +207,7 @@ module _ (s : ℕ) (f : ℕ → Slot) (fine : FineSlots f) where
   -- a slot's key was not there before
   not_before : (k n : ℕ) → k < 512 → hit s n (f k) ≡ true → seen k n ≡ false
   unfolding seen
-  not_before k n l e = any_none k (λ j. hit s n (f j)) (λ j b. to_false (hit s n (f j)) (λ h. (let z : j ≡ k = fine.once j k s n (omega arith) l h e in omega arith)))
+  not_before k n l e = any_none k (λ j. hit s n (f j)) (λ j b. false_from_ne_true (hit s n (f j)) (λ h. (let z : j ≡ k = fine.once j k s n (omega arith) l h e in omega arith)))
 
   seen_none : (n : ℕ) → seen 0 n ≡ false
   unfolding seen any_below
@@ -230,11 +230,11 @@ module _ (s : ℕ) (f : ℕ → Slot) (fine : FineSlots f) where
   unfolding cells_in seen cell_at no_cell slot_in
   exists_seen n = go (slot_for f s n) refl
     where
-      go : (r : Found) → slot_for f s n ≡ r → (cell_at f r).exists ≡ any_below 512 (λ j. hit s n (f j))
-      go (At j) q =
+      go : (r : Option ℕ) → slot_for f s n ≡ r → (cell_at f r).exists ≡ any_below 512 (λ j. hit s n (f j))
+      go (Some j) q =
           let h = was_last 512 (λ k. hit s n (f k)) j q in
           hit_used s n (f j) h.passes ∙ sym (any_hit 512 (λ k. hit s n (f k)) j h.below h.passes)
-      go Nothing q = sym (any_none 512 (λ k. hit s n (f k)) (λ j l. not_last 512 (λ k. hit s n (f k)) q j (omega arith)))
+      go None q = sym (any_none 512 (λ k. hit s n (f k)) (λ j l. not_last 512 (λ k. hit s n (f k)) q j (omega arith)))
 
   used_or : (x : Slot) → in_use x ≡ (in_use (freed_slot s x) || of_scope s x)
   used_or x = freed_cases (λ y. in_use x ≡ (in_use y || of_scope s x)) s x (λ o. rw (emptied_free x, o) (scoped_used s x o)) (λ o. rw o (or_false (in_use x)))

@@ -1,18 +1,18 @@
 -- The invariant `FineSlots` is kept by what `obtain` does, and by a store that keeps a slot's key.
+use Rattle.std.proofs.lemmas.Bool.{false_from_ne_true}
 use mathlib.Core.Path.{◌≡◌, refl, sym, ap, ◌∙◌}
 use mathlib.Core.Bool.{Bool, true, false, false≢true}
 use Prim.Native.Nat.{ℕ, ◌≤◌, ◌<◌}
 use native.Mathlib.Omega.{arith}
 use lib.Dec.{eqb, ltb}
 use borrow.Author.Tests.{eqb-true, eqb-false, ltb-true, ltb-false}
-use Rattle.cells.specs.declared.Found.{Found}
-use Rattle.cells.specs.declared.Found.TheVariants.{Nothing}
 use Rattle.cells.specs.Layout.{Slot, put_at}
 use Rattle.cells.specs.Slots.{hit, in_use, is_reached, never_used, claimed, slot_in, slot_for, Packed, claims, refuses, Obtains, holds, lacks, FineSlots}
 use Rattle.cells.proofs.Chains.{is_or_not}
 use Rattle.cells.proofs.Search.{not_last}
 use Rattle.cells.proofs.Tables.{put_same, put_other}
-use Rattle.cells.proofs.Cells.{Keeps, hit_key, hit_used, hit_reached, used_once, to_false, claimed_hit}
+use Rattle.cells.proofs.Cells.{Keeps, hit_key, hit_used, hit_reached, used_once, claimed_hit}
+use Rattle.std.specs.Prelude.{Option, None}
 
 -- where every key was there before, in its slot
 pub fine_fewer : (f f' : ℕ → Slot) → ((i s n : ℕ) → hit s n (f' i) ≡ true → hit s n (f i) ≡ true) → ((i : ℕ) → in_use (f' i) ≡ true → is_reached (f' i) ≡ true)
@@ -37,7 +37,7 @@ put_packed f i x used before packed k j e l =
 pub fine_keeps : (f : ℕ → Slot) (i : ℕ) (x : Slot) (s n : ℕ) → Keeps x (f i) → hit s n (f i) ≡ true → FineSlots f → FineSlots (put_at i x f)
 fine_keeps f i x s n keeps is fine = fine_fewer f (put_at i x f) (λ j s n h. go j s n h (eqb j i) refl) (put_linked f i x (hit_reached s n x (keeps s n ∙ is)) fine)
     (put_packed f i x (used_once x (hit_used s n x (keeps s n ∙ is)))
-    (λ k l. to_false (never_used (f k)) (λ e. false≢true (sym (used_once (f i) (hit_used s n (f i) is)) ∙ fine.packed k i e (omega arith)))) fine.packed) fine
+    (λ k l. false_from_ne_true (never_used (f k)) (λ e. false≢true (sym (used_once (f i) (hit_used s n (f i) is)) ∙ fine.packed k i e (omega arith)))) fine.packed) fine
   where
     go : (j s n : ℕ) → hit s n (put_at i x f j) ≡ true → (t : Bool) → eqb j i ≡ t → hit s n (f j) ≡ true
     go j s n h true p =
@@ -47,7 +47,7 @@ fine_keeps f i x s n keeps is fine = fine_fewer f (put_at i x f) (λ j s n h. go
     go j s n h false p = sym (ap (hit s n) (put_other i x f j (eqb-false j i p))) ∙ h
 
 -- a new key
-module _ (f : ℕ → Slot) (j : ℕ) (x : Slot) (s n : ℕ) (missing : slot_for f s n ≡ Nothing) (is : hit s n x ≡ true) (below : n < 1024) (before : (k : ℕ) → k < j → never_used (f k) ≡ false) (fine : FineSlots f) where
+module _ (f : ℕ → Slot) (j : ℕ) (x : Slot) (s n : ℕ) (missing : slot_for f s n ≡ None) (is : hit s n x ≡ true) (below : n < 1024) (before : (k : ℕ) → k < j → never_used (f k) ≡ false) (fine : FineSlots f) where
   -- no old slot has it
   clash : (b s' n' : ℕ) → b < 512 → hit s' n' (put_at j x f j) ≡ true → hit s' n' (f b) ≡ true → ⊥
   unfolding slot_in
@@ -74,7 +74,7 @@ module _ (f : ℕ → Slot) (j : ℕ) (x : Slot) (s n : ℕ) (missing : slot_for
   fine_new : FineSlots (put_at j x f)
   fine_new = record { once = λ a b s' n' p q h h'. once_go a b s' n' p q h h' (eqb a j) refl (eqb b j) refl; small = λ a s' n' h. small_go a s' n' h (eqb a j) refl; linked = put_linked f j x (hit_reached s n x is) fine; packed = put_packed f j x (used_once x (hit_used s n x is)) before fine.packed }
 
-pub fine_obtained : (f : ℕ → Slot) (s n : ℕ) {q : Found} {f' : ℕ → Slot} → n < 1024 → Obtains f s n q f' → FineSlots f → FineSlots f'
+pub fine_obtained : (f : ℕ → Slot) (s n : ℕ) {q : Option ℕ} {f' : ℕ → Slot} → n < 1024 → Obtains f s n q f' → FineSlots f → FineSlots f'
 fine_obtained f s n below (holds p) fine = fine
 fine_obtained f s n below (lacks p (claims {i = i} free e)) fine = rw e (fine_new f i (claimed s n (f i)) s n p (claimed_hit s n (f i)) below (free.turn fine.packed) fine)
 fine_obtained f s n below (lacks p (refuses all)) fine = fine

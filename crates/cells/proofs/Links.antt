@@ -97,21 +97,13 @@ pub no_head : (w : List ℕ) (n p : ℕ) → 512 ≤ p → 1024 ≤ n → link_i
 unfolding link_in
 no_head w n p l h = rw (le-ltb p 512 l, le-ltb n 1024 h) refl
 
-place_slot : (n p : ℕ) → p < 512 → place_at n p ≡ link_at p
+pub place_slot : (n p : ℕ) → p < 512 → place_at n p ≡ link_at p
 unfolding place_at
 place_slot n p l = rw (lt-ltb p 512 l) refl
 
-place_head : (n p : ℕ) → 512 ≤ p → place_at n p ≡ record_at n
+pub place_head : (n p : ℕ) → 512 ≤ p → place_at n p ≡ record_at n
 unfolding place_at
 place_head n p l = rw (le-ltb p 512 l) refl
-
--- put_link
-module _ (w : List ℕ) (n p v : ℕ) {w' : List ℕ} where
-  pub put_slot : p < 512 → w' ≡ over w (link_at p) (high_bytes 2 v) → w' ≡ over w (place_at n p) (high_bytes 2 v)
-  put_slot l e = rw (place_slot n p l) e
-
-  pub put_head : 512 ≤ p → w' ≡ over w (record_at n) (high_bytes 2 v) → w' ≡ over w (place_at n p) (high_bytes 2 v)
-  put_head l e = rw (place_head n p l) e
 
 -- ---- The store of one link
 

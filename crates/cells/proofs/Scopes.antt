@@ -6,7 +6,7 @@ use native.Mathlib.Omega.{arith}
 use lib.Dec.{eqb, ltb}
 use borrow.Author.Tests.{eqb-true, eqb-false, ltb-true, ltb-false, ne_eqb, lt-ltb, le-ltb}
 use Rattle.wire.specs.Bytes.{pick}
-use Rattle.rules.specs.State.{Scope, top_scope, node_scope, class_scope, body_scope, same_scope, Cell, no_cell, Cells}
+use Rattle.rules.specs.State.{Scope, top_scope, node_scope, class_scope, body_scope, same_scope, Cell, no_cell}
 use Rattle.rules.proofs.Lists.{scope_same, scope_only}
 use Rattle.cells.specs.Scopes.{scope_number, scope_of, numbered}
 use Rattle.cells.specs.Memory.{by_scope}

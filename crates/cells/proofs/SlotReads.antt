@@ -1,26 +1,31 @@
 -- One law for each way through the functions that read a slot.
+use Rattle.std.proofs.lemmas.Bool.{false_from_ne_true}
 use mathlib.Core.Path.{◌≡◌, refl, sym, ap, ◌∙◌}
 use mathlib.Core.Bool.{Bool, true, false, not, false≢true}
 use mathlib.Core.List.{List}
 use mathlib.Core.Option.{Option, none, some}
 use Prim.Native.Nat.{ℕ, suc, ◌+◌, ◌*◌, ◌-◌, ◌%◌, ◌≤◌, ◌<◌}
 use native.Mathlib.Omega.{arith}
-use lib.Dec.{eqb}
-use borrow.Author.Tests.{eqb-true, eq-eqb, ne_eqb}
+use lib.Dec.{eqb, ltb}
+use borrow.Author.Tests.{eqb-true, eqb-false, eq-eqb, ne_eqb, lt-ltb}
 use Rattle.wire.specs.Bytes.{pick, byte, two}
 use Rattle.labels.specs.Bytes.{set_at}
 use Rattle.values.specs.declared.Labelled.{Labelled}
 use Rattle.records.specs.Record.{kind_at, record_in, is_empty}
 use Rattle.rules.specs.State.{is_some}
-use Rattle.cells.specs.declared.Found.TheVariants.{At, Nothing}
-use Rattle.cells.specs.Chains.{counted, Way, begin, step}
-use Rattle.cells.specs.Layout.{key_at, body_at, body_mark, record_at, link_at, name_in, chain_of, chain_in, link_in, next_in, chained, LastAbove, slot_at, slots_of, content_in}
-use Rattle.cells.specs.Slots.{in_use, never_used, is_reached, is_for, hit_as, of_scope, value_in, mark_in, last_below, slot_in, Open}
+use Rattle.cells.specs.Chains.{reference, counted, Way, begin, step}
+use Rattle.cells.specs.Layout.{place_at, link_at, record_at, key_at, body_at, body_mark, record_at, link_at, name_in, chain_of, chain_in, link_in, next_in, chained, LastAbove, slot_at, slots_of, content_in}
+use Rattle.cells.specs.Slots.{in_use, never_used, is_reached, is_for, hit_as, of_scope, value_in, mark_in, last_below, slot_in, Open, FindsOpen, opened, full}
 use Rattle.cells.proofs.Chains.{counted_none, counted_past, counted_other, counted_some}
 use Rattle.cells.proofs.Search.{last_zero, last_open, last_skip}
 use Rattle.cells.proofs.Links.{next_falls, next_is, chain_on, chain_gap, chain_small, chain_is, link_slot, link_head}
-use Rattle.cells.proofs.Cells.{split_key, both, to_false, used_once}
+use Rattle.cells.proofs.Cells.{split_key, both, used_once}
 use Rattle.cells.proofs.Slots.{slot_in_lem, used_read, never_read, reached_is}
+use Rattle.std.specs.Prelude.{Option as CodeOption, Some, None}
+use Rattle.std.specs.List.{AllWithin, HoldsAt}
+use Rattle.std.specs.Option.{MatchOption, option_eq}
+use Rattle.std.proofs.lemmas.List.{length-take-le, get_or-take}
+use lib.ListN.{length, take}
 
 -- a number whose low byte is not that of n is not n
 low_differs : (w : List ℕ) (p q n : ℕ) → q ≡ p + 1 → (byte w q ≡ n % 256 → ⊥) → byte w q < 256 → two w p ≡ n → ⊥
@@ -79,7 +84,7 @@ module _ (w : List ℕ) (i : ℕ) (below : i < 512) where
   next_turn never before = record {
     below = below;
     unused = used_read w i below ∙ rw never refl;
-    turn = λ packed k l. to_false (never_used (slots_of w k)) (λ other. before (omega arith) (eqb-true (byte w (i - 1)) 0 (sym (never_read w (i - 1) (omega arith)) ∙ packed k (i - 1) other (omega arith))));
+    turn = λ packed k l. false_from_ne_true (never_used (slots_of w k)) (λ other. before (omega arith) (eqb-true (byte w (i - 1)) 0 (sym (never_read w (i - 1) (omega arith)) ∙ packed k (i - 1) other (omega arith))));
   }
 
   -- has_value, value_at, labels_at, mark_at
@@ -101,52 +106,84 @@ module _ (w : List ℕ) (i : ℕ) (below : i < 512) where
 
 -- ---- Chains
 
--- counted_link: r leads to slot r - 1
+-- counted_link: a link r that is not 0 leads to slot i, one less
 module _ (w : List ℕ) (n p r : ℕ) where
-  one_less : (r ≡ 0 → ⊥) → r ≡ suc (r - 1)
-  one_less ne = omega arith
-
   pub link_none : r ≡ 0 → 0 ≡ counted (chain_in w) n p r
   link_none e = rw e (sym (counted_none (chain_in w) n p))
 
-  pub link_past : (r ≡ 0 → ⊥) → p ≤ r - 1 → 0 ≡ counted (chain_in w) n p r
-  link_past ne l = sym (ap (counted (chain_in w) n p) (one_less ne) ∙ counted_past (chain_in w) n p (r - 1) l)
+  module _ {i : ℕ} (one : r ≡ suc i) where
+    pub link_past : p ≤ i → 0 ≡ counted (chain_in w) n p r
+    link_past l = sym (ap (counted (chain_in w) n p) one ∙ counted_past (chain_in w) n p i l)
 
-  pub link_other : (r ≡ 0 → ⊥) → r - 1 < p → {q : ℕ} → q ≡ chain_in w (r - 1) → (q ≡ n → ⊥) → 0 ≡ counted (chain_in w) n p r
-  link_other ne l e other = sym (ap (counted (chain_in w) n p) (one_less ne) ∙ counted_other (chain_in w) n p (r - 1) l (λ z. other (e ∙ z)))
+    pub link_other : i < p → {q : ℕ} → q ≡ chain_in w i → (q ≡ n → ⊥) → 0 ≡ counted (chain_in w) n p r
+    link_other l e other = sym (ap (counted (chain_in w) n p) one ∙ counted_other (chain_in w) n p i l (λ z. other (e ∙ z)))
 
-  pub link_some : (r ≡ 0 → ⊥) → r - 1 < p → {q : ℕ} → q ≡ chain_in w (r - 1) → q ≡ n → r ≡ counted (chain_in w) n p r
-  link_some ne l e own = sym (ap (counted (chain_in w) n p) (one_less ne) ∙ counted_some (chain_in w) n p (r - 1) l (sym e ∙ own) ∙ sym (one_less ne))
+    pub link_some : i < p → {q : ℕ} → q ≡ chain_in w i → q ≡ n → suc i ≡ counted (chain_in w) n p r
+    link_some l e own = sym (ap (counted (chain_in w) n p) one ∙ counted_some (chain_in w) n p i l (sym e ∙ own))
 
--- first_of, after
-pub next_by : (w : List ℕ) (n p : ℕ) {r c : ℕ} → r ≡ link_in w n p → c ≡ counted (chain_in w) n p r → c ≡ next_in w n p
-unfolding next_in
-next_by w n p e ec = ec ∙ rw e refl
+-- next_of
+pub next_by : (w : List ℕ) (n p : ℕ) {q r c : ℕ} → n < 1024 → q ≡ place_at n p → r ≡ two w q → c ≡ counted (chain_in w) n p r → c ≡ next_in w n p
+unfolding next_in link_in place_at
+next_by w n p {q} {r} few place read counts = counts ∙ ap (counted (chain_in w) n p) (read ∙ ap (two w) place ∙ go (ltb p 512))
+  where
+    go : (b : Bool) → two w (pick b (link_at p) (record_at n)) ≡ pick b (two w (link_at p)) (pick (ltb n 1024) (two w (record_at n)) 0)
+    go true = refl
+    go false = rw (lt-ltb n 1024 few) refl
 
-pub next_low : (w : List ℕ) (n p : ℕ) {r : ℕ} → r ≡ next_in w n p → r ≤ p
-next_low w n p e = omega (arith, e, next_falls w n p)
+-- what follows a slot is one before it
+module _ (w : List ℕ) (n p : ℕ) (o : CodeOption ℕ) (follows : reference o ≡ next_in w n p) where
+  pub next_low : reference o ≤ p
+  next_low = omega (arith, follows, next_falls w n p)
+
+  module _ {i : ℕ} (is : o ≡ Some i) where
+    next_slot : next_in w n p ≡ suc i
+    next_slot = sym follows ∙ ap reference is
+
+    pub next_less : i < p
+    next_less = omega (arith, next_slot, next_falls w n p)
 
 pub last_small : (w : List ℕ) (n j p : ℕ) → LastAbove w n j p → p ≤ 512
 last_small w n j p at = chain_small w n p at.way
 
--- last_above: at the loop's head p is on the chain's way, above j, and r is what follows it
-pub record Walked (w : List ℕ) (n j p r : ℕ) : Type 0 where
+-- last_above: at the loop's head p is on the chain's way, above j
+pub record Walked (w : List ℕ) (n j p : ℕ) : Type 0 where
   pub way : Way (next_in w n) p
   pub above : j < p
-  pub follows : r ≡ next_in w n p
-  pub small : r ≤ 512
 
 module _ (w : List ℕ) (n j : ℕ) where
-  pub walk_start : {r : ℕ} → j < 512 → r ≡ next_in w n 512 → Walked w n j 512 r
-  walk_start l e = record { way = begin; above = l; follows = e; small = next_low w n 512 e }
+  pub walk_start : j < 512 → Walked w n j 512
+  walk_start l = record { way = begin; above = l }
 
-  pub walk_next : (p r : ℕ) {r' : ℕ} → Walked w n j p r → j + 1 < r → r' ≡ next_in w n (r - 1) → Walked w n j (r - 1) r'
-  walk_next p r at l e =
-      let one : r ≡ suc (r - 1) = omega arith in
-      record { way = step at.way (sym at.follows ∙ one); above = omega arith; follows = e; small = omega (arith, next_low w n (r - 1) e, at.small) }
+  module _ (p : ℕ) (at : Walked w n j p) where
+    pub walk_small : p ≤ 512
+    walk_small = chain_small w n p at.way
 
-  pub walk_end : (p r : ℕ) → Walked w n j p r → r ≤ j + 1 → LastAbove w n j p
-  walk_end p r at l = record { way = at.way; above = at.above; last = omega (arith, at.follows) }
+    module _ (o : CodeOption ℕ) (follows : reference o ≡ next_in w n p) where
+      pub walk_next : {i : ℕ} → o ≡ Some i → j < i → Walked w n j i
+      walk_next is l = record { way = step at.way (next_slot w n p o follows is); above = l }
+
+      pub walk_last : {i : ℕ} → o ≡ Some i → i ≤ j → LastAbove w n j p
+      walk_last is l = record { way = at.way; above = at.above; last = omega (arith, next_slot w n p o follows is) }
+
+      pub walk_end : o ≡ None → LastAbove w n j p
+      walk_end is = let none : next_in w n p ≡ 0 = sym follows ∙ ap reference is in record { way = at.way; above = at.above; last = omega arith }
+
+-- take_out: whether slot j is what follows
+pub follows_other : (o : CodeOption ℕ) (j : ℕ) {b : Bool} → b ≡ not (option_eq eqb o (Some j)) → b ≡ true → reference o ≡ j + 1 → ⊥
+follows_other (Some i) j e h at = let apart : eqb i j ≡ false = not_true (eqb i j) (sym e ∙ h) in eqb-false i j apart (omega arith)
+  where
+    not_true : (x : Bool) → not x ≡ true → x ≡ false
+    not_true true h = absurd (false≢true h)
+    not_true false h = refl
+follows_other None j e h at = omega arith
+
+pub follows_it : (o : CodeOption ℕ) (j : ℕ) {b : Bool} → b ≡ not (option_eq eqb o (Some j)) → b ≡ false → reference o ≡ j + 1
+follows_it (Some i) j e h = let same : i ≡ j = eqb-true i j (not_false (eqb i j) (sym e ∙ h)) in omega arith
+  where
+    not_false : (x : Bool) → not x ≡ false → x ≡ true
+    not_false true h = refl
+    not_false false h = absurd (false≢true (sym h))
+follows_it None j e h = absurd (false≢true (sym h ∙ e))
 
 -- find: at the loop's head p is on the way of the chain c, l is its link, and the slots below p find what the whole search finds
 module _ (w : List ℕ) (s n t c : ℕ) where
@@ -174,53 +211,65 @@ module _ (w : List ℕ) (s n t c : ℕ) where
   pub left_small : {p l : ℕ} → Left p l → p ≤ 512
   left_small {p} left = chain_small w c p left.way
 
-  -- r is what follows p
-  module _ (p l : ℕ) (left : Left p l) {r : ℕ} (counts : r ≡ counted (chain_in w) c p l) where
-    follows : next_in w c p ≡ r
+  -- o is what follows p
+  module _ (p l : ℕ) (left : Left p l) (o : CodeOption ℕ) (counts : reference o ≡ counted (chain_in w) c p l) where
+    follows : next_in w c p ≡ reference o
     unfolding next_in
     follows = rw (sym left.link) (sym counts)
 
-    skipped : last_below r test ≡ slot_in t (slots_of w) s n
+    skipped : last_below (reference o) test ≡ slot_in t (slots_of w) s n
     skipped =
         rw (sym follows) (sym (last_skip p (next_in w c p) test (next_falls w c p)
-        (λ i a b. to_false (test i) (λ h. false≢true (sym (chain_gap w c p i left.way b a) ∙ hit_chained left.chain i (omega (arith, left_small left)) h)))) ∙ left.search)
+        (λ i a b. false_from_ne_true (test i) (λ h. false≢true (sym (chain_gap w c p i left.way b a) ∙ hit_chained left.chain i (omega (arith, left_small left)) h)))) ∙ left.search)
 
-    pub left_none_lem : r ≡ 0 → Nothing ≡ slot_in t (slots_of w) s n
+    pub left_none_lem : o ≡ None → None ≡ slot_in t (slots_of w) s n
     left_none_lem e = let none_left : last_below 0 test ≡ slot_in t (slots_of w) s n = rw e at skipped in sym (last_zero test) ∙ none_left
 
-    module _ (some : r ≡ 0 → ⊥) where
-      leads : (link_in w c p ≡ suc (r - 1)) × ((r - 1 < p) × (chain_in w (r - 1) ≡ c))
-      leads = next_is w c p (r - 1) (follows ∙ omega arith)
+    module _ {i : ℕ} (is : o ≡ Some i) where
+      leads : (link_in w c p ≡ suc i) × ((i < p) × (chain_in w i ≡ c))
+      leads = next_is w c p i (follows ∙ ap reference is)
 
-      pub left_link : l ≡ r
-      left_link = let e : l ≡ suc (r - 1) = left.link ∙ leads.0 in omega arith
+      pub left_below : i < p
+      left_below = leads.1.0
 
-      pub left_below : l - 1 < p
-      left_below = omega (arith, left_link, leads.1.0)
+      pub left_slot : i < 512
+      left_slot = omega (arith, left_below, left_small left)
 
-      left_way : Way (next_in w c) (l - 1)
-      left_way = step {i = l - 1} left.way (follows ∙ omega (arith, left_link))
+      left_way : Way (next_in w c) i
+      left_way = step left.way (follows ∙ ap reference is)
 
-      module _ {b : Bool} (tested : b ≡ is_for t s n (slots_of w (l - 1))) where
+      module _ {b : Bool} (tested : b ≡ is_for t s n (slots_of w i)) where
         -- it is a slot of the chain
-        passes : test (l - 1) ≡ b
+        passes : test i ≡ b
         passes =
-            let below : l - 1 < 512 = omega (arith, left_below, left_small left) in
-            let there : is_reached (slots_of w (l - 1)) ≡ true = reached_is w (l - 1) below ∙ rw (chain_is w c (l - 1) left_way below) (chain_on w c (l - 1) left_way below) in
+            let there : is_reached (slots_of w i) ≡ true = reached_is w i left_slot ∙ rw (chain_is w c i left_way left_slot) (chain_on w c i left_way left_slot) in
             rw there (sym tested)
 
-        found : pick b (At (l - 1)) (last_below (l - 1) test) ≡ slot_in t (slots_of w) s n
-        found =
-            let one : r ≡ suc (l - 1) = omega (arith, left_link) in
-            sym (ap (λ (k : ℕ). last_below k test) one ∙ last_open (l - 1) test ∙ ap (λ (u : Bool). pick u (At (l - 1)) (last_below (l - 1) test)) passes) ∙ skipped
+        found : pick b (Some i) (last_below i test) ≡ slot_in t (slots_of w) s n
+        found = sym (ap (λ (x : CodeOption ℕ). last_below (reference x) test) is ∙ last_open i test ∙ ap (λ (u : Bool). pick u (Some i) (last_below i test)) passes) ∙ skipped
 
-        pub left_found : b ≡ true → At (l - 1) ≡ slot_in t (slots_of w) s n
+        pub left_found : b ≡ true → Some i ≡ slot_in t (slots_of w) s n
         left_found e = rw e at found
 
-        pub left_next : b ≡ false → {l' : ℕ} → l' ≡ two w (link_at (l - 1)) → Left (l - 1) l'
+        pub left_next : b ≡ false → {l' : ℕ} → l' ≡ two w (link_at i) → Left i l'
         left_next e link = record {
           chain = left.chain;
           way = left_way;
-          link = link ∙ sym (link_slot w c (l - 1) (omega (arith, left_below, left_small left)));
+          link = link ∙ sym (link_slot w c i left_slot);
           search = rw e at found;
         }
+
+-- find_free: the first state that is not that of a slot in use
+abbrev pub Used : ℕ → Type 0
+Used state = state ≡ 1
+
+pub first_free : (w : List ℕ) → 512 ≤ length w → (r : CodeOption ℕ)
+    → MatchOption r (AllWithin Used (take 512 w) 0 (length (take 512 w))) (λ i. (i < length (take 512 w)) × HoldsAt (λ state. Used state → ⊥) (take 512 w) i × AllWithin Used (take 512 w) 0 i)
+    → FindsOpen (slots_of w) r
+first_free w room (Some i) h =
+    let size : length (take 512 w) ≡ 512 = length-take-le 512 w room in
+    let below : i < 512 = omega arith in
+    opened (turn_at w i below (λ k l. used_read w k (omega arith) ∙ eq-eqb (byte w k) 1 (sym (get_or-take 512 w k 0 (omega arith)) ∙ h.2 k 0 (omega arith) l)) (λ e. h.1 0 (get_or-take 512 w i 0 below ∙ e)))
+first_free w room None h =
+    let size : length (take 512 w) ≡ 512 = length-take-le 512 w room in
+    full (λ k l. used_read w k l ∙ eq-eqb (byte w k) 1 (sym (get_or-take 512 w k 0 l) ∙ h k 0 (omega arith) (omega arith)))

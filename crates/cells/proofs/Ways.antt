@@ -14,10 +14,6 @@ use Rattle.values.specs.declared.Reason.TheVariants.{AssignedAgain, CellLimit}
 use Rattle.wire.specs.Bytes.{pick}
 use Rattle.rules.specs.Outcome.{Outcome, refused, done, ◌>>=◌, refuse_if}
 use Rattle.rules.specs.State.{Scope, same_scope, Cell, no_cell, value_into, mark_into, Entry, State, cells_for, is_some, one_if, assign}
-use Rattle.cells.specs.declared.Found.{Found}
-use Rattle.cells.specs.declared.Found.TheVariants.{At, Nothing}
-use Rattle.cells.specs.declared.Stored.{Stored}
-use Rattle.cells.specs.declared.Stored.TheVariants.{Done, HasValue, NoRoom}
 use Rattle.cells.specs.Layout.{body_at, body_mark, Slot, slot, slots_of, beside_slots, trail_of, put_at}
 use Rattle.cells.specs.Scopes.{scope_of}
 use Rattle.cells.specs.Slots.{StoresAt, hit_as, is_for, is_reached, in_use, value_in, mark_in, cell_in, filled, marked, slot_in, slot_for, Obtains}
@@ -28,6 +24,9 @@ use Rattle.cells.proofs.Scopes.{cell_at_lem, by_number}
 use Rattle.cells.proofs.Cells.{Keeps, Ready, used_small, ready, all_taken, none_changed, value_kept}
 use Rattle.cells.proofs.Keep.{fine_keeps, fine_obtained}
 use Rattle.cells.proofs.Regions.{trail_after, records_after, rest_after, names_by, classes_by, cells_by, used_by}
+use Rattle.std.specs.Prelude.{Option as CodeOption, Some, None, Result, Ok, Err}
+use Rattle.cells.specs.declared.NotStored.{NotStored}
+use Rattle.cells.specs.declared.NotStored.TheVariants.{HasValue, NoRoom}
 
 -- ---- The definition's operations, case by case
 
@@ -96,8 +95,8 @@ into c s n y g keeps e s' m = go (eqb s' s) refl (eqb m n) refl
 
 -- ---- The ways
 
-module _ (w w' : List ℕ) (s n : ℕ) {q : Found} (e : Obtains (slots_of w) s n q (slots_of w') × (beside_slots w' ≡ beside_slots w)) (small : n < 1024) where
-  pub ready_at : (i : ℕ) → q ≡ At i → Ready (slots_of w) s n i (slots_of w')
+module _ (w w' : List ℕ) (s n : ℕ) {q : CodeOption ℕ} (e : Obtains (slots_of w) s n q (slots_of w') × (beside_slots w' ≡ beside_slots w)) (small : n < 1024) where
+  pub ready_at : (i : ℕ) → q ≡ Some i → Ready (slots_of w) s n i (slots_of w')
   ready_at i at = ready (slots_of w) s n i e.0 at
 
   cell_is : cells_of w (scope_of s) n ≡ cells_in (slots_of w) s n
@@ -105,7 +104,7 @@ module _ (w w' : List ℕ) (s n : ℕ) {q : Found} (e : Obtains (slots_of w) s n
   cell_is = cell_at_lem (cells_in (slots_of w)) s n
 
   -- a refusal: no slot was changed, so the state stays
-  refused_by_lem : (answer : Stored) (run : ℕ → State → Outcome State) → slots_of w' ≡ slots_of w
+  refused_by_lem : (answer : Result Unit NotStored) (run : ℕ → State → Outcome State) → slots_of w' ≡ slots_of w
       → ((p : ℕ) (es : List Entry) (k r : ℕ) → run p (state_of w es k r) ≡ outcome answer p (state_of w' es k r)) → Answers w w' answer run
   unfolding state_of
   refused_by_lem answer run slots refusal = record {
@@ -116,32 +115,32 @@ module _ (w w' : List ℕ) (s n : ℕ) {q : Found} (e : Obtains (slots_of w) s n
     fine = fine_obtained (slots_of w) s n small e.0;
   }
 
-  no_slot : q ≡ Nothing → (cells_of w (scope_of s) n ≡ no_cell) × (used_of w ≡ 512)
+  no_slot : q ≡ None → (cells_of w (scope_of s) n ≡ no_cell) × (used_of w ≡ 512)
   unfolding used_of
   no_slot at = let f = all_taken (slots_of w) s n e.0 at in (cell_is ∙ f.0, f.1)
 
-  pub assign_full : (x : Labelled) → q ≡ Nothing → Answers w w' NoRoom (λ p. assign p (scope_of s) n x)
+  pub assign_full : (x : Labelled) → q ≡ None → Answers w w' (Err NoRoom) (λ p. assign p (scope_of s) n x)
   unfolding outcome state_of
   assign_full x at =
-      refused_by_lem NoRoom (λ p. assign p (scope_of s) n x) (none_changed (slots_of w) s n e.0 at)
+      refused_by_lem (Err NoRoom) (λ p. assign p (scope_of s) n x) (none_changed (slots_of w) s n e.0 at)
       (λ p es k r. assign_no_room p (scope_of s) n (state_of w es k r) x (no_slot at).0 (no_slot at).1)
 
-  pub mark_full : (k : Labels) → q ≡ Nothing → Answers w w' NoRoom (λ p. mark_one p (scope_of s) n k)
+  pub mark_full : (k : Labels) → q ≡ None → Answers w w' (Err NoRoom) (λ p. mark_one p (scope_of s) n k)
   unfolding outcome state_of
   mark_full l at =
-      refused_by_lem NoRoom (λ p. mark_one p (scope_of s) n l) (none_changed (slots_of w) s n e.0 at)
+      refused_by_lem (Err NoRoom) (λ p. mark_one p (scope_of s) n l) (none_changed (slots_of w) s n e.0 at)
       (λ p es k r. mark_no_room p (scope_of s) n (state_of w es k r) l (no_slot at).0 (no_slot at).1)
 
-  pub assign_has : (x : Labelled) (i : ℕ) → q ≡ At i → {b : Bool} → b ≡ is_some (value_in (slots_of w' i)) → b ≡ true → Answers w w' HasValue (λ p. assign p (scope_of s) n x)
+  pub assign_has : (x : Labelled) (i : ℕ) → q ≡ Some i → {b : Bool} → b ≡ is_some (value_in (slots_of w' i)) → b ≡ true → Answers w w' (Err HasValue) (λ p. assign p (scope_of s) n x)
   unfolding outcome state_of
   assign_has x i at read h =
       let o = ready_at i at in
       let there : is_some (cells_in (slots_of w) s n).value ≡ true = rw (sym o.value) (sym read ∙ h) in
-      refused_by_lem HasValue (λ p. assign p (scope_of s) n x) (value_kept (slots_of w) s n e.0 there)
+      refused_by_lem (Err HasValue) (λ p. assign p (scope_of s) n x) (value_kept (slots_of w) s n e.0 there)
       (λ p es k r. assign_again p (scope_of s) n (state_of w es k r) x (ap (λ (c : Cell). is_some c.value) cell_is ∙ there))
 
   -- a store at the slot
-  module _ (i : ℕ) (at : q ≡ At i) (x : Slot) (w'' : List ℕ) (keeps : Keeps x (slots_of w' i)) (c : (slots_of w'' ≡ put_at i x (slots_of w')) × (beside_slots w'' ≡ beside_slots w')) where
+  module _ (i : ℕ) (at : q ≡ Some i) (x : Slot) (w'' : List ℕ) (keeps : Keeps x (slots_of w' i)) (c : (slots_of w'' ≡ put_at i x (slots_of w')) × (beside_slots w'' ≡ beside_slots w')) where
     cells_changed : (g : Bool → Cell → Cell) → ((z : Cell) → g false z ≡ z) → cell_in x ≡ g true (cells_in (slots_of w) s n)
         → cells_of w'' ≡ λ t m. g (same_scope t (scope_of s) && eqb m n) (cells_of w t m)
     unfolding cells_of
@@ -178,7 +177,7 @@ module _ (w w' : List ℕ) (s n : ℕ) {q : Found} (e : Obtains (slots_of w) s n
         rw (cells_changed g none-else own, used_changed, classes_by w w'' (records_after w w'' all_beside), trail_after w w'' all_beside) refl
 
     stored_by : (run : ℕ → State → Outcome State) (g : Bool → Cell → Cell) → ((z : Cell) → g false z ≡ z) → cell_in x ≡ g true (cells_in (slots_of w) s n)
-        → ((p : ℕ) (es : List Entry) (k r : ℕ) → run p (state_of w es k r) ≡ done (after g es k r)) → Answers w w'' Done run
+        → ((p : ℕ) (es : List Entry) (k r : ℕ) → run p (state_of w es k r) ≡ done (after g es k r)) → Answers w w'' (Ok tt) run
     unfolding outcome
     stored_by run g none-else own ran = record {
       state = λ p es k r. ap done (state_changed g none-else own es k r) ∙ sym (ran p es k r);
@@ -188,8 +187,8 @@ module _ (w w' : List ℕ) (s n : ℕ) {q : Found} (e : Obtains (slots_of w) s n
       fine = λ f. rw c.0 (fine_keeps (slots_of w') i x s n keeps (ready_at i at).key (fine_obtained (slots_of w) s n small e.0 f));
     }
 
-  pub assign_done : (x : Labelled) (i : ℕ) (w'' : List ℕ) → q ≡ At i → {b : Bool} → b ≡ is_some (value_in (slots_of w' i)) → b ≡ false
-      → StoresAt i (filled x) w' w'' → Answers w w'' Done (λ p. assign p (scope_of s) n x)
+  pub assign_done : (x : Labelled) (i : ℕ) (w'' : List ℕ) → q ≡ Some i → {b : Bool} → b ≡ is_some (value_in (slots_of w' i)) → b ≡ false
+      → StoresAt i (filled x) w' w'' → Answers w w'' (Ok tt) (λ p. assign p (scope_of s) n x)
   unfolding state_of value_into
   assign_done x i w'' at read h c =
       let o = ready_at i at in
@@ -199,7 +198,7 @@ module _ (w w' : List ℕ) (s n : ℕ) {q : Found} (e : Obtains (slots_of w) s n
       stored_by i at y w'' keeps c (λ p. assign p (scope_of s) n x) (λ b z. value_into b x z) (λ z. refl) (filled_cell x (slots_of w' i) o.used ∙ ap (cell_with (some x)) o.mark)
       (λ p es k r. assign_fits p (scope_of s) n (state_of w es k r) x none_there (room_left i at y w'' keeps c))
 
-  pub mark_done : (l : Labels) (i : ℕ) (w'' : List ℕ) → q ≡ At i → StoresAt i (marked (l ∪ set_at w' (body_at i + body_mark))) w' w'' → Answers w w'' Done (λ p. mark_one p (scope_of s) n l)
+  pub mark_done : (l : Labels) (i : ℕ) (w'' : List ℕ) → q ≡ Some i → StoresAt i (marked (l ∪ set_at w' (body_at i + body_mark))) w' w'' → Answers w w'' (Ok tt) (λ p. mark_one p (scope_of s) n l)
   unfolding state_of marked_one mark_into
   mark_done l i w'' at c =
       let o = ready_at i at in
@@ -212,12 +211,12 @@ module _ (w w' : List ℕ) (s n : ℕ) {q : Found} (e : Obtains (slots_of w) s n
 
 -- ---- Slots that are found
 
-pub in_slots : (t : ℕ) (f : ℕ → Slot) (s n i : ℕ) {q : Found} → q ≡ slot_in t f s n → q ≡ At i → i < 512
+pub in_slots : (t : ℕ) (f : ℕ → Slot) (s n i : ℕ) {q : CodeOption ℕ} → q ≡ slot_in t f s n → q ≡ Some i → i < 512
 unfolding slot_in
 in_slots t f s n i e p = (was_last 512 (λ k. hit_as t s n (f k)) i (sym e ∙ p)).below
 
 -- the cell of a key is that of its slot, and none where it has no slot
-pub cell_found : (w : List ℕ) (s n : ℕ) {q : Found} → q ≡ slot_for (slots_of w) s n → cells_of w (scope_of s) n ≡ cell_at (slots_of w) q
+pub cell_found : (w : List ℕ) (s n : ℕ) {q : CodeOption ℕ} → q ≡ slot_for (slots_of w) s n → cells_of w (scope_of s) n ≡ cell_at (slots_of w) q
 unfolding cells_of cells_in
 cell_found w s n e = cell_at_lem (cells_in (slots_of w)) s n ∙ ap (cell_at (slots_of w)) (sym e)
 

@@ -1,6 +1,10 @@
 -- Chains of slots. A reference is 0 for none, or one more than the number of the slot that it leads to.
-use Rattle.std.specs.Prelude.{ℕ, zero, suc, ◌≡◌, Bool, true, false, eqb, ltb}
+use Rattle.std.specs.Prelude.{ℕ, zero, suc, ◌≡◌, Bool, true, false, eqb, ltb, Option, Some, None}
 use Rattle.wire.specs.Bytes.{pick}
+
+abbrev pub reference : Option ℕ → ℕ
+reference (Some i) = suc i
+reference None = 0
 
 -- a reference at slot p counts in chain c where it leads to a smaller number than p, and to a slot of that chain: so every chain ends, whatever the bytes are
 unfoldable pub counted : (chains : ℕ → ℕ) → (c p reference : ℕ) → ℕ

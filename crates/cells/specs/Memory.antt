@@ -1,5 +1,5 @@
 -- The working memory as the definition's state, and what a function makes of it.
-use Rattle.std.specs.Prelude.{ℕ, ◌+◌, ◌≡◌, Bool, true, false, not, ◌&&◌, ◌||◌, List, [], ◌∷◌, eqb}
+use Rattle.std.specs.Prelude.{ℕ, ◌+◌, ◌≡◌, Bool, true, false, not, ◌&&◌, ◌||◌, List, [], ◌∷◌, eqb, Option as CodeOption, Some, None, Result, Ok, Err}
 use Rattle.std.proofs.Math.Option.{Option, none, some}
 use Rattle.labels.specs.declared.Labels.{Labels}
 use Rattle.labels.specs.Sets.{◌∪◌}
@@ -7,19 +7,17 @@ use Rattle.values.specs.declared.Reason.TheVariants.{AssignedAgain, CellLimit}
 use Rattle.wire.specs.Bytes.{pick}
 use Rattle.rules.specs.Outcome.{Outcome, refused, done, ◌>>=◌}
 use Rattle.rules.specs.State.{Scope, Base, top_base, node_base, DeclaredClass, Cell, no_cell, Cells, same_scope, mark_into, count, Entry, State, cells_for, one_if}
-use Rattle.cells.specs.declared.Found.{Found}
-use Rattle.cells.specs.declared.Found.TheVariants.{At, Nothing}
-use Rattle.cells.specs.declared.Stored.{Stored}
-use Rattle.cells.specs.declared.Stored.TheVariants.{Done, HasValue, NoRoom}
 use Rattle.cells.specs.Layout.{Slot, slots_of, trail_of, NameRecord, name_record, records_of, rest_of}
 use Rattle.cells.specs.Scopes.{scope_number, scope_of, numbered}
 use Rattle.cells.specs.Slots.{in_use, cell_in, slot_for, FineSlots}
+use Rattle.cells.specs.declared.NotStored.{NotStored}
+use Rattle.cells.specs.declared.NotStored.TheVariants.{HasValue, NoRoom}
 
 -- ---- Cells
 
-unfoldable pub cell_at : (ℕ → Slot) → Found → Cell
-cell_at f (At i) = cell_in (f i)
-cell_at f Nothing = no_cell
+unfoldable pub cell_at : (ℕ → Slot) → CodeOption ℕ → Cell
+cell_at f (Some i) = cell_in (f i)
+cell_at f None = no_cell
 
 -- the cell of a scope number and a name
 unfoldable pub cells_in : (ℕ → Slot) → (scope name : ℕ) → Cell
@@ -98,15 +96,15 @@ pub record Stays (w w' : List ℕ) : Type 0 where
 -- ---- Stores that may be refused
 
 -- what an answer says, for a statement at a place
-unfoldable pub outcome : Stored → (place : ℕ) → State → Outcome State
-outcome Done p st = done st
-outcome HasValue p st = refused AssignedAgain p
-outcome NoRoom p st = refused CellLimit p
+unfoldable pub outcome : Result Unit NotStored → (place : ℕ) → State → Outcome State
+outcome (Ok tt) p st = done st
+outcome (Err HasValue) p st = refused AssignedAgain p
+outcome (Err NoRoom) p st = refused CellLimit p
 
 -- the same where the store may be refused: then the state stays
-pub record Answers (w w' : List ℕ) (answer : Stored) (run : (place : ℕ) → State → Outcome State) : Type 0 where
+pub record Answers (w w' : List ℕ) (answer : Result Unit NotStored) (run : (place : ℕ) → State → Outcome State) : Type 0 where
   pub state : (p : ℕ) (es : List Entry) (n r : ℕ) → outcome answer p (state_of w' es n r) ≡ run p (state_of w es n r)
-  pub stays : (answer ≡ Done → ⊥) → (es : List Entry) (n r : ℕ) → state_of w' es n r ≡ state_of w es n r
+  pub stays : (answer ≡ Ok tt → ⊥) → (es : List Entry) (n r : ℕ) → state_of w' es n r ≡ state_of w es n r
   pub names : names_of w' ≡ names_of w
   pub rest : rest_of w' ≡ rest_of w
   pub fine : Fine w → Fine w'

@@ -1,16 +1,21 @@
 -- Slots: what one holds, what a store makes of it, and searches among the 512.
-use Rattle.std.specs.Prelude.{ℕ, zero, suc, ◌≤◌, ◌<◌, ◌≡◌, Bool, true, false, List, eqb}
+use Rattle.std.specs.Prelude.{ℕ, zero, suc, ◌≤◌, ◌<◌, ◌≡◌, Bool, true, false, List, eqb, Option as CodeOption, Some, None}
 use Rattle.std.proofs.Math.Option.{Option, none, some}
 use Rattle.labels.specs.declared.Labels.{Labels}
 use Rattle.labels.specs.Sets.{no_labels}
 use Rattle.values.specs.declared.Labelled.{Labelled}
 use Rattle.wire.specs.Bytes.{pick}
 use Rattle.rules.specs.State.{Cell}
-use Rattle.cells.specs.declared.Found.{Found}
-use Rattle.cells.specs.declared.Found.TheVariants.{At, Nothing}
+use Rattle.cells.specs.declared.SlotState.{SlotState}
+use Rattle.cells.specs.declared.SlotState.TheVariants.{Used, Freed}
 use Rattle.cells.specs.Layout.{Slot, slot, slots_of, beside_slots, put_at}
 
 -- ---- What a slot holds
+
+-- the byte that keeps a state
+abbrev pub state_byte : SlotState → ℕ
+state_byte Used = 1
+state_byte Freed = 5
 
 unfoldable pub in_use : Slot → Bool
 in_use (slot r t s n c m) = eqb t 1
@@ -79,15 +84,15 @@ StoresAt i g w w' = (slots_of w' ≡ put_at i (g (slots_of w i)) (slots_of w)) �
 -- ---- Searches
 
 -- the last number below k that passes a test
-unfoldable pub last_below : ℕ → (ℕ → Bool) → Found
-last_below zero h = Nothing
-last_below (suc k) h = pick (h k) (At k) (last_below k h)
+unfoldable pub last_below : ℕ → (ℕ → Bool) → CodeOption ℕ
+last_below zero h = None
+last_below (suc k) h = pick (h k) (Some k) (last_below k h)
 
 -- the first match in a chain, whose numbers fall
-unfoldable pub slot_in : (state : ℕ) → (ℕ → Slot) → (scope name : ℕ) → Found
+unfoldable pub slot_in : (state : ℕ) → (ℕ → Slot) → (scope name : ℕ) → CodeOption ℕ
 slot_in t f s n = last_below 512 (λ i. hit_as t s n (f i))
 
-abbrev pub slot_for : (ℕ → Slot) → (scope name : ℕ) → Found
+abbrev pub slot_for : (ℕ → Slot) → (scope name : ℕ) → CodeOption ℕ
 slot_for f s n = slot_in 1 f s n
 
 -- slots are claimed in turn: past one that was never used there are only such
@@ -101,19 +106,19 @@ pub record Open (f : ℕ → Slot) (i : ℕ) : Type 0 where
   pub turn : Packed f → (k : ℕ) → k < i → never_used (f k) ≡ false
 
 -- such a slot, or none where all are in use
-pub data FindsOpen (f : ℕ → Slot) : Found → Type 0 where
-  opened : {i : ℕ} → Open f i → FindsOpen f (At i)
-  full : ((i : ℕ) → i < 512 → in_use (f i) ≡ true) → FindsOpen f Nothing
+pub data FindsOpen (f : ℕ → Slot) : CodeOption ℕ → Type 0 where
+  opened : {i : ℕ} → Open f i → FindsOpen f (Some i)
+  full : ((i : ℕ) → i < 512 → in_use (f i) ≡ true) → FindsOpen f None
 
 -- a slot is claimed for a key, unless all are in use
-pub data Claims (f : ℕ → Slot) (s n : ℕ) : Found → (ℕ → Slot) → Type 0 where
-  claims : {i : ℕ} {f' : ℕ → Slot} → Open f i → f' ≡ put_at i (claimed s n (f i)) f → Claims f s n (At i) f'
-  refuses : ((i : ℕ) → i < 512 → in_use (f i) ≡ true) → Claims f s n Nothing f
+pub data Claims (f : ℕ → Slot) (s n : ℕ) : CodeOption ℕ → (ℕ → Slot) → Type 0 where
+  claims : {i : ℕ} {f' : ℕ → Slot} → Open f i → f' ≡ put_at i (claimed s n (f i)) f → Claims f s n (Some i) f'
+  refuses : ((i : ℕ) → i < 512 → in_use (f i) ≡ true) → Claims f s n None f
 
 -- the slot of a key: the one in use, or one that is claimed
-pub data Obtains (f : ℕ → Slot) (s n : ℕ) : Found → (ℕ → Slot) → Type 0 where
-  holds : {i : ℕ} → slot_for f s n ≡ At i → Obtains f s n (At i) f
-  lacks : {q : Found} {f' : ℕ → Slot} → slot_for f s n ≡ Nothing → Claims f s n q f' → Obtains f s n q f'
+pub data Obtains (f : ℕ → Slot) (s n : ℕ) : CodeOption ℕ → (ℕ → Slot) → Type 0 where
+  holds : {i : ℕ} → slot_for f s n ≡ Some i → Obtains f s n (Some i) f
+  lacks : {q : CodeOption ℕ} {f' : ℕ → Slot} → slot_for f s n ≡ None → Claims f s n q f' → Obtains f s n q f'
 
 -- ---- The invariant, which freeing a scope requires: no key twice, every name below 1,024, every slot in use is reached, and slots are claimed in turn
 

@@ -8,10 +8,10 @@ ghost use Rattle.wire.specs.Numbers.{high_bytes};
 ghost use Rattle.wire.specs.Runs.{over};
 ghost use Rattle.rules.specs.State.{free, is_some};
 ghost use Rattle.rules.specs.State as state;
-ghost use Rattle.cells.specs.Chains.{counted};
+ghost use Rattle.cells.specs.Chains.{reference, counted};
 ghost use Rattle.cells.specs.Layout.{body_at, body_mark, slots_of, content_in, beside_slots, chain_of, chain_in, place_at, next_in, LastAbove};
 ghost use Rattle.cells.specs.Scopes.{scope_of};
-ghost use Rattle.cells.specs.Slots.{is_reached, is_for, of_scope, value_in, taken_out, put_in, renewed, claimed, filled, marked, freed_slot, StoresAt, slot_in, slot_for, Open, FindsOpen, Claims, Obtains};
+ghost use Rattle.cells.specs.Slots.{is_reached, state_byte, is_for, of_scope, value_in, taken_out, put_in, renewed, claimed, filled, marked, freed_slot, StoresAt, slot_in, slot_for, Open, FindsOpen, Claims, Obtains};
 ghost use Rattle.cells.specs.Memory.{Fine, Becomes, Answers, mark_one};
 
 use crate::layout::{
@@ -23,27 +23,21 @@ use values::{Labelled, Value};
 
 pub mod layout; // layout.rt: where everything stands
 
-// The states of a slot; that of one never used is 0.
-const USED: u8 = 1;
-
-const FREED: u8 = 5;
-
-// What a search among the slots finds.
+// The states of a slot, as its first byte keeps them; that of one never used is 0.
 #[derive(Clone, Copy)]
-pub enum Found {
-    At(usize),
-    Nothing,
+enum SlotState {
+    Used = 1,
+    Freed = 5,
 }
 
 // How a store ends: done, or refused since the variable has a value, or since a 513th cell would be needed.
 #[derive(Clone, Copy)]
-pub enum Stored {
-    Done,
+pub enum NotStored {
     HasValue,
     NoRoom,
 }
 
-// ---- Chains of slots, by falling numbers. A reference is one more than a slot's number, or 0
+// ---- Chains of slots, by falling numbers. A link is one more than a slot's number, or 0
 
 // The chain of a key: a read that tries a name in one scope after the other meets each cell at most once.
 fn chain_of(scope: u16, name: u16) -> usize
@@ -61,61 +55,50 @@ fn chain_at(work: &[u8], i: usize) -> usize
     chain_of(scope, name)
 }
 
-// A reference at slot p, if it counts: one that does not fall, or leads to another chain, is none.
-fn counted_link(work: &[u8], chain: usize, p: usize, next: u16) -> u16
+// The slot that a link at slot p leads to, if it counts: one that does not fall, or leads to another chain, is none.
+fn counted_link(work: &[u8], chain: usize, p: usize, link: u16) -> Option<usize>
     requires { (p ≤ 512) × (65536 ≤ length work.now) }
-    ensures { result ≡ counted (chain_in work.now) chain p next }
+    ensures { reference result ≡ counted (chain_in work.now) chain p link }
 {
-    if next == 0 {
-        return 0;
-    }
-    let i = next as usize - 1;
+    let i = (link as usize).checked_sub(1)?;
     if p <= i {
-        return 0;
+        return None;
     }
     if chain_at(work, i) != chain {
-        return 0;
+        return None;
     }
-    next
+    Some(i)
 }
 
-fn first_of(work: &[u8], chain: usize) -> u16
-    requires { (chain < 1024) × (65536 ≤ length work.now) }
-    ensures { result ≡ next_in work.now chain 512 }
+// The place of the link of slot p in a chain; at 512, of the chain's head.
+fn link_place(chain: usize, p: usize) -> usize
+    requires { (p ≤ 512) × (chain < 1024) }
+    ensures { (result ≡ place_at chain p) × (result + 2 ≤ 65536) }
 {
-    let head = wire::two_in(work, NAMES + NAME_SIZE * chain);
-    counted_link(work, chain, SLOTS, head)
+    if p < SLOTS {
+        return LINKS + LINK_SIZE * p;
+    }
+    NAMES + NAME_SIZE * chain
 }
 
-// What follows slot p in a chain.
-fn after(work: &[u8], chain: usize, p: usize) -> u16
-    requires { (p < 512) × (65536 ≤ length work.now) }
-    ensures { result ≡ next_in work.now chain p }
+// What follows slot p in a chain; at 512, the first of the chain.
+fn next_of(work: &[u8], chain: usize, p: usize) -> Option<usize>
+    requires { (p ≤ 512) × ((chain < 1024) × (65536 ≤ length work.now)) }
+    ensures { reference result ≡ next_in work.now chain p }
 {
-    let link = wire::two_in(work, LINKS + LINK_SIZE * p);
+    let link = wire::two_in(work, link_place(chain, p));
     counted_link(work, chain, p, link)
 }
 
-// The same; at 512, the first of the chain.
-fn next_of(work: &[u8], chain: usize, p: usize) -> u16
-    requires { (p ≤ 512) × ((chain < 1024) × (65536 ≤ length work.now)) }
-    ensures { result ≡ next_in work.now chain p }
+fn put_link(work: &mut [u8], chain: usize, p: usize, next: Option<usize>)
+    requires { (p ≤ 512) × ((chain < 1024) × (reference next ≤ 512)) }
+    ensures { work.new ≡ over work.old (place_at chain p) (high_bytes 2 (reference next)) }
 {
-    if p < SLOTS {
-        return after(work, chain, p);
-    }
-    first_of(work, chain)
-}
-
-fn put_link(work: &mut [u8], chain: usize, p: usize, next: u16)
-    requires { chain < 1024 }
-    ensures { work.new ≡ over work.old (place_at chain p) (high_bytes 2 next) }
-{
-    if p < SLOTS {
-        wire::put_two(work, LINKS + LINK_SIZE * p, next);
-        return;
-    }
-    wire::put_two(work, NAMES + NAME_SIZE * chain, next);
+    let link = match next {
+        Some(i) => (i + 1) as u16,
+        None => 0,
+    };
+    wire::put_two(work, link_place(chain, p), link);
 }
 
 // The place in a chain where slot j stands, or would: after the slot answered.
@@ -124,19 +107,20 @@ fn last_above(work: &[u8], chain: usize, j: usize) -> usize
     ensures { LastAbove work.now chain j result }
 {
     let mut p = SLOTS;
-    let mut next = first_of(work, chain);
-    while j + 1 < next as usize {
-        p = next as usize - 1;
-        next = after(work, chain, p);
+    while let Some(i) = next_of(work, chain, p) {
+        if i <= j {
+            return p;
+        }
+        p = i;
     }
     p
 }
 
 // ---- Searches
 
-fn is_for(work: &[u8], i: usize, scope: u16, name: u16, state: u8) -> bool
+fn is_for(work: &[u8], i: usize, scope: u16, name: u16, state: SlotState) -> bool
     requires { (i < 512) × (65536 ≤ length work.now) }
-    ensures { result ≡ is_for state scope name (slots_of work.now i) }
+    ensures { result ≡ is_for (state_byte state) scope name (slots_of work.now i) }
 {
     if wire::two_in(work, KEYS + KEY_SIZE * i) != scope {
         return false;
@@ -144,25 +128,25 @@ fn is_for(work: &[u8], i: usize, scope: u16, name: u16, state: u8) -> bool
     if wire::two_in(work, KEYS + KEY_SIZE * i + KEY_NAME) != name {
         return false;
     }
-    work[i] == state
+    work[i] == state as u8
 }
 
 // The slot of a key that is in use, or one that was freed.
-fn find(work: &[u8], scope: u16, name: u16, state: u8) -> Found
+fn find(work: &[u8], scope: u16, name: u16, state: SlotState) -> Option<usize>
     requires { 65536 ≤ length work.now }
-    ensures { result ≡ slot_in state (slots_of work.now) scope name }
+    ensures { result ≡ slot_in (state_byte state) (slots_of work.now) scope name }
 {
     let chain = chain_of(scope, name);
     let mut p = SLOTS;
     let mut link = wire::two_in(work, NAMES + NAME_SIZE * chain);
-    while counted_link(work, chain, p, link) != 0 {
-        p = link as usize - 1;
-        if is_for(work, p, scope, name, state) {
-            return Found::At(p);
+    while let Some(i) = counted_link(work, chain, p, link) {
+        if is_for(work, i, scope, name, state) {
+            return Some(i);
         }
+        p = i;
         link = wire::two_in(work, LINKS + LINK_SIZE * p);
     }
-    Found::Nothing
+    None
 }
 
 // Whether slot i is the first that was never used.
@@ -182,28 +166,23 @@ fn is_next(work: &[u8], i: usize) -> bool
     work[i - 1] != 0
 }
 
-fn find_free(work: &[u8]) -> Found
+fn find_free(work: &[u8]) -> Option<usize>
     requires { 65536 ≤ length work.now }
     ensures { FindsOpen (slots_of work.now) result }
 {
-    let mut i = 0;
-    while i < SLOTS {
-        if work[i] != USED {
-            return Found::At(i);
-        }
-        i += 1;
-    }
-    Found::Nothing
+    work[..SLOTS]
+        .iter()
+        .position(|state| *state != SlotState::Used as u8)
 }
 
 // The hint spares the walk as long as there are slots that were never used.
-fn find_open(work: &[u8]) -> Found
+fn find_open(work: &[u8]) -> Option<usize>
     requires { 65536 ≤ length work.now }
     ensures { FindsOpen (slots_of work.now) result }
 {
     let hint = wire::two_in(work, HINT) as usize;
     if is_next(work, hint) {
-        return Found::At(hint);
+        return Some(hint);
     }
     find_free(work)
 }
@@ -211,11 +190,11 @@ fn find_open(work: &[u8]) -> Found
 // ---- Reads: the slot of a key, and what it holds in pieces
 
 // The slot in use for a scope and a name.
-pub fn slot_for(work: &[u8], scope: u16, name: u16) -> Found
+pub fn slot_for(work: &[u8], scope: u16, name: u16) -> Option<usize>
     requires { 65536 ≤ length work.now }
     ensures { result ≡ slot_for (slots_of work.now) scope name }
 {
-    find(work, scope, name, USED)
+    find(work, scope, name, SlotState::Used)
 }
 
 pub fn has_value(work: &[u8], i: usize) -> bool
@@ -256,10 +235,10 @@ fn take_out(work: &mut [u8], j: usize)
 {
     let chain = chain_at(work, j);
     let p = last_above(work, chain, j);
-    if next_of(work, chain, p) as usize != j + 1 {
+    if next_of(work, chain, p) != Some(j) {
         return;
     }
-    let next = after(work, chain, j);
+    let next = next_of(work, chain, j);
     put_link(work, chain, p, next);
 }
 
@@ -273,7 +252,7 @@ fn put_in(work: &mut [u8], j: usize, scope: u16, name: u16)
     put_link(work, chain, j, next);
     wire::put_two(work, KEYS + KEY_SIZE * j, scope);
     wire::put_two(work, KEYS + KEY_SIZE * j + KEY_NAME, name);
-    put_link(work, chain, p, (j + 1) as u16);
+    put_link(work, chain, p, Some(j));
 }
 
 // A slot that holds nothing is in use.
@@ -281,7 +260,7 @@ fn renew(work: &mut [u8], j: usize)
     requires { (j < 512) × (65536 ≤ length work.old) }
     ensures { StoresAt j renewed work.old work.new }
 {
-    wire::put_byte(work, j, USED);
+    wire::put_byte(work, j, SlotState::Used as u8);
     records::empty_record(work, BODIES + BODY_SIZE * j);
     Labels::EMPTY.write_within(work, BODIES + BODY_SIZE * j + BODY_MARK);
 }
@@ -310,65 +289,55 @@ fn join_at(work: &mut [u8], i: usize, set: Labels)
     labels::join_within(work, BODIES + BODY_SIZE * i + BODY_MARK, set);
 }
 
-// Claims a slot for a key that none is in use for: one that was freed stands in its chain already. Nothing where all are in use.
-fn claim_open(work: &mut [u8], scope: u16, name: u16) -> Found
+// Claims a slot for a key that none is in use for: one that was freed stands in its chain already. None where all are in use.
+fn claim_open(work: &mut [u8], scope: u16, name: u16) -> Option<usize>
     requires { 65536 ≤ length work.old }
     ensures { (Claims (slots_of work.old) scope name result (slots_of work.new)) × (beside_slots work.new ≡ beside_slots work.old) }
 {
-    match find(work, scope, name, FREED) {
-        Found::At(i) => {
-            renew(work, i);
-            Found::At(i)
-        }
-        Found::Nothing => match find_open(work) {
-            Found::At(j) => {
-                claim(work, j, scope, name);
-                wire::put_two(work, HINT, (j + 1) as u16);
-                Found::At(j)
-            }
-            Found::Nothing => Found::Nothing,
-        },
+    if let Some(i) = find(work, scope, name, SlotState::Freed) {
+        renew(work, i);
+        return Some(i);
     }
+    let j = find_open(work)?;
+    claim(work, j, scope, name);
+    wire::put_two(work, HINT, (j + 1) as u16);
+    Some(j)
 }
 
-// The slot of a key, claimed if there is none; Nothing where all are in use.
-fn obtain(work: &mut [u8], scope: u16, name: u16) -> Found
+// The slot of a key, claimed if there is none; None where all are in use.
+fn obtain(work: &mut [u8], scope: u16, name: u16) -> Option<usize>
     requires { 65536 ≤ length work.old }
     ensures { (Obtains (slots_of work.old) scope name result (slots_of work.new)) × (beside_slots work.new ≡ beside_slots work.old) }
 {
-    match find(work, scope, name, USED) {
-        Found::At(i) => Found::At(i),
-        Found::Nothing => claim_open(work, scope, name),
+    if let Some(i) = find(work, scope, name, SlotState::Used) {
+        return Some(i);
     }
+    claim_open(work, scope, name)
 }
 
 // ---- Cells
 
 // Gives a variable its value.
-pub fn assign(work: &mut [u8], scope: u16, name: u16, x: Labelled) -> Stored
+pub fn assign(work: &mut [u8], scope: u16, name: u16, x: Labelled) -> Result<(), NotStored>
     requires { (65536 ≤ length work.old) × (name < 1024) }
     ensures { Answers work.old work.new result (λ p. state.assign p (scope_of scope) name x) }
 {
-    let Found::At(i) = obtain(work, scope, name) else {
-        return Stored::NoRoom;
-    };
+    let i = obtain(work, scope, name).ok_or(NotStored::NoRoom)?;
     if has_value(work, i) {
-        return Stored::HasValue;
+        return Err(NotStored::HasValue);
     }
     put_value(work, i, x);
-    Stored::Done
+    Ok(())
 }
 
 // Joins a set to the mark of a variable.
-pub fn join_mark(work: &mut [u8], scope: u16, name: u16, set: Labels) -> Stored
+pub fn join_mark(work: &mut [u8], scope: u16, name: u16, set: Labels) -> Result<(), NotStored>
     requires { (65536 ≤ length work.old) × (name < 1024) }
     ensures { Answers work.old work.new result (λ p. mark_one p (scope_of scope) name set) }
 {
-    let Found::At(i) = obtain(work, scope, name) else {
-        return Stored::NoRoom;
-    };
+    let i = obtain(work, scope, name).ok_or(NotStored::NoRoom)?;
     join_at(work, i, set);
-    Stored::Done
+    Ok(())
 }
 
 // ---- Freeing a scope
@@ -382,7 +351,7 @@ fn in_scope(work: &[u8], i: usize, scope: u16) -> bool
     if work[low] != (scope % 256) as u8 {
         return false;
     }
-    if work[i] != USED {
+    if work[i] != SlotState::Used as u8 {
         return false;
     }
     wire::two_in(work, KEYS + KEY_SIZE * i) == scope
@@ -393,7 +362,7 @@ fn free_at(work: &mut [u8], i: usize, scope: u16)
     ensures { StoresAt i (freed_slot scope) work.old work.new }
 {
     if in_scope(work, i, scope) {
-        wire::put_byte(work, i, FREED);
+        wire::put_byte(work, i, SlotState::Freed as u8);
     }
 }
 
@@ -402,12 +371,10 @@ pub fn free_scope(work: &mut [u8], scope: u16)
     requires { (65536 ≤ length work.old) × Fine work.old }
     ensures { Becomes work.old work.new (free (scope_of scope)) (λ ns. ns) }
 {
-    let mut i = 0;
-    while i < SLOTS {
+    for i in 0..SLOTS {
         if work[i] == 0 {
             return;
         }
         free_at(work, i, scope);
-        i += 1;
     }
 }

@@ -1,6 +1,6 @@
 -- One law for each way through `is_chosen`, `run_item`, `run_items` and `run_prepared`. Assumes nothing.
 use Prim.Native.Nat.{ℕ, ◌-◌, ◌%◌, ◌<◌, ◌≤◌}
-use mathlib.Core.Path.{◌≡◌, refl, sym, ap, ◌∙◌}
+use mathlib.Core.Path.{◌≡◌, refl, sym, ap, subst, ◌∙◌}
 use mathlib.Core.Logic.{◌⊎◌, inl, inr}
 use mathlib.Core.Bool.{Bool, true, false, not}
 use mathlib.Core.List.{List, [], ◌∷◌}
@@ -22,14 +22,11 @@ use Rattle.rules.specs.Read.{items_from, manifest_of}
 use Rattle.rules.specs.Types.{Types}
 use Rattle.rules.specs.Compile.{is_built_in, known_with, items_for, room_in, start, run_manifest, onto, entries_in_order}
 use Rattle.rules.specs.declared.Kind.TheVariants.{Statement as StatementKind, Item as ItemKind}
-use Rattle.rules.specs.declared.Verdict.TheVariants.{Sound}
 use Rattle.rules.proofs.Within.{false_not_true}
 use Rattle.rules.proofs.Outcome.{bind_done}
 use Rattle.places.specs.At.{statement_at, block_at, item_at, items_at, StandsAs}
 use Rattle.places.proofs.Statements.{statement_place_lem}
 use Rattle.places.proofs.Items.{statement_item, manifest_opens}
-use Rattle.syntax.specs.declared.Found.{Found}
-use Rattle.syntax.specs.declared.Found.TheVariants.{At, Nothing}
 use Rattle.syntax.specs.Strings.{found_of}
 use Rattle.syntax.specs.Nodes.{item_places, node_for, runs_at, running}
 use Rattle.syntax.proofs.NodesRead.{items_for_lem}
@@ -45,25 +42,23 @@ use Rattle.catalog_index.proofs.Keeping.{index_kept, index_none}
 use Rattle.evaluator.specs.Known.{KnownIn}
 use Rattle.evaluator.specs.Answers.{refused_by}
 use Rattle.evaluator.proofs.Names.{ready_first}
-use Rattle.resources.specs.declared.Filled.{Filled}
-use Rattle.resources.specs.declared.Filled.TheVariants.{Done, Refused}
 use Rattle.execution.specs.Executed.{Able, Stage, state_with, Ends, refused_so as ends_refused, done_so as ends_done, AbleAfter, Executes, begun}
 use Rattle.definitions.specs.Prepared.{Prepares, Blank, NodeBlock}
-use Rattle.definitions.specs.declared.Gathered.{Gathered}
-use Rattle.definitions.specs.declared.Gathered.TheVariants as Gathers
 use Rattle.definitions.specs.Defined.{ItemStands, IsDefinition, with_definitions, OnlyNames, GathersTo, taken_so, known_so}
 use Rattle.definitions.proofs.Definitions.{definition_there}
 use Rattle.definitions.proofs.Gathering.{is_definition_lem, ItemsFrom, items_first, items_after}
 use Rattle.compiler.specs.Running.{chosen_of, is_chosen, run_places, ItemsEnd, refused_so, goes_on, RunsTo, RunEnds, RunsManifest}
 use Rattle.compiler.specs.Running as specs
+use Rattle.std.specs.Prelude.{Option as CodeOption, Some, None, Result, Ok, Err}
+use Rattle.rules.specs.Verdicts.{no_fault}
 
 -- ---- is_chosen
 
-pub chosen_at : (p : ℕ) {node : Found} {q : ℕ} → node ≡ At q → eqb p q ≡ is_chosen (chosen_of node) p
+pub chosen_at : (p : ℕ) {node : CodeOption ℕ} {q : ℕ} → node ≡ Some q → eqb p q ≡ is_chosen (chosen_of node) p
 unfolding chosen_of is_chosen
 chosen_at p e = rw e refl
 
-pub chosen_none : (p : ℕ) {node : Found} → node ≡ Nothing → false ≡ is_chosen (chosen_of node) p
+pub chosen_none : (p : ℕ) {node : CodeOption ℕ} → node ≡ None → false ≡ is_chosen (chosen_of node) p
 unfolding chosen_of is_chosen
 chosen_none p e = rw e refl
 
@@ -97,12 +92,12 @@ statement_kind t e a b c = rw (ne_eqb t 0x30 a, ne_eqb t 0x32 b, ne_eqb t 0x34 c
 -- ---- What comes after an item
 
 module _ {m w out : List ℕ} {left : ℕ} {c : Option ℕ} {ps : List ℕ} {k : Known} {ask : Question} {o : Outcome State} where
-  then_items : {a : Filled} → Ends m w out left k ask o a → ItemsEnd m w out left c ps k ask (o >>= λ st. run_places m c ps k st) a
+  then_items : {a : Result ℕ Refusal} → Ends m w out left k ask o a → ItemsEnd m w out left c ps k ask (o >>= λ st. run_places m c ps k st) a
   unfolding ◌>>=◌
   then_items (ends_refused e) = refused_so (ap (λ (x : Outcome State). x >>= λ st. run_places m c ps k st) e)
   then_items (ends_done es e s) = goes_on es (ap (λ (x : Outcome State). x >>= λ st. run_places m c ps k st) e) s
 
-items_same : {m w out : List ℕ} {left : ℕ} {c : Option ℕ} {ps : List ℕ} {k : Known} {ask : Question} {o o' : Outcome State} {a : Filled} → o ≡ o' → ItemsEnd m w out left c ps k ask o' a → ItemsEnd m w out left c ps k ask o a
+items_same : {m w out : List ℕ} {left : ℕ} {c : Option ℕ} {ps : List ℕ} {k : Known} {ask : Question} {o o' : Outcome State} {a : Result ℕ Refusal} → o ≡ o' → ItemsEnd m w out left c ps k ask o' a → ItemsEnd m w out left c ps k ask o a
 items_same e i = rw e i
 
 -- ---- run_item
@@ -135,7 +130,7 @@ module _ (m : List ℕ) (p : ℕ) (s : ItemStands m p) {t : ℕ} (read : t ≡ b
   stands_statement x y = record { stands = s.stands.stands; kind = statement_kind (byte m p) s.stands.kind (λ e. x (read ∙ e)) (λ e. y (inl (read ∙ e))) (λ e. y (inr (read ∙ e))) }
 
 module _ (m : List ℕ) (p : ℕ) (c : Option ℕ) (w out : List ℕ) (fill left : ℕ) (able : Able m w out fill) (s : ItemStands m p) {t : ℕ} (read : t ≡ byte m p) where
-  pub passes_over : {b : Bool} → t ≡ 0x30 → b ≡ is_chosen c p → not b ≡ true → (ps : List ℕ) → RunsTo m w w out out fill left left c (p ∷ ps) ps (Done fill)
+  pub passes_over : {b : Bool} → t ≡ 0x30 → b ≡ is_chosen c p → not b ≡ true → (ps : List ℕ) → RunsTo m w w out out fill left left c (p ∷ ps) ps (Ok fill)
   unfolding AbleAfter
   passes_over e told h ps = record {
     able = able;
@@ -143,7 +138,7 @@ module _ (m : List ℕ) (p : ℕ) (c : Option ℕ) (w out : List ℕ) (fill left
     says = λ k ask es i. goes_on es (passed_over m p c ps k (state_with w out fill left es) (node_runs m p c (sym read ∙ e) ∙ sym told ∙ not_true _ h)) i;
   }
 
-  pub runs_node : (w' out' : List ℕ) {left' block : ℕ} {b : Bool} {a : Filled} → t ≡ 0x30 → b ≡ is_chosen c p → not b ≡ false → NodeBlock m p block → Executes m w w' out out' fill left left' node_context a (λ k. run_block k (declaration k 17) (block_at m 31 block)) → (ps : List ℕ) → RunsTo m w w' out out' fill left left' c (p ∷ ps) ps a
+  pub runs_node : (w' out' : List ℕ) {left' block : ℕ} {b : Bool} {a : Result ℕ Refusal} → t ≡ 0x30 → b ≡ is_chosen c p → not b ≡ false → NodeBlock m p block → Executes m w w' out out' fill left left' node_context a (λ k. run_block k (declaration k 17) (block_at m 31 block)) → (ps : List ℕ) → RunsTo m w w' out out' fill left left' c (p ∷ ps) ps a
   unfolding run_items run_at_top run_places
   runs_node w' out' e told h n x ps = record {
     able = x.able;
@@ -151,7 +146,7 @@ module _ (m : List ℕ) (p : ℕ) (c : Option ℕ) (w out : List ℕ) (fill left
     says = λ k ask es i. items_same (runs_here m p c ps k (state_with w out fill left es) (node_runs m p c (sym read ∙ e) ∙ sym told ∙ not_false _ h) n.tree) (then_items (x.says k ask es i));
   }
 
-  pub runs_statement : (w' out' : List ℕ) {left' : ℕ} {a : Filled} → (t ≡ 0x30 → ⊥) → ((t ≡ 0x32) ⊎ (t ≡ 0x34) → ⊥) → Executes m w w' out out' fill left left' top_context a (begun 17 p (statement_at m 32 p)) → (ps : List ℕ) → RunsTo m w w' out out' fill left left' c (p ∷ ps) ps a
+  pub runs_statement : (w' out' : List ℕ) {left' : ℕ} {a : Result ℕ Refusal} → (t ≡ 0x30 → ⊥) → ((t ≡ 0x32) ⊎ (t ≡ 0x34) → ⊥) → Executes m w w' out out' fill left left' top_context a (begun 17 p (statement_at m 32 p)) → (ps : List ℕ) → RunsTo m w w' out out' fill left left' c (p ∷ ps) ps a
   unfolding run_items run_places
   runs_statement w' out' x y e ps = record {
     able = e.able;
@@ -164,7 +159,7 @@ module _ (m : List ℕ) (p : ℕ) (c : Option ℕ) (w out : List ℕ) (fill left
   }
 
   -- a definition does nothing
-  pub passes_definition : (t ≡ 0x32) ⊎ (t ≡ 0x34) → (ps : List ℕ) → RunsTo m w w out out fill left left c (p ∷ ps) ps (Done fill)
+  pub passes_definition : (t ≡ 0x32) ⊎ (t ≡ 0x34) → (ps : List ℕ) → RunsTo m w w out out fill left left c (p ∷ ps) ps (Ok fill)
   unfolding AbleAfter run_places run_items
   passes_definition tag ps =
       let i = is_definition_lem s read tag in
@@ -178,10 +173,10 @@ module _ (m : List ℕ) (p : ℕ) (c : Option ℕ) (w out : List ℕ) (fill left
 
 module _ {m w₀ w w' out₀ out out' : List ℕ} {f₀ l₀ f l l' : ℕ} {c : Option ℕ} {before between after : List ℕ} where
   -- one run after the other
-  and_then : {a : Filled} → RunsTo m w₀ w out₀ out f₀ l₀ l c before between (Done f) → RunsTo m w w' out out' f l l' c between after a → RunsTo m w₀ w' out₀ out' f₀ l₀ l' c before after a
+  and_then : {a : Result ℕ Refusal} → RunsTo m w₀ w out₀ out f₀ l₀ l c before between (Ok f) → RunsTo m w w' out out' f l l' c between after a → RunsTo m w₀ w' out₀ out' f₀ l₀ l' c before after a
   and_then {a} x y = record { able = y.able; steps = let i = x.steps in let j = y.steps in omega arith; says = λ k ask es i. go (x.says k ask es i) }
     where
-      go : {k : Known} {ask : Question} {o : Outcome State} → ItemsEnd m w out l c between k ask o (Done f) → ItemsEnd m w' out' l' c after k ask o a
+      go : {k : Known} {ask : Question} {o : Outcome State} → ItemsEnd m w out l c between k ask o (Ok f) → ItemsEnd m w' out' l' c after k ask o a
       go (goes_on es e i) = items_same e (y.says _ _ es i)
 
 -- up to the item at p all have run
@@ -189,9 +184,9 @@ pub record Along (m w₀ w out₀ out : List ℕ) (l₀ l f : ℕ) (c : Option �
   pub memory : length w ≡ length w₀
   pub output : length out ≡ length out₀
   pub items : ItemsFrom m p
-  pub runs : RunsTo m w₀ w out₀ out 0 l₀ l c (item_places m) (fields_in m p (length m)) (Done f)
+  pub runs : RunsTo m w₀ w out₀ out 0 l₀ l c (item_places m) (fields_in m p (length m)) (Ok f)
 
-pub items_begin : (m w out : List ℕ) (left : ℕ) (c : Option ℕ) {p : ℕ} → Able m w out 0 → check m ≡ Sound → p ≡ end_of m 0 → Along m w w out out left left 0 c p
+pub items_begin : (m w out : List ℕ) (left : ℕ) (c : Option ℕ) {p : ℕ} → Able m w out 0 → check m ≡ no_fault → p ≡ end_of m 0 → Along m w w out out left left 0 c p
 unfolding item_places AbleAfter
 items_begin m w out left c able sound e = record {
   memory = refl;
@@ -204,26 +199,26 @@ module _ {m w₀ w out₀ out : List ℕ} {l₀ l f : ℕ} {c : Option ℕ} {p :
   pub still_able : Able m w out f
   still_able = unfold AbleAfter in so.runs.able
 
-  module _ (w' out' : List ℕ) {l' : ℕ} {a : Filled} (here : p < length m) (x : (ps : List ℕ) → RunsTo m w w' out out' f l l' c (p ∷ ps) ps a) where
+  module _ (w' out' : List ℕ) {l' : ℕ} {a : Result ℕ Refusal} (here : p < length m) (x : (ps : List ℕ) → RunsTo m w w' out out' f l l' c (p ∷ ps) ps a) where
     this_one : RunsTo m w₀ w' out₀ out' 0 l₀ l' c (item_places m) (fields_in m (end_of m p) (length m)) a
     this_one = and_then so.runs (rw (field_first m p (length m) here) (x (fields_in m (end_of m p) (length m))))
 
-    pub items_go_on : {g q : ℕ} → length w' ≡ length w → length out' ≡ length out → a ≡ Done g → q ≡ end_of m p → Along m w₀ w' out₀ out' l₀ l' g c q
+    pub items_go_on : {g q : ℕ} → length w' ≡ length w → length out' ≡ length out → a ≡ Ok g → q ≡ end_of m p → Along m w₀ w' out₀ out' l₀ l' g c q
     items_go_on mem o told ahead = record { memory = mem ∙ so.memory; output = o ∙ so.output; items = items_after so.items here ahead; runs = rw ahead (rw told at this_one) }
 
-    pub items_refuse : {why : Refusal} → a ≡ Refused why → RunsTo m w₀ w' out₀ out' 0 l₀ l' c (item_places m) [] a
+    pub items_refuse : {why : Refusal} → a ≡ Err why → RunsTo m w₀ w' out₀ out' 0 l₀ l' c (item_places m) [] a
     unfolding AbleAfter
     items_refuse {why} told = rw told (record { able = tt; steps = this_one.steps; says = λ k ask es i. go (rw told at (this_one.says k ask es i)) })
       where
-        go : {k : Known} {ask : Question} {o : Outcome State} → ItemsEnd m w' out' l' c (fields_in m (end_of m p) (length m)) k ask o (Refused why) → ItemsEnd m w' out' l' c [] k ask o (Refused why)
+        go : {k : Known} {ask : Question} {o : Outcome State} → ItemsEnd m w' out' l' c (fields_in m (end_of m p) (length m)) k ask o (Err why) → ItemsEnd m w' out' l' c [] k ask o (Err why)
         go (refused_so e) = refused_so e
 
-  pub items_done : length m ≤ p → RunsTo m w₀ w out₀ out 0 l₀ l c (item_places m) [] (Done f)
+  pub items_done : length m ≤ p → RunsTo m w₀ w out₀ out 0 l₀ l c (item_places m) [] (Ok f)
   items_done h = rw (no_fields m p (length m) h) at so.runs
 
--- a refusal handed on
-pub items_refused : {m w w' out out' : List ℕ} {fill left left' : ℕ} {c : Option ℕ} {from to : List ℕ} {a : Filled} {why : Refusal} → RunsTo m w w' out out' fill left left' c from to a → a ≡ Refused why → RunsTo m w w' out out' fill left left' c from to (Refused why)
-items_refused runs is = rw is at runs
+-- the walk has come to the item at p
+pub come_to : {m w₀ w out₀ out : List ℕ} {l₀ l f : ℕ} {c : Option ℕ} {at p : ℕ} → Along m w₀ w out₀ out l₀ l f c at → at ≡ p → Along m w₀ w out₀ out l₀ l f c p
+come_to {m} {w₀} {w} {out₀} {out} {l₀} {l} {f} {c} so here = subst (Along m w₀ w out₀ out l₀ l f c) here so
 
 -- ---- The first item, and none left
 
@@ -272,13 +267,13 @@ prepared_able s p = record { set = p.set; fine = p.fine; filled = omega arith }
 
 -- ---- run_prepared
 
-pub gathered_able : {m w w₁ out : List ℕ} {g : Gathered} → Able m w out 0 → GathersTo m w w₁ (item_places m) [] g → g ≡ Gathers.Done → Able m w₁ out 0
+pub gathered_able : {m w w₁ out : List ℕ} {g : Result Unit Refusal} → Able m w out 0 → GathersTo m w w₁ (item_places m) [] g → g ≡ Ok tt → Able m w₁ out 0
 gathered_able {m} {w} {w₁} {out} able x told = go (rw told at x)
   where
-    go : GathersTo m w w₁ (item_places m) [] Gathers.Done → Able m w₁ out 0
+    go : GathersTo m w w₁ (item_places m) [] (Ok tt) → Able m w₁ out 0
     go (known_so only says) = record { set = only.set; fine = only.fine able.fine; filled = able.filled }
 
-module _ (types : Types) (m device w out : List ℕ) (left : ℕ) (sound : check m ≡ Sound) (s : Constant → Bool) (ask : Question) (ready : Prepares types m w s) (noted : Noted w ask []) where
+module _ (types : Types) (m device w out : List ℕ) (left : ℕ) (sound : check m ≡ no_fault) (s : Constant → Bool) (ask : Question) (ready : Prepares types m w s) (noted : Noted w ask []) where
   abbrev knowing : List Definition → Known
   knowing ds = known_with s types (manifest_of m).strings ds
 
@@ -295,15 +290,15 @@ module _ (types : Types) (m device w out : List ℕ) (left : ℕ) (sound : check
   run_follows = ap (λ (is : List Item). gather_definitions (is_built_in types (manifest_of m).strings) [] is >>= running_with) (manifest_opens m sound).items
 
   -- a name is taken
-  pub gathering_refused : (w' : List ℕ) {g : Gathered} {why : Refusal} → GathersTo m w w' (item_places m) [] g → g ≡ Gathers.Refused why → RunsManifest types s ask m device w' out out left left (Refused why)
+  pub gathering_refused : (w' : List ℕ) {g : Result Unit Refusal} {why : Refusal} → GathersTo m w w' (item_places m) [] g → g ≡ Err why → RunsManifest types s ask m device w' out out left left (Err why)
   unfolding known_with ◌>>=◌
   gathering_refused w' {why = why} x told = record { steps = omega arith; ends = specs.refused_so (run_follows ∙ go (rw told at x)) }
     where
-      go : GathersTo m w w' (item_places m) [] (Gathers.Refused why) → (gathering >>= running_with) ≡ refused_by why
+      go : GathersTo m w w' (item_places m) [] (Err why) → (gathering >>= running_with) ≡ refused_by why
       go (taken_so refuses) = ap (λ (o : Outcome (List Definition)). o >>= running_with) (refuses (knowing []) ready.known)
 
   -- the definitions are known in w₁
-  module _ (w₁ : List ℕ) {g : Gathered} (x : GathersTo m w w₁ (item_places m) [] g) (told : g ≡ Gathers.Done) where
+  module _ (w₁ : List ℕ) {g : Result Unit Refusal} (x : GathersTo m w w₁ (item_places m) [] g) (told : g ≡ Ok tt) where
     record KnownThen : Type 0 where
       only : OnlyNames m w w₁
       definitions : List Definition
@@ -314,7 +309,7 @@ module _ (types : Types) (m device w out : List ℕ) (left : ℕ) (sound : check
     unfolding known_with with_definitions gather_definitions items_at
     known_then = go (rw told at x)
       where
-        go : GathersTo m w w₁ (item_places m) [] Gathers.Done → KnownThen
+        go : GathersTo m w w₁ (item_places m) [] (Ok tt) → KnownThen
         go (known_so only says) = let y = says (knowing []) ready.known in record { only = only; definitions = y.definitions; gathered = y.left; known = y.known }
 
     first_stage : Stage m w₁ out 0 (knowing known_then.definitions) ask []
@@ -327,14 +322,14 @@ module _ (types : Types) (m device w out : List ℕ) (left : ℕ) (sound : check
     first_state : state_with w₁ out 0 left [] ≡ start left (length out)
     first_state = let all : room_in (length out) - 0 ≡ room_in (length out) = omega arith in ap (state_of w₁ [] left) all ∙ known_then.only.state [] left (room_in (length out)) ∙ ready.state left (length out)
 
-    whole_run : {n : Found} → n ≡ found_of (node_for m device) → run_manifest s types (manifest_of m) device left (length out) ≡ run_places m (chosen_of n) (item_places m) (knowing known_then.definitions) (state_with w₁ out 0 left [])
+    whole_run : {n : CodeOption ℕ} → n ≡ found_of (node_for m device) → run_manifest s types (manifest_of m) device left (length out) ≡ run_places m (chosen_of n) (item_places m) (knowing known_then.definitions) (state_with w₁ out 0 left [])
     unfolding run_places
     whole_run e = run_follows ∙ bind_done running_with known_then.gathered ∙ rw (items_for_lem m device sound, items_read m (running m (node_for m device) (item_places m)), e, chosen_found (node_for m device), first_state) refl
 
-    pub manifest_runs : (w' out' : List ℕ) {left' : ℕ} {n : Found} {a : Filled} → n ≡ found_of (node_for m device) → RunsTo m w₁ w' out out' 0 left left' (chosen_of n) (item_places m) [] a → RunsManifest types s ask m device w' out out' left left' a
+    pub manifest_runs : (w' out' : List ℕ) {left' : ℕ} {n : CodeOption ℕ} {a : Result ℕ Refusal} → n ≡ found_of (node_for m device) → RunsTo m w₁ w' out out' 0 left left' (chosen_of n) (item_places m) [] a → RunsManifest types s ask m device w' out out' left left' a
     manifest_runs w' out' {left'} {n} e y = record { steps = y.steps; ends = go y.able (whole_run e) (y.says (knowing known_then.definitions) ask [] first_stage) }
       where
-        go : {k : Known} {a : Filled} {o o' : Outcome State} → AbleAfter m w' out' a → o' ≡ o → ItemsEnd m w' out' left' (chosen_of n) [] k ask o a → RunEnds w' out' left' ask o' a
+        go : {k : Known} {a : Result ℕ Refusal} {o o' : Outcome State} → AbleAfter m w' out' a → o' ≡ o → ItemsEnd m w' out' left' (chosen_of n) [] k ask o a → RunEnds w' out' left' ask o' a
         go able same (refused_so h) = specs.refused_so (same ∙ h)
         go {k} able same (goes_on {f = f} es h i) =
             let st : State = state_with w' out' f left' es in

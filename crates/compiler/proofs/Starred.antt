@@ -4,7 +4,6 @@ use Prim.Native.Nat.{ℕ}
 use mathlib.Core.Path.{◌≡◌, refl, ap, ◌∙◌}
 use mathlib.Core.List.{List, ◌∷◌}
 use lib.ListN.{length}
-use Rattle.values.specs.declared.Answer.{Answer}
 use Rattle.values.specs.Numbers.{said}
 use Rattle.wire.specs.Runs.{zeros}
 use Rattle.rules.specs.Types.{the_eight}
@@ -14,6 +13,7 @@ use Rattle.rules.proofs.Cases.{expects, gives, Each, no_row, also, Holds, table_
 use Rattle.rules.proofs.Rows.{Row}
 use Rattle.rules.proofs.Rows
 use Rattle.compiler.specs.Compiled.{Leaves}
+use Rattle.values.specs.Answers.{Answer}
 
 -- what every call on a row's manifest, device and limit answers and leaves, if the bytes lent are as long as the row says: the answer and the
 -- output that the row expects, byte for byte, and a memory of zeros

@@ -1,9 +1,9 @@
 -- What `compile` and `compile_with_types` promise.
 use Rattle.std.specs.Prelude.{ℕ, ◌≡◌, List, length}
-use Rattle.values.specs.declared.Answer.{Answer}
 use Rattle.rules.specs.Types.{Types}
 use Rattle.rules.specs.Compile.{compile}
 use Rattle.rules.specs.EditRule.{IsBytes}
+use Rattle.values.specs.Answers.{Answer}
 
 -- the answer and all bytes lent are those of the definition, for these types, this manifest, device and limit
 pub record Leaves (types : Types) (manifest device : List ℕ) (limit : ℕ) (output_before output_after memory_before memory_after : List ℕ) (answer : Answer) : Type 0 where

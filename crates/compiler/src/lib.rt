@@ -3,10 +3,8 @@
 
 ghost use Rattle.std.specs.Prelude.{◌≡◌, List, [], ◌∷◌, ℕ, ◌≤◌, length, Bool};
 ghost use Rattle.wire.specs.Runs.{zeros};
-ghost use Rattle.values.specs.declared.Answer.TheVariants.{Refused};
 ghost use Rattle.rules.specs.Check.{check};
 ghost use Rattle.rules.specs.Types.{Types, the_eight, lent, check_types};
-ghost use Rattle.rules.specs.declared.Verdict.TheVariants.{Sound};
 ghost use Rattle.type_list.specs.Listed.{chosen};
 ghost use Rattle.syntax.specs.Before.{before};
 ghost use Rattle.syntax.specs.Nodes.{item_places};
@@ -19,44 +17,42 @@ ghost use Rattle.rules.specs.Tree.{Constant};
 ghost use Rattle.rules.specs.Compile.{none_struck_out};
 ghost use Rattle.definitions.specs.Prepared.{Prepares};
 ghost use Rattle.provenance.specs.Notes.{Question, nothing_asked, Noted};
+ghost use Rattle.rules.specs.Verdicts.{no_fault};
+ghost use Rattle.values.specs.Answers.{refused_for};
 
-use definitions::Gathered;
 use labels::Labels;
 use memory::Context;
-use resources::Filled;
-use rules::Verdict;
-use syntax::Found;
-use values::{Answer, Reason, Refusal};
+use values::{Answer, Compiled, Reason, Refusal};
 
 // ---- Items
 
 // Whether the node at p is the one that runs.
-fn is_chosen(node: Found, p: usize) -> bool
+fn is_chosen(node: Option<u16>, p: usize) -> bool
     ensures { result ≡ is_chosen (chosen_of node) p }
 {
     match node {
-        Found::At(q) => p == q as usize,
-        Found::Nothing => false,
+        Some(q) => p == q as usize,
+        None => false,
     }
 }
 
 // The item at p, if it runs. A definition does nothing where it stands.
 fn run_item(
     m: &[u8],
-    node: Found,
+    node: Option<u16>,
     p: usize,
     work: &mut [u8],
     out: &mut [u8],
     fill: usize,
     left: &mut u16,
-) -> Filled
+) -> Result<usize, Refusal>
     requires { Able m.now work.old out.old fill × ItemStands m.now p }
     ensures { (ps : List ℕ) → RunsTo m.now work.old work.new out.old out.new fill left.old left.new (chosen_of node) (p ∷ ps) ps result }
 {
     match wire::byte_at(m, p) {
         0x30 => {
             if !is_chosen(node, p) {
-                return Filled::Done(fill);
+                return Ok(fill);
             }
             let block = definitions::node_block(m, p);
             let here = Context {
@@ -65,7 +61,7 @@ fn run_item(
             };
             execution::run_block(m, 31, block, work, out, fill, left, 17, here)
         }
-        0x32 | 0x34 => Filled::Done(fill),
+        0x32 | 0x34 => Ok(fill),
         _ => {
             let here = Context {
                 scope: memory::TOP,
@@ -77,21 +73,21 @@ fn run_item(
 }
 
 // "Items run in order."
-fn run_items(m: &[u8], node: Found, work: &mut [u8], out: &mut [u8], left: &mut u16) -> Filled
-    requires { Able m.now work.old out.old 0 × (check m.now ≡ Sound) }
+fn run_items(
+    m: &[u8],
+    node: Option<u16>,
+    work: &mut [u8],
+    out: &mut [u8],
+    left: &mut u16,
+) -> Result<usize, Refusal>
+    requires { Able m.now work.old out.old 0 × (check m.now ≡ no_fault) }
     ensures { RunsTo m.now work.old work.new out.old out.new 0 left.old left.new (chosen_of node) (item_places m.now) [] result }
 {
     let mut filled: usize = 0;
-    let mut p = wire::end_of(m, 0);
-    while p < m.len() {
-        let r = run_item(m, node, p, work, out, filled, left);
-        match r {
-            Filled::Refused(refusal) => return Filled::Refused(refusal),
-            Filled::Done(more) => filled = more,
-        }
-        p = wire::end_of(m, p);
+    for p in wire::fields_in(m, wire::end_of(m, 0), m.len()) {
+        filled = run_item(m, node, p, work, out, filled, left)?;
     }
-    Filled::Done(filled)
+    Ok(filled)
 }
 
 // A sound manifest, the memory prepared for it: its definitions, then its items.
@@ -101,15 +97,11 @@ pub fn run_prepared(
     out: &mut [u8],
     work: &mut [u8],
     left: &mut u16,
-) -> Filled
-    requires { ((check m.now ≡ Sound) × (length m.now ≤ 65535)) × Able m.now work.old out.old 0 }
+) -> Result<usize, Refusal>
+    requires { ((check m.now ≡ no_fault) × (length m.now ≤ 65535)) × Able m.now work.old out.old 0 }
     ensures { (types : Types) (s : Constant → Bool) (ask : Question) → Prepares types m.now work.old s → Noted work.old ask [] → RunsManifest types s ask m.now device.now work.new out.old out.new left.old left.new result }
 {
-    let gathered = definitions::gather(m, work);
-    match gathered {
-        Gathered::Refused(refusal) => return Filled::Refused(refusal),
-        Gathered::Done => {}
-    }
+    definitions::gather(m, work)?;
     let node = definitions::choose_node(m, device);
     run_items(m, node, work, out, left)
 }
@@ -122,8 +114,8 @@ fn run_manifest(
     out: &mut [u8],
     work: &mut [u8],
     left: &mut u16,
-) -> Filled
-    requires { ((check_types (chosen types.now) ≡ Sound) × ((check m.now ≡ Sound) × (length m.now ≤ 65535))) × (65536 ≤ length work.old) }
+) -> Result<usize, Refusal>
+    requires { ((check_types (chosen types.now) ≡ no_fault) × ((check m.now ≡ no_fault) × (length m.now ≤ 65535))) × (65536 ≤ length work.old) }
     ensures { RunsManifest (chosen types.now) none_struck_out nothing_asked m.now device.now work.new out.old out.new left.old left.new result }
 {
     definitions::prepare(types, m, work);
@@ -134,13 +126,11 @@ fn run_manifest(
 
 // A refusal: "after a refusal the output and the working memory are zero throughout".
 fn refuse(refusal: Refusal, out: &mut [u8], work: &mut [u8]) -> Answer
-    ensures { (result ≡ Refused refusal.reason refusal.place) × ((out.new ≡ cleared_from 0 out.old) × (work.new ≡ zeros (length work.old))) }
+    ensures { (result ≡ refused_for refusal.reason refusal.place) × ((out.new ≡ cleared_from 0 out.old) × (work.new ≡ zeros (length work.old))) }
 {
     memory::clear(work);
     catalog::clear_rest(out, 0);
-    let reason = refusal.reason;
-    let place = refusal.place;
-    Answer::Refused { reason, place }
+    Err(refusal)
 }
 
 // A sound manifest, and the bytes lent cleared after it.
@@ -152,20 +142,19 @@ fn run_checked(
     out: &mut [u8],
     work: &mut [u8],
 ) -> Answer
-    requires { (65536 ≤ length work.old) × ((check_types (chosen types.now) ≡ Sound) × (before m.now ≡ Sound)) }
+    requires { (65536 ≤ length work.old) × ((check_types (chosen types.now) ≡ no_fault) × (before m.now ≡ no_fault)) }
     ensures { Leaves (chosen types.now) m.now device.now limit out.old out.new work.old work.new result }
 {
     let mut left = limit;
-    let r = run_manifest(types, m, device, out, work, &mut left);
-    match r {
-        Filled::Refused(refusal) => refuse(refusal, out, work),
-        Filled::Done(filled) => {
+    match run_manifest(types, m, device, out, work, &mut left) {
+        Err(refusal) => refuse(refusal, out, work),
+        Ok(filled) => {
             memory::clear(work);
             catalog::clear_rest(out, filled);
-            Answer::Catalog {
+            Ok(Compiled {
                 length: filled as u16,
                 steps: limit - left,
-            }
+            })
         }
     }
 }
@@ -179,13 +168,12 @@ fn compile_chosen(
     out: &mut [u8],
     work: &mut [u8],
 ) -> Answer
-    requires { (65536 ≤ length work.old) × (check_types (chosen types.now) ≡ Sound) }
+    requires { (65536 ≤ length work.old) × (check_types (chosen types.now) ≡ no_fault) }
     ensures { Compiles (chosen types.now) manifest.now device.now limit out.old out.new work.old work.new result }
 {
-    let v = syntax::check_all(manifest);
-    match v {
-        Verdict::Fault { reason, place } => refuse(Refusal::at(reason, place), out, work),
-        Verdict::Sound => run_checked(types, manifest, device, limit, out, work),
+    match syntax::check_all(manifest) {
+        Err(fault) => refuse(Refusal::from(fault), out, work),
+        Ok(()) => run_checked(types, manifest, device, limit, out, work),
     }
 }
 
@@ -220,9 +208,8 @@ pub fn compile_with_types(
     if work.len() < 65536 {
         return refuse(Refusal::at(Reason::MemoryTooShort, 0), out, work);
     }
-    let v = type_list::check_types(types);
-    match v {
-        Verdict::Fault { reason, place } => refuse(Refusal::at(reason, place), out, work),
-        Verdict::Sound => compile_chosen(types, manifest, device, limit, out, work),
+    match type_list::check_types(types) {
+        Err(fault) => refuse(Refusal::from(fault), out, work),
+        Ok(()) => compile_chosen(types, manifest, device, limit, out, work),
     }
 }

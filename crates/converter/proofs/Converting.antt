@@ -16,10 +16,7 @@ use Rattle.rules.specs.Fields.{none as fields_end, write, write_all}
 use Rattle.rules.specs.Outcome.{Outcome, refused, done, ◌>>=◌, refuse_if}
 use Rattle.rules.proofs.Lists.{either_left, either_right}
 use Rattle.rules.specs.Compile.{checked}
-use Rattle.rules.specs.declared.Verdict.{Verdict}
-use Rattle.rules.specs.declared.Verdict.TheVariants.{Sound, Fault}
 use Rattle.rules.specs.Types.{Types, check_types}
-use Rattle.notation.specs.declared.Answer.{Answer}
 use Rattle.notation.specs.Lexing.{tokens}
 use Rattle.notation.specs.Building.{Nodes, frame, build}
 use Rattle.notation.specs.Grammar.{Ended, built, fault, reading}
@@ -34,6 +31,8 @@ use Rattle.text_answers.specs.Leaving.{Leaves}
 use Rattle.text_answers.proofs.Ending.{leaves_as}
 use Rattle.converter.specs.Converting.{Converts, Passable, Measured, Fitting, Begins}
 use Rattle.converter.proofs.SecondPass.{table_again, none_more}
+use Rattle.rules.specs.Verdicts.{Verdict, fault_at, no_fault}
+use Rattle.notation.specs.Answers.{Answer}
 
 -- ---- The outcome, by what is found on the way
 
@@ -42,11 +41,11 @@ module _ (types : Types) (t : List ℕ) (output memory : ℕ) where
   unfolding converted ◌>>=◌ refuse_if
   short_memory h = rw (converted, lt-ltb memory 65536 h)
 
-  pub fault_of_types : {v : Verdict} {r : Reason} {p : ℕ} → 65536 ≤ memory → v ≡ check_types types → v ≡ Fault r p → converted types t output memory ≡ refused r p
+  pub fault_of_types : {v : Verdict} {r : Reason} {p : ℕ} → 65536 ≤ memory → v ≡ check_types types → v ≡ fault_at r p → converted types t output memory ≡ refused r p
   unfolding converted ◌>>=◌ refuse_if checked
   fault_of_types h e f = rw (converted, le-ltb memory 65536 h, sym e, f)
 
-  module _ (enough : 65536 ≤ memory) (listed : check_types types ≡ Sound) where
+  module _ (enough : 65536 ≤ memory) (listed : check_types types ≡ no_fault) where
     pub long_text : 65535 < length t → converted types t output memory ≡ refused OutsideNotation 0
     unfolding converted ◌>>=◌ refuse_if checked
     long_text h = rw (converted, le-ltb memory 65536 enough, listed, lt-ltb 65535 (length t) h)
@@ -117,13 +116,13 @@ module _ (types : Types) {t table : List ℕ} {count fill : ℕ} (x : Measured t
       within_both l h = rw (too_long, le-ltb 65535 (length manifest) (omega (arith, manifest_size)), le-ltb output (length manifest) (omega (arith, manifest_size)))
 
       -- an output that begins with the manifest begins with what is asked for
-      pub written : (memory : ℕ) {out : List ℕ} → check_types types ≡ Sound → 65536 ≤ memory → before + fill ≤ 65535 → before + fill ≤ output → Begins types t out → converted types t output memory ≡ done (take (before + fill) out)
+      pub written : (memory : ℕ) {out : List ℕ} → check_types types ≡ no_fault → 65536 ≤ memory → before + fill ≤ 65535 → before + fill ≤ output → Begins types t out → converted types t output memory ≡ done (take (before + fill) out)
       written memory {out} sound enough short room begins =
           let first : take (before + fill) out ≡ manifest = ap (λ (n : ℕ). take n out) (sym manifest_size) ∙ begins.manifest x.items x.read in
           all_fits types t output memory enough sound x.short x.items x.read x.early (within_both short room) ∙ ap done (sym first)
 
       -- what writing it asks for
-      pub fitting : (out : List ℕ) → check_types types ≡ Sound → IsBytes t → output ≡ length out → before + fill ≤ 65535 → before + fill ≤ output → Fitting types t table count before out
+      pub fitting : (out : List ℕ) → check_types types ≡ no_fault → IsBytes t → output ≡ length out → before + fill ≤ 65535 → before + fill ≤ output → Fitting types t table count before out
       fitting out sound bytes here short room =
           let fits : too_long manifest (length out) ≡ false = rw here at (within_both short room) in
           record {

@@ -5,13 +5,13 @@ use Rattle.rules.specs.EditRule.{IsBytes}
 use Rattle.rules.specs.Fields.{none as fields_end, write_all}
 use Rattle.rules.specs.Outcome.{done}
 use Rattle.rules.specs.Types.{Types}
-use Rattle.notation.specs.declared.Answer.{Answer}
 use Rattle.notation.specs.Lexing.{tokens}
 use Rattle.notation.specs.Building.{Nodes}
 use Rattle.notation.specs.Convert.{table_behind, numbered_onto, late_among, too_long, text_items, manifest_bytes, convert}
 use Rattle.interner.specs.Table.{strings}
 use Rattle.interner.specs.TableField.{table_bytes}
 use Rattle.parser.specs.Entering.{Enterable}
+use Rattle.notation.specs.Answers.{Answer}
 
 -- the answer and all bytes lent are those of the definition
 pub record Converts (types : Types) (text output_before output_after memory_before memory_after : List ℕ) (answer : Answer) : Type 0 where

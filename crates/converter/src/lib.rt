@@ -4,17 +4,16 @@
 ghost use Rattle.std.specs.Prelude.{◌≡◌, ◌≤◌, length};
 ghost use Rattle.notation.specs.Convert.{converted};
 ghost use Rattle.rules.specs.Types.{the_eight, lent, check_types};
-ghost use Rattle.rules.specs.declared.Verdict.TheVariants.{Sound};
 ghost use Rattle.type_list.specs.Listed.{chosen, Listed};
 ghost use Rattle.interner.specs.Table.{strings};
 ghost use Rattle.text_answers.specs.Leaving.{Leaves};
 ghost use Rattle.parser.specs.Reading.{TextRead};
 ghost use Rattle.converter.specs.Converting.{Converts, Passable, Measured, Fitting, Begins};
+ghost use Rattle.rules.specs.Verdicts.{no_fault};
 
 use interner::fields::{table_size, write_table};
 use notation::Answer;
-use parser::text::{ReadText, read_text};
-use rules::Verdict;
+use parser::text::{Whole, read_text};
 use text_answers::{accept, refuse};
 use values::Reason;
 
@@ -27,7 +26,7 @@ fn read_pass(
     out: &mut [u8],
     table: &mut [u8],
     count: usize,
-) -> ReadText
+) -> Result<Whole, usize>
     requires { Listed types.now index.now listed × Passable text.now out.old table.old count }
     ensures { TextRead (chosen types.now) text.now (strings text.now table.old count) result out.new table.new }
 {
@@ -46,7 +45,7 @@ fn read_pass(
     )
 }
 
-// The table of strings, and the items behind it.
+// The table of strings, and the items behind it: the first pass has found no fault, and the second one finds none.
 fn write_manifest(
     types: &[u8],
     index: &[u8],
@@ -61,7 +60,7 @@ fn write_manifest(
     ensures { Begins (chosen types.now) text.now out.new }
 {
     write_table(text, table, count, out);
-    read_pass(types, index, listed, text, &mut out[before..], table, count);
+    let _ = read_pass(types, index, listed, text, &mut out[before..], table, count);
 }
 
 // A text that was read whole: its manifest, if it is not too long.
@@ -93,7 +92,7 @@ fn finish(
 
 // Memory that is long enough, and types without fault: an empty list means the eight. The first pass writes nothing: it finds a fault, the strings and how long the manifest is. Both passes look types up in one index.
 fn convert_chosen(types: &[u8], text: &[u8], out: &mut [u8], work: &mut [u8]) -> Answer
-    requires { (65536 ≤ length work.old) × (check_types (chosen types.now) ≡ Sound) }
+    requires { (65536 ≤ length work.old) × (check_types (chosen types.now) ≡ no_fault) }
     ensures { Converts (chosen types.now) text.now out.old out.new work.old work.new result }
 {
     if 65535 < text.len() {
@@ -102,18 +101,24 @@ fn convert_chosen(types: &[u8], text: &[u8], out: &mut [u8], work: &mut [u8]) ->
     let mut index = [0u8; type_list::INDEX];
     let listed = type_list::index_types(types, &mut index);
     let mut table = [0u8; 2050];
-    let first = read_pass(types, &index, listed, text, &mut out[0..0], &mut table, 0);
-    match first {
-        ReadText::Fault(place) => refuse(Reason::OutsideNotation, place as u16, out, work),
-        ReadText::Whole { count, late, fill } => {
-            if late != 0 {
-                return refuse(Reason::PastLine255, (late - 1) as u16, out, work);
-            }
-            finish(
-                types, &index, listed, text, out, work, &mut table, count, fill,
-            )
-        }
+    let whole = match read_pass(types, &index, listed, text, &mut out[0..0], &mut table, 0) {
+        Ok(whole) => whole,
+        Err(place) => return refuse(Reason::OutsideNotation, place as u16, out, work),
+    };
+    if whole.late != 0 {
+        return refuse(Reason::PastLine255, (whole.late - 1) as u16, out, work);
     }
+    finish(
+        types,
+        &index,
+        listed,
+        text,
+        out,
+        work,
+        &mut table,
+        whole.count,
+        whole.fill,
+    )
 }
 
 // The manifest of a text, or the first refusal; the eight types are built in. Every byte of `out` and `work` is determined: the manifest and then zeros, or zeros
@@ -134,9 +139,8 @@ pub fn convert_with_types(types: &[u8], text: &[u8], out: &mut [u8], work: &mut 
     if work.len() < 65536 {
         return refuse(Reason::MemoryTooShort, 0, out, work);
     }
-    let v = type_list::check_types(types);
-    match v {
-        Verdict::Fault { reason, place } => refuse(reason, place as u16, out, work),
-        Verdict::Sound => convert_chosen(types, text, out, work),
+    match type_list::check_types(types) {
+        Err(fault) => refuse(fault.reason, fault.place as u16, out, work),
+        Ok(()) => convert_chosen(types, text, out, work),
     }
 }

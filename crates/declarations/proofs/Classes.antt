@@ -24,16 +24,10 @@ use Rattle.memory.specs.Contexts.{context_of}
 use Rattle.memory.specs.Names.{placed, at_node}
 use Rattle.memory.proofs.Classes.{base_told}
 use Rattle.evaluator.specs.Known.{DefinedAt, KnownIn}
-use Rattle.statements.specs.declared.Ran.{Ran}
-use Rattle.statements.specs.declared.Ran.TheVariants.{Done, Refused}
 use Rattle.statements.specs.Answers.{ran_as, Keeps}
 use Rattle.attributes.specs.Table.{Gives}
-use Rattle.parameters.specs.Checked.{check_given, Assigns, AssignsAll}
+use Rattle.parameters.specs.Checked.{check_given, AssignsAll}
 use Rattle.parameters.proofs.Storing.{keeps_then}
-use Rattle.declarations.specs.declared.Found.{Found}
-use Rattle.declarations.specs.declared.Found.TheVariants.{Nothing}
-use Rattle.declarations.specs.declared.Class.TheVariants.{At, Refused as NotFound}
-use Rattle.declarations.specs.declared.StartedClass.TheVariants.{Body, Refused as NotStarted}
 use Rattle.declarations.specs.Standing.{definition_with}
 use Rattle.declarations.specs.Classes.{check_class, FoundStands, refused_so, found_so, ChecksClass, Entered, start_class, ParentSmall, scope_under, base_with, started_as, BodyStands, StartsClass}
 use Rattle.declarations.proofs.Standing.{FoundAt, class_stands, class_from, PartsAt}
@@ -41,6 +35,7 @@ use Rattle.declarations.proofs.Checks.{class_missing, class_there, ChecksGiven, 
 use Rattle.memory.specs.Words.{StrikesAs}
 use Rattle.rules.proofs.Outcome.{bind_bind}
 use Rattle.declarations.proofs.Types.{strikes_kept}
+use Rattle.std.specs.Prelude.{Option as CodeOption, None, Result, Ok, Err}
 
 -- ---- The parent and the base
 
@@ -112,7 +107,7 @@ module _ (w : List ℕ) (q : ℕ) {asked : Bool} where
 
 -- check_class
 module _ (m t w : List ℕ) (again : Bool) (p q first end : ℕ) where
-  pub class_unknown : {f : Found} {why : Refusal} → f ≡ definition_with m w q 0x34 → f ≡ Nothing → why ≡ refusal_at Unknown p → ChecksClass m t w again p q first end (NotFound why)
+  pub class_unknown : {f : CodeOption ℕ} {why : Refusal} → f ≡ definition_with m w q 0x34 → f ≡ None → why ≡ refusal_at Unknown p → ChecksClass m t w again p q first end (Err why)
   unfolding check_class or_refuse ◌>>=◌ FoundStands
   class_unknown {why = why} told is at_place = record {
     stands = tt;
@@ -128,7 +123,7 @@ module _ (m t w : List ℕ) (again : Bool) (p q first end : ℕ) where
         let at : DefinedAt m d (find_type q k.definitions) (find_class q k.definitions) = rw found.place (known.definitions q) in
         class_there found.positive found.tag tree at
 
-    pub class_again : {why : Refusal} → b ≡ true → why ≡ refusal_at DeclaredAgain p → ChecksClass m t w again p q first end (NotFound why)
+    pub class_again : {why : Refusal} → b ≡ true → why ≡ refusal_at DeclaredAgain p → ChecksClass m t w again p q first end (Err why)
     unfolding check_class or_refuse refuse_if ◌>>=◌ FoundStands
     class_again {why} is at_place = record {
       stands = tt;
@@ -138,12 +133,12 @@ module _ (m t w : List ℕ) (again : Bool) (p q first end : ℕ) where
           refused_so {why = why} (rw (at_place, there, sym (asked es s r), is) refl);
     }
 
-    module _ {from to : ℕ} {c : Ran} (fresh : b ≡ false) (start : from ≡ after_parent_at m (d + 5)) (parts : PartsAt m d from to (class_definition (class_from m d to))) (checks : ChecksGiven m t first end from to c) where
+    module _ {from to : ℕ} {c : Result Unit Refusal} (fresh : b ≡ false) (start : from ≡ after_parent_at m (d + 5)) (parts : PartsAt m d from to (class_definition (class_from m d to))) (checks : ChecksGiven m t first end from to c) where
       check_known : (k : Known) (es : List Entry) (s r : ℕ) (gs : List Given) → KnownIn m w k → check_class k again p q gs (state_of w es s r) ≡ (check_given (parameters_at m (fields_in m from to)) gs >>= λ vs. done (record { definition = class_from m d to; values = vs }))
       unfolding check_class or_refuse refuse_if ◌>>=◌
       check_known k es s r gs known = rw (class_found k known parts.tree, sym (asked es s r), fresh, start) refl
 
-      pub class_unchecked : (why : Refusal) → c ≡ Refused why → ChecksClass m t w again p q first end (NotFound why)
+      pub class_unchecked : (why : Refusal) → c ≡ Err why → ChecksClass m t w again p q first end (Err why)
       unfolding ◌>>=◌ FoundStands
       class_unchecked why is = record {
         stands = tt;
@@ -151,7 +146,7 @@ module _ (m t w : List ℕ) (again : Bool) (p q first end : ℕ) where
             refused_so {why = why} (check_known k es s r gs known ∙ rw (checked_refused (checks gs gives alike parts.laid.parameters parts.laid.small) is) refl);
       }
 
-      pub class_checked : c ≡ Done → ChecksClass m t w again p q first end (At d)
+      pub class_checked : c ≡ Ok tt → ChecksClass m t w again p q first end (Ok d)
       unfolding ◌>>=◌ FoundStands
       class_checked is = record {
         stands = class_stands found;
@@ -177,7 +172,7 @@ module _ (m t w : List ℕ) (d : ℕ) (here : Here) {name : ℕ} (parent : ℕ) 
   abbrev inside : Here
   inside = record { scope = record { number = 2 + name; base_is_node = base }; path = here.path }
 
-  module _ {from to : ℕ} {a : Ran} {w₂ : List ℕ} (start : from ≡ after_parent_at m (d + 5)) (parts : PartsAt m d from to (class_definition (class_from m d to))) (stores : AssignsAll m t w₁ w₂ from to inside a) where
+  module _ {from to : ℕ} {a : Result Unit Refusal} {w₂ : List ℕ} (start : from ≡ after_parent_at m (d + 5)) (parts : PartsAt m d from to (class_definition (class_from m d to))) (stores : AssignsAll m t w₁ w₂ from to inside a) where
     entered : State → Outcome Entered
     entered st = done (record { body = block_at m 31 to; here = context_of inside; state = st })
 
@@ -210,18 +205,18 @@ module _ (m t w : List ℕ) (d : ℕ) (here : Here) {name : ℕ} (parent : ℕ) 
     kept : Keeps w w₂
     kept = keeps_then marking stores.keeps
 
-    pub class_stopped : (why : Refusal) → a ≡ Refused why → StartsClass m t w w₂ d here (NotStarted why)
+    pub class_stopped : (why : Refusal) → a ≡ Err why → StartsClass m t w w₂ d here (Err why)
     unfolding started_as ran_as ◌>>=◌ BodyStands entered
     class_stopped why is = record {
       stands = tt;
       keeps = kept;
-      says = λ k es s r x gs vs strikes tree gives values. sym (ap (λ (b : Ran). ran_as b (state_of w₂ es s r) >>= entered) is) ∙ started k es s r x gs vs strikes tree gives values;
+      says = λ k es s r x gs vs strikes tree gives values. sym (ap (λ (b : Result Unit Refusal). ran_as b (state_of w₂ es s r) >>= entered) is) ∙ started k es s r x gs vs strikes tree gives values;
     }
 
-    pub class_started : a ≡ Done → StartsClass m t w w₂ d here (Body to inside)
+    pub class_started : a ≡ Ok tt → StartsClass m t w w₂ d here (Ok (record { block = to; here = inside }))
     unfolding started_as ran_as ◌>>=◌ BodyStands entered
     class_started is = record {
       stands = (parts.laid.body.block, parts.laid.known);
       keeps = kept;
-      says = λ k es s r x gs vs strikes tree gives values. sym (ap (λ (b : Ran). ran_as b (state_of w₂ es s r) >>= entered) is) ∙ started k es s r x gs vs strikes tree gives values;
+      says = λ k es s r x gs vs strikes tree gives values. sym (ap (λ (b : Result Unit Refusal). ran_as b (state_of w₂ es s r) >>= entered) is) ∙ started k es s r x gs vs strikes tree gives values;
     }

@@ -23,10 +23,9 @@ use Rattle.places.proofs.Items.{BlockEnds, TypeDefinitionAt, ClassDefinitionAt, 
 use Rattle.syntax.proofs.NamesKnown.{its_names, known_inside, known_after, first_name_lem}
 use Rattle.cells.specs.Memory.{definition_of}
 use Rattle.parameters.specs.Checked.{SmallNames}
-use Rattle.declarations.specs.declared.Found.{Found}
-use Rattle.declarations.specs.declared.Found.TheVariants.{At, Nothing}
 use Rattle.declarations.specs.Standing.{NamesKnown, Defined, undefined, defined, Set, definition_with}
 use Rattle.declarations.specs.Classes.{ClassStands, ParentSmall}
+use Rattle.std.specs.Prelude.{Option, Some, None}
 
 -- ---- Names
 
@@ -113,15 +112,15 @@ module _ {m : List ℕ} {p : ℕ} (few : length (string_places m) ≤ 1024) (s :
 -- ---- The ways of `find_definition`
 
 module _ (m w : List ℕ) (n t : ℕ) {d : ℕ} (read : d ≡ definition_of w n) where
-  pub found_none : d ≡ 0 → Nothing ≡ definition_with m w n t
+  pub found_none : d ≡ 0 → None ≡ definition_with m w n t
   unfolding definition_with
   found_none z = rw (sym read, z) refl
 
-  pub found_other : {b : ℕ} → (d ≡ 0 → ⊥) → b ≡ byte m d → (b ≡ t → ⊥) → Nothing ≡ definition_with m w n t
+  pub found_other : {b : ℕ} → (d ≡ 0 → ⊥) → b ≡ byte m d → (b ≡ t → ⊥) → None ≡ definition_with m w n t
   unfolding definition_with
   found_other ne e other = rw (sym read, ne_eqb d 0 ne, sym e, ne_eqb _ t other) refl
 
-  pub found_there : {b : ℕ} → (d ≡ 0 → ⊥) → b ≡ byte m d → b ≡ t → At d ≡ definition_with m w n t
+  pub found_there : {b : ℕ} → (d ≡ 0 → ⊥) → b ≡ byte m d → b ≡ t → Some d ≡ definition_with m w n t
   unfolding definition_with
   found_there ne e same = rw (sym read, ne_eqb d 0 ne, sym e, eq-eqb _ t same) refl
 
@@ -134,7 +133,7 @@ pub record FoundAt (m w : List ℕ) (n t p : ℕ) : Type 0 where
   pub tag : byte m p ≡ t
   pub names : NamesKnown m p
 
-pub found_at : {m w : List ℕ} {n t p : ℕ} {f : Found} → Set m w → f ≡ definition_with m w n t → f ≡ At p → FoundAt m w n t p
+pub found_at : {m w : List ℕ} {n t p : ℕ} {f : Option ℕ} → Set m w → f ≡ definition_with m w n t → f ≡ Some p → FoundAt m w n t p
 unfolding definition_with
 found_at {m} {w} {n} {t} {p} {f} s told is = go (eqb q 0) refl (eqb (byte m q) t) refl (sym told ∙ is)
   where
@@ -145,7 +144,7 @@ found_at {m} {w} {n} {t} {p} {f} s told is = go (eqb q 0) refl (eqb (byte m q) t
     there ne same (undefined z) = absurd (ne z)
     there ne same (defined l st known) = record { place = refl; positive = l; stands = st; tag = same; names = known }
 
-    go : (a : Bool) → eqb q 0 ≡ a → (b : Bool) → eqb (byte m q) t ≡ b → pick a Nothing (pick b (At q) Nothing) ≡ At p → FoundAt m w n t p
+    go : (a : Bool) → eqb q 0 ≡ a → (b : Bool) → eqb (byte m q) t ≡ b → pick a None (pick b (Some q) None) ≡ Some p → FoundAt m w n t p
     go true z b e h = absurd (let z : ◌≡◌ {A = ℕ} 0 1 = cc in omega arith)
     go false z false e h = absurd (let z : ◌≡◌ {A = ℕ} 0 1 = cc in omega arith)
     go false z true e h = let same : q ≡ p = cc in subst (FoundAt m w n t) same (there (eqb-false q 0 z) (eqb-true (byte m q) t e) (s.definitions n))

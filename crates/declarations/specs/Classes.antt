@@ -1,5 +1,5 @@
 -- A declaration of a class: its checks, and then what happens up to its body.
-use Rattle.std.specs.Prelude.{ℕ, ◌+◌, ◌<◌, ◌≡◌, Bool, ◌&&◌, List}
+use Rattle.std.specs.Prelude.{ℕ, ◌+◌, ◌<◌, ◌≡◌, Bool, ◌&&◌, List, Result, Ok, Err}
 use Rattle.std.proofs.Math.Option.{Option, none, some}
 use Rattle.values.specs.declared.Refusal.{Refusal}
 use Rattle.values.specs.declared.Reason.TheVariants.{Unknown, DeclaredAgain}
@@ -20,10 +20,7 @@ use Rattle.statements.specs.Answers.{Keeps}
 use Rattle.attributes.specs.Names.{Alike}
 use Rattle.attributes.specs.Table.{Gives}
 use Rattle.parameters.specs.Checked.{check_given}
-use Rattle.declarations.specs.declared.Class.{Class}
-use Rattle.declarations.specs.declared.Class.TheVariants.{At, Refused as NotFound}
-use Rattle.declarations.specs.declared.StartedClass.{StartedClass}
-use Rattle.declarations.specs.declared.StartedClass.TheVariants.{Body, Refused}
+use Rattle.declarations.specs.declared.ClassBody.{ClassBody}
 use Rattle.declarations.specs.Standing.{NamesKnown}
 use Rattle.memory.specs.Words.{StrikesAs}
 
@@ -48,17 +45,17 @@ pub record ClassStands (m : List ℕ) (p : ℕ) : Type 0 where
   pub tag : byte m p ≡ 0x34
   pub names : NamesKnown m p
 
-unfoldable pub FoundStands : List ℕ → Class → Type 0
-FoundStands m (At p) = ClassStands m p
-FoundStands m (NotFound why) = Unit {0}
+unfoldable pub FoundStands : List ℕ → Result ℕ Refusal → Type 0
+FoundStands m (Ok p) = ClassStands m p
+FoundStands m (Err why) = Unit {0}
 
 -- the answer means the outcome o
-pub data FoundAs (m : List ℕ) (o : Outcome Checked) : Class → Type 0 where
-  refused_so : {why : Refusal} → o ≡ refused_by why → FoundAs m o (NotFound why)
-  found_so : {p : ℕ} (d : ClassDefinition) (vs : List Given) → item_at m p ≡ definition (class_definition d) → o ≡ done (record { definition = d; values = vs }) → FoundAs m o (At p)
+pub data FoundAs (m : List ℕ) (o : Outcome Checked) : Result ℕ Refusal → Type 0 where
+  refused_so : {why : Refusal} → o ≡ refused_by why → FoundAs m o (Err why)
+  found_so : {p : ℕ} (d : ClassDefinition) (vs : List Given) → item_at m p ≡ definition (class_definition d) → o ≡ done (record { definition = d; values = vs }) → FoundAs m o (Ok p)
 
 -- the class q, declared at p, whose 26s, from `first` to `end`, are in the table t
-pub record ChecksClass (m t w : List ℕ) (again : Bool) (p q first end : ℕ) (answer : Class) : Type 0 where
+pub record ChecksClass (m t w : List ℕ) (again : Bool) (p q first end : ℕ) (answer : Result ℕ Refusal) : Type 0 where
   pub stands : FoundStands m answer
   pub says : (k : Known) (es : List Entry) (s r : ℕ) (gs : List Given) → KnownIn m w k → Gives t gs → Alike m gs (fields_in m first end) → FoundAs m (check_class k again p q gs (state_of w es s r)) answer
 
@@ -89,16 +86,16 @@ unfoldable pub base_with : Option Parent → Base → (ℕ → Option DeclaredCl
 base_with none b classes = b
 base_with (some q) b classes = base_under b (classes q.name)
 
-unfoldable pub started_as : List ℕ → StartedClass → State → Outcome Entered
-started_as m (Body b here) st = done (record { body = block_at m 31 b; here = context_of here; state = st })
-started_as m (Refused why) st = refused_by why
+unfoldable pub started_as : List ℕ → Result ClassBody Refusal → State → Outcome Entered
+started_as m (Ok b) st = done (record { body = block_at m 31 b.block; here = context_of b.here; state = st })
+started_as m (Err why) st = refused_by why
 
-unfoldable pub BodyStands : List ℕ → StartedClass → Type 0
-BodyStands m (Body b here) = StandsAs m 31 BlockKind b × NamesKnown m b
-BodyStands m (Refused why) = Unit {0}
+unfoldable pub BodyStands : List ℕ → Result ClassBody Refusal → Type 0
+BodyStands m (Ok b) = StandsAs m 31 BlockKind b.block × NamesKnown m b.block
+BodyStands m (Err why) = Unit {0}
 
 -- the class whose 34 is at p, declared from a context
-pub record StartsClass (m t w w' : List ℕ) (p : ℕ) (here : Here) (answer : StartedClass) : Type 0 where
+pub record StartsClass (m t w w' : List ℕ) (p : ℕ) (here : Here) (answer : Result ClassBody Refusal) : Type 0 where
   pub stands : BodyStands m answer
   pub keeps : Keeps w w'
   pub says : (k : Known) (es : List Entry) (s r : ℕ) (d : ClassDefinition) (gs vs : List Given) → StrikesAs k w → item_at m p ≡ definition (class_definition d) → Gives t gs → parameter_values d.parameters gs ≡ done vs

@@ -1,5 +1,5 @@
 -- The definitions that the memory knows stand in the manifest.
-use Rattle.std.specs.Prelude.{ℕ, ◌≤◌, ◌<◌, ◌≡◌, List, eqb, length}
+use Rattle.std.specs.Prelude.{ℕ, ◌≤◌, ◌<◌, ◌≡◌, List, eqb, length, Option, Some, None}
 use Rattle.wire.specs.Bytes.{pick, byte}
 use Rattle.rules.specs.Check.{string_places}
 use Rattle.rules.specs.declared.Kind.TheVariants.{Item}
@@ -7,8 +7,6 @@ use Rattle.places.specs.At.{StandsAs}
 use Rattle.syntax.specs.Names.{NamesFrom}
 use Rattle.cells.specs.Memory.{definition_of}
 use Rattle.summaries.specs.Summaries.{Summarized}
-use Rattle.declarations.specs.declared.Found.{Found}
-use Rattle.declarations.specs.declared.Found.TheVariants.{At, Nothing}
 
 -- from p on, no name of the manifest is past its strings
 abbrev pub NamesKnown : List ℕ → ℕ → Type 0
@@ -28,5 +26,5 @@ pub record Set (m w : List ℕ) : Type 0 where
   pub summaries : Summarized m w
 
 -- where the definition of the name n is, if its tag is t
-unfoldable pub definition_with : (m w : List ℕ) → (n t : ℕ) → Found
-definition_with m w n t = pick (eqb (definition_of w n) 0) Nothing (pick (eqb (byte m (definition_of w n)) t) (At (definition_of w n)) Nothing)
+unfoldable pub definition_with : (m w : List ℕ) → (n t : ℕ) → Option ℕ
+definition_with m w n t = pick (eqb (definition_of w n) 0) None (pick (eqb (byte m (definition_of w n)) t) (Some (definition_of w n)) None)

@@ -17,30 +17,8 @@ ghost use Rattle.declarations.specs.Types.{Fills, StartsType};
 ghost use Rattle.declarations.specs.Classes.{ClassStands, ChecksClass, ParentSmall, scope_under, base_with, StartsClass};
 
 use attributes::Span;
-use memory::{Context, Scope, TitleName};
-use statements::Ran;
+use memory::{Context, Scope};
 use values::{Labelled, Reason, Refusal};
-
-// Where the definition of a name is.
-#[derive(Clone, Copy)]
-pub enum Found {
-    At(u16),
-    Nothing,
-}
-
-// A type's body that is ready to run: where its block is.
-#[derive(Clone, Copy)]
-pub enum Started {
-    Body(usize),
-    Refused(Refusal),
-}
-
-// Where a class's definition is.
-#[derive(Clone, Copy)]
-pub enum Class {
-    At(usize),
-    Refused(Refusal),
-}
 
 // What a declaration of a class asks for: the class `name`, by the 28, 29 or 35 at `place`. A 28 refuses a declared class (`again`) and gives attributes;
 // the others give none.
@@ -54,40 +32,39 @@ pub struct Request {
 
 // A class's body that is ready to run, and where it runs.
 #[derive(Clone, Copy)]
-pub enum StartedClass {
-    Body { block: usize, here: Context },
-    Refused(Refusal),
+pub struct ClassBody {
+    pub block: usize,
+    pub here: Context,
 }
 
 // ---- Definitions
 
 // Where the definition of a name is, if it has this tag.
-fn find_definition(m: &[u8], work: &[u8], name: u16, tag: u8) -> Found
+fn find_definition(m: &[u8], work: &[u8], name: u16, tag: u8) -> Option<u16>
     requires { (65536 ≤ length work.now) × (name < 1024) }
     ensures { result ≡ definition_with m.now work.now name tag }
 {
     let d = memory::definition_at(work, name);
     if d == 0 {
-        return Found::Nothing;
+        return None;
     }
     if wire::byte_at(m, d as usize) != tag {
-        return Found::Nothing;
+        return None;
     }
-    Found::At(d)
+    Some(d)
 }
 
 // ---- Types
 
 // The title goes to the variable "title", if the table has that string.
-fn store_title(work: &mut [u8], p: usize, here: Context, x: Labelled) -> Ran
+fn store_title(work: &mut [u8], p: usize, here: Context, x: Labelled) -> Result<(), Refusal>
     requires { (65536 ≤ length work.old) × (p ≤ 65535) }
     ensures { Does work.old work.new here (ran_as result) (λ c. store_title (title_of work.old) c p x) }
 {
-    let t = memory::title(work);
-    match t {
-        TitleName::Nothing => Ran::Done,
-        TitleName::At(name) => statements::store(work, p, here, name, x),
-    }
+    let Some(name) = memory::title(work) else {
+        return Ok(());
+    };
+    statements::store(work, p, here, name, x)
 }
 
 // Title and parameters in the context of a body.
@@ -99,15 +76,12 @@ fn fill_scope(
     x: Labelled,
     work: &mut [u8],
     here: Context,
-) -> Ran
+) -> Result<(), Refusal>
     requires { ((p ≤ 65535) × (parameters.end ≤ 65535)) × (((65536 ≤ length work.old) × (length m.now ≤ 65535)) × (Siblings m.now 31 Parameter parameters.first parameters.end × SmallNames m.now (fields_in m.now parameters.first parameters.end))) }
     ensures { Fills m.now table.now work.old work.new p parameters.first parameters.end x here result }
 {
-    let t = store_title(work, p, here, x);
-    match t {
-        Ran::Refused(refusal) => Ran::Refused(refusal),
-        Ran::Done => parameters::assign_parameters(m, parameters, table, work, here),
-    }
+    store_title(work, p, here, x)?;
+    parameters::assign_parameters(m, parameters, table, work, here)
 }
 
 // The 27 at p, whose title is x and whose attributes are in the table: `here` is where its body runs.
@@ -119,25 +93,18 @@ pub fn start_type(
     x: Labelled,
     work: &mut [u8],
     here: Context,
-) -> Started
+) -> Result<usize, Refusal>
     requires { Set m.now work.old × (((p ≤ 65535) × (given.end ≤ 65535)) × (two m.now (p + 3) < 1024)) }
     ensures { StartsType m.now table.now work.old work.new p given.first given.end x here result }
 {
-    let found = find_definition(m, work, wire::two_at(m, p + 3), 0x32);
-    let Found::At(d) = found else {
-        return Started::Refused(Refusal::at(Reason::Unknown, p));
+    let Some(d) = find_definition(m, work, wire::two_at(m, p + 3), 0x32) else {
+        return Err(Refusal::at(Reason::Unknown, p));
     };
     let first = d as usize + 5;
     let end = parameters::end_of_parameters(m, first);
-    let c = parameters::check_parameters(m, given, Span { first, end }, table);
-    if let Ran::Refused(refusal) = c {
-        return Started::Refused(refusal);
-    }
-    let r = fill_scope(m, p, Span { first, end }, table, x, work, here);
-    match r {
-        Ran::Refused(refusal) => Started::Refused(refusal),
-        Ran::Done => Started::Body(end),
-    }
+    parameters::check_parameters(m, given, Span { first, end }, table)?;
+    fill_scope(m, p, Span { first, end }, table, x, work, here)?;
+    Ok(end)
 }
 
 // ---- Classes
@@ -167,25 +134,20 @@ fn is_again(work: &[u8], name: u16, asked: bool) -> bool
 }
 
 // The class that is asked for, its attributes' values in the table.
-pub fn check_class(m: &[u8], request: Request, table: &[u8], work: &[u8]) -> Class
+pub fn check_class(m: &[u8], request: Request, table: &[u8], work: &[u8]) -> Result<usize, Refusal>
     requires { Set m.now work.now × (((request.place ≤ 65535) × (request.given.end ≤ 65535)) × (request.name < 1024)) }
     ensures { ChecksClass m.now table.now work.now request.again request.place request.name request.given.first request.given.end result }
 {
-    let found = find_definition(m, work, request.name, 0x34);
-    let Found::At(d) = found else {
-        return Class::Refused(Refusal::at(Reason::Unknown, request.place));
+    let Some(d) = find_definition(m, work, request.name, 0x34) else {
+        return Err(Refusal::at(Reason::Unknown, request.place));
     };
     if is_again(work, request.name, request.again) {
-        return Class::Refused(Refusal::at(Reason::DeclaredAgain, request.place));
+        return Err(Refusal::at(Reason::DeclaredAgain, request.place));
     }
     let first = first_parameter(m, d as usize);
     let end = parameters::end_of_parameters(m, first);
-    let given = request.given;
-    let c = parameters::check_parameters(m, given, Span { first, end }, table);
-    match c {
-        Ran::Refused(refusal) => Class::Refused(refusal),
-        Ran::Done => Class::At(d as usize),
-    }
+    parameters::check_parameters(m, request.given, Span { first, end }, table)?;
+    Ok(d as usize)
 }
 
 // The scope number of the parent of the class at d.
@@ -219,7 +181,13 @@ fn class_base(m: &[u8], d: usize, work: &[u8], base_is_node: bool) -> bool
 }
 
 // The class at d, its values in the table, declared from `here`: marked declared, its parameters assigned.
-pub fn start_class(m: &[u8], d: usize, table: &[u8], work: &mut [u8], here: Context) -> StartedClass
+pub fn start_class(
+    m: &[u8],
+    d: usize,
+    table: &[u8],
+    work: &mut [u8],
+    here: Context,
+) -> Result<ClassBody, Refusal>
     requires { Set m.now work.old × ClassStands m.now d }
     ensures { StartsClass m.now table.now work.old work.new d here result }
 {
@@ -229,21 +197,17 @@ pub fn start_class(m: &[u8], d: usize, table: &[u8], work: &mut [u8], here: Cont
     memory::declare_class(work, name, parent, base_is_node);
     let first = first_parameter(m, d);
     let block = parameters::end_of_parameters(m, first);
-    let number = 2 + name;
-    let path = here.path;
-    let inside = Context {
-        scope: Scope {
-            number,
-            base_is_node,
-        },
-        path,
+    let scope = Scope {
+        number: 2 + name,
+        base_is_node,
     };
-    let r = parameters::assign_parameters(m, Span { first, end: block }, table, work, inside);
-    match r {
-        Ran::Refused(refusal) => StartedClass::Refused(refusal),
-        Ran::Done => StartedClass::Body {
-            block,
-            here: inside,
-        },
-    }
+    let inside = Context {
+        scope,
+        path: here.path,
+    };
+    parameters::assign_parameters(m, Span { first, end: block }, table, work, inside)?;
+    Ok(ClassBody {
+        block,
+        here: inside,
+    })
 }

@@ -1,6 +1,6 @@
 -- One law for each way through `gather_item` and `gather`. Assumes nothing.
 use Prim.Native.Nat.{ℕ, ◌+◌, ◌<◌, ◌≤◌}
-use mathlib.Core.Path.{◌≡◌, refl, sym, ap, ◌∙◌}
+use mathlib.Core.Path.{◌≡◌, refl, sym, ap, subst, ◌∙◌}
 use mathlib.Core.Logic.{◌⊎◌, inl, inr}
 use mathlib.Core.Bool.{Bool, true, false}
 use mathlib.Core.List.{List, [], ◌∷◌}
@@ -17,7 +17,6 @@ use Rattle.rules.specs.Tree.{Definition, Item, definition}
 use Rattle.rules.specs.State.{Known}
 use Rattle.rules.specs.Run.{defined_name, defined_place, is_taken, gather_definitions}
 use Rattle.rules.specs.declared.Kind.TheVariants.{Item as ItemKind}
-use Rattle.rules.specs.declared.Verdict.TheVariants.{Sound}
 use Rattle.places.specs.At.{item_at, items_at, Siblings}
 use Rattle.places.proofs.Parts.{first_sibling}
 use Rattle.places.proofs.Tags.{IsItemTag, node_tag, type_definition_tag, class_definition_tag, statement_tag, item_tag}
@@ -27,10 +26,10 @@ use Rattle.syntax.proofs.NamesKnown.{known_after, items_known}
 use Rattle.evaluator.specs.Answers.{refused_by}
 use Rattle.evaluator.specs.Known.{KnownIn}
 use Rattle.declarations.specs.Standing.{NamesKnown, Set}
-use Rattle.definitions.specs.declared.Gathered.{Gathered}
-use Rattle.definitions.specs.declared.Gathered.TheVariants.{Done, Refused}
 use Rattle.definitions.specs.Defined.{ItemStands, IsDefinition, with_definitions, OnlyNames, Defines, KnownTo, GathersTo, taken_so, known_so}
 use Rattle.definitions.proofs.Definitions.{definition_there}
+use Rattle.std.specs.Prelude.{Result, Ok, Err}
+use Rattle.rules.specs.Verdicts.{no_fault}
 
 -- ---- The items from a place on
 
@@ -40,7 +39,7 @@ pub record ItemsFrom (m : List ℕ) (p : ℕ) : Type 0 where
   pub names : NamesKnown m p
   pub after : 0 < p
 
-pub items_first : (m : List ℕ) {p : ℕ} → check m ≡ Sound → p ≡ end_of m 0 → ItemsFrom m p
+pub items_first : (m : List ℕ) {p : ℕ} → check m ≡ no_fault → p ≡ end_of m 0 → ItemsFrom m p
 items_first m sound e = rw e (record { items = (manifest_opens m sound).each; names = items_known m sound; after = omega arith })
 
 module _ {m : List ℕ} {p : ℕ} (so : ItemsFrom m p) (here : p < length m) where
@@ -89,7 +88,7 @@ module _ (built_in : ℕ → Bool) (ds : List Definition) (d : Definition) (is :
   name_free h = rw h refl
 
 module _ {m : List ℕ} {p : ℕ} {w : List ℕ} (set : Set m w) (s : ItemStands m p) where
-  pub no_definition : {t : ℕ} → t ≡ byte m p → ((t ≡ 0x32) ⊎ (t ≡ 0x34) → ⊥) → (ps : List ℕ) → GathersTo m w w (p ∷ ps) ps Done
+  pub no_definition : {t : ℕ} → t ≡ byte m p → ((t ≡ 0x32) ⊎ (t ≡ 0x34) → ⊥) → (ps : List ℕ) → GathersTo m w w (p ∷ ps) ps (Ok tt)
   unfolding items_at with_definitions
   no_definition read other ps = known_so (only_names set) λ k known. record {
     definitions = k.definitions;
@@ -98,7 +97,7 @@ module _ {m : List ℕ} {p : ℕ} {w : List ℕ} (set : Set m w) (s : ItemStands
   }
 
   module _ (i : IsDefinition m p) {t : Bool} (told : (k : Known) → KnownIn m w k → t ≡ is_taken k.built_in k.definitions (two m (p + 3))) where
-    pub defined_again : (w' : List ℕ) {why : Refusal} → why ≡ refusal_at DefinedAgain p → t ≡ true → (ps : List ℕ) → GathersTo m w w' (p ∷ ps) ps (Refused why)
+    pub defined_again : (w' : List ℕ) {why : Refusal} → why ≡ refusal_at DefinedAgain p → t ≡ true → (ps : List ℕ) → GathersTo m w w' (p ∷ ps) ps (Err why)
     unfolding items_at
     defined_again w' {why} is h ps =
         let d = definition_there m p s i in
@@ -108,7 +107,7 @@ module _ {m : List ℕ} {p : ℕ} {w : List ℕ} (set : Set m w) (s : ItemStands
         ∙ ap (λ (q : ℕ). refused DefinedAgain q) d.place
         ∙ sym (ap refused_by is)
 
-    pub defined_now : {w' : List ℕ} → t ≡ false → Defines m p w w' → (ps : List ℕ) → GathersTo m w w' (p ∷ ps) ps Done
+    pub defined_now : {w' : List ℕ} → t ≡ false → Defines m p w w' → (ps : List ℕ) → GathersTo m w w' (p ∷ ps) ps (Ok tt)
     unfolding items_at
     defined_now h x ps =
         let d = definition_there m p s i in
@@ -123,7 +122,7 @@ module _ {m : List ℕ} {p : ℕ} {w : List ℕ} (set : Set m w) (s : ItemStands
 -- ---- gather
 
 -- one after the other
-and_then : {m w₀ w w' from between to : List ℕ} {a : Gathered} → GathersTo m w₀ w from between Done → GathersTo m w w' between to a → GathersTo m w₀ w' from to a
+and_then : {m w₀ w w' from between to : List ℕ} {a : Result Unit Refusal} → GathersTo m w₀ w from between (Ok tt) → GathersTo m w w' between to a → GathersTo m w₀ w' from to a
 unfolding with_definitions
 and_then (known_so only says) (taken_so refuses) = taken_so λ k known. let x = says k known in x.left ∙ refuses _ x.known
 and_then (known_so only says) (known_so only' says') =
@@ -131,35 +130,43 @@ and_then (known_so only says) (known_so only' says') =
     (record { set = only'.set; fine = λ f. only'.fine (only.fine f); rest = only'.rest ∙ only.rest; state = λ es n r. only'.state es n r ∙ only.state es n r })
     λ k known. let x = says k known in let y = says' _ x.known in record { definitions = y.definitions; left = x.left ∙ y.left; known = y.known }
 
-taken_all : {m w w' from to to' : List ℕ} {why : Refusal} → GathersTo m w w' from to (Refused why) → GathersTo m w w' from to' (Refused why)
+taken_all : {m w w' from to to' : List ℕ} {why : Refusal} → GathersTo m w w' from to (Err why) → GathersTo m w w' from to' (Err why)
 taken_all (taken_so refuses) = taken_so refuses
 
-still_set : {m w w' from to : List ℕ} → GathersTo m w w' from to Done → Set m w'
+still_set : {m w w' from to : List ℕ} → GathersTo m w w' from to (Ok tt) → Set m w'
 still_set (known_so only says) = only.set
 
 -- up to the item at p all are gathered
 pub record Along (m w₀ w : List ℕ) (p : ℕ) : Type 0 where
   pub memory : length w ≡ length w₀
   pub items : ItemsFrom m p
-  pub gathers : GathersTo m w₀ w (item_places m) (fields_in m p (length m)) Done
+  pub gathers : GathersTo m w₀ w (item_places m) (fields_in m p (length m)) (Ok tt)
 
-pub gathering_begins : (m w : List ℕ) {p : ℕ} → Set m w → check m ≡ Sound → p ≡ end_of m 0 → Along m w w p
+pub gathering_begins : (m w : List ℕ) {p : ℕ} → Set m w → check m ≡ no_fault → p ≡ end_of m 0 → Along m w w p
 unfolding item_places
 gathering_begins m w set sound e = record { memory = refl; items = items_first m sound e; gathers = rw e (known_so (only_names set) (nothing_gathered m w (fields_in m (end_of m 0) (length m)))) }
 
-module _ {m w₀ w : List ℕ} {p : ℕ} (so : Along m w₀ w p) where
+-- the walk has come to the item at p
+module _ {m w₀ w : List ℕ} {at p : ℕ} (along : Along m w₀ w at) (here : at ≡ p) where
+  so : Along m w₀ w p
+  so = subst (Along m w₀ w) here along
+
   pub along_set : Set m w
   along_set = still_set so.gathers
 
-  module _ {w' : List ℕ} {a : Gathered} (here : p < length m) (x : (ps : List ℕ) → GathersTo m w w' (p ∷ ps) ps a) where
-    this_one : GathersTo m w₀ w' (item_places m) (fields_in m (end_of m p) (length m)) a
-    this_one = and_then so.gathers (rw (field_first m p (length m) here) (x (fields_in m (end_of m p) (length m))))
+  module _ (before : p < length m) where
+    pub item_here : ItemStands m p
+    item_here = item_stands so.items before
 
-    pub gathering_goes_on : {q : ℕ} → length w' ≡ length w → a ≡ Done → q ≡ end_of m p → Along m w₀ w' q
-    gathering_goes_on size told ahead = record { memory = size ∙ so.memory; items = items_after so.items here ahead; gathers = rw ahead (rw told at this_one) }
+    module _ {w' : List ℕ} {a : Result Unit Refusal} (x : (ps : List ℕ) → GathersTo m w w' (p ∷ ps) ps a) where
+      this_one : GathersTo m w₀ w' (item_places m) (fields_in m (end_of m p) (length m)) a
+      this_one = and_then so.gathers (rw (field_first m p (length m) before) (x (fields_in m (end_of m p) (length m))))
 
-    pub gathering_refuses : {why : Refusal} → a ≡ Refused why → GathersTo m w₀ w' (item_places m) [] (Refused why)
-    gathering_refuses told = taken_all (rw told at this_one)
+      pub gathering_goes_on : {q : ℕ} → length w' ≡ length w → a ≡ Ok tt → q ≡ end_of m p → Along m w₀ w' q
+      gathering_goes_on size told ahead = record { memory = size ∙ so.memory; items = items_after so.items before ahead; gathers = rw ahead (rw told at this_one) }
 
-  pub all_gathered : length m ≤ p → GathersTo m w₀ w (item_places m) [] Done
-  all_gathered h = rw (no_fields m p (length m) h) at so.gathers
+      pub gathering_refuses : {why : Refusal} → a ≡ Err why → GathersTo m w₀ w' (item_places m) [] (Err why)
+      gathering_refuses told = taken_all (rw told at this_one)
+
+pub all_gathered : {m w₀ w : List ℕ} {p : ℕ} → Along m w₀ w p → length m ≤ p → GathersTo m w₀ w (item_places m) [] (Ok tt)
+all_gathered {m} {w₀} {w} {p} so h = rw (no_fields m p (length m) h) at so.gathers

@@ -9,17 +9,13 @@ use native.Mathlib.Numerals.{add-one}
 use lib.Dec.{eqb, ltb}
 use lib.ListN.{length, get_or, get_or-eq_default}
 use borrow.Author.Tests.{eq-eqb, ne_eqb, ltb-true, ltb-false, le-ltb}
-use Rattle.wire.specs.Bytes.{pick, two, end_of, fields_in}
-use Rattle.wire.proofs.Fields.{no_fields, field_first}
+use Rattle.wire.specs.Bytes.{pick, two}
 use Rattle.rules.specs.Check.{text, string_places, check}
 use Rattle.rules.specs.State.{Entry}
 use Rattle.rules.specs.Read.{manifest_of}
 use Rattle.rules.specs.Evaluate.{any}
-use Rattle.rules.specs.Types.{Types, built_in_types, check_types}
+use Rattle.rules.specs.Types.{Types, built_in_types}
 use Rattle.rules.specs.Compile.{same_bytes, string_at, string_number, title_text, is_built_in, known_with, room_in, none_struck_out}
-use Rattle.rules.specs.declared.Verdict.TheVariants.{Sound}
-use Rattle.syntax.specs.declared.Found.{Found}
-use Rattle.syntax.specs.declared.Found.TheVariants.{At, Nothing}
 use Rattle.syntax.specs.Strings.{texts_at, string_texts, is_built_in_text, indexed, Indexed, found_of}
 use Rattle.syntax.proofs.StringsRead.{few_strings_lem, strings_read, built_in_read, title_read, table_holds}
 use Rattle.cells.specs.Layout.{words_at, summary_at, put_at, rest_of}
@@ -34,6 +30,8 @@ use Rattle.definitions.specs.Prepared.{mark_string, mark_strings, Prepares, Blan
 use Rattle.rules.specs.Tree.{Constant}
 use Rattle.memory.specs.Words.{word_of, strike_label, strike_end, struck_at, struck_in}
 use Rattle.memory.proofs.Words.{word_at}
+use Rattle.std.specs.Prelude.{Option as CodeOption, Some, None}
+use Rattle.rules.specs.Verdicts.{no_fault}
 
 -- ---- mark_string
 
@@ -51,41 +49,39 @@ module _ (types : Types) (m : List ℕ) (n q : ℕ) {name : List ℕ} (named : n
 
 -- ---- mark_built_ins
 
--- up to the string n, at q, the strings are marked: those left make the whole
-pub record MarkedTo (types : Types) (m w₀ w : List ℕ) (e n q : ℕ) : Type 0 where
+-- up to the string n of those at `all` the strings are marked: those left, at qs, make the whole
+pub record MarkedTo (types : Types) (m w₀ w : List ℕ) (all : List ℕ) (n : ℕ) (qs : List ℕ) : Type 0 where
   pub size : length w ≡ length w₀
-  pub count : n + length (fields_in m q e) ≡ length (fields_in m 3 e)
-  pub names : mark_strings types m n (fields_in m q e) (names_of w) ≡ mark_strings types m 0 (fields_in m 3 e) (names_of w₀)
+  pub count : n + length qs ≡ length all
+  pub names : mark_strings types m n qs (names_of w) ≡ mark_strings types m 0 all (names_of w₀)
   pub state : (es : List Entry) (s r : ℕ) → state_of w es s r ≡ state_of w₀ es s r
   pub rest : rest_of w ≡ rest_of w₀
   pub fine : Fine w₀ → Fine w
 
-module _ (types : Types) (m : List ℕ) (e : ℕ) where
-  pub none_marked : (w : List ℕ) → MarkedTo types m w w e 0 3
-  none_marked w = record { size = refl; count = omega arith; names = refl; state = λ es s r. refl; rest = refl; fine = λ f. f }
+module _ (types : Types) (m : List ℕ) (all : List ℕ) where
+  module _ (w₀ w : List ℕ) {n : ℕ} {qs : List ℕ} (so : MarkedTo types m w₀ w all n qs) where
+    module _ {q : ℕ} {rest : List ℕ} (next : qs ≡ q ∷ rest) where
+      -- a string is left: its number is below the count
+      pub string_below : length all ≤ 1024 → n < 1024
+      string_below few = let c = rw next at so.count in omega arith
 
-  module _ (w₀ w : List ℕ) (n q : ℕ) (so : MarkedTo types m w₀ w e n q) where
-    -- a string is left: its number is below the count
-    pub string_below : {f : ℕ} → q < e → e ≡ f → length (fields_in m 3 f) ≤ 1024 → n < 1024
-    string_below l same few = let c = so.count in let first = rw (field_first m q e l) at c in let most = rw (sym same) at few in omega arith
+      pub one_marked : (w' : List ℕ) {n' : ℕ} → Becomes w w' (λ st. st) (mark_string types m n q) → length w' ≡ length w → n' ≡ n + 1 → MarkedTo types m w₀ w' all n' rest
+      unfolding mark_strings
+      one_marked w' s size further =
+          let c = rw next at so.count in
+          let old = rw next at so.names in
+          rw further (record {
+            size = size ∙ so.size;
+            count = omega arith;
+            names = rw (add-one n, s.names) old;
+            state = λ es k r. s.state es k r ∙ so.state es k r;
+            rest = s.rest ∙ so.rest;
+            fine = λ f. s.fine (so.fine f);
+          })
 
-    pub one_marked : (w' : List ℕ) {q' : ℕ} → q < e → Becomes w w' (λ st. st) (mark_string types m n q) → length w' ≡ length w → q' ≡ end_of m q → MarkedTo types m w₀ w' e (n + 1) q'
+    pub all_marked : qs ≡ [] → all ≡ string_places m → Becomes w₀ w (λ st. st) (mark_strings types m 0 (string_places m))
     unfolding mark_strings
-    one_marked w' l s size next =
-        let c = rw (field_first m q e l) at so.count in
-        let old = rw (field_first m q e l) at so.names in
-        rw next (record {
-          size = size ∙ so.size;
-          count = omega arith;
-          names = rw (add-one n, s.names) old;
-          state = λ es k r. s.state es k r ∙ so.state es k r;
-          rest = s.rest ∙ so.rest;
-          fine = λ f. s.fine (so.fine f);
-        })
-
-    pub all_marked : e ≤ q → e ≡ end_of m 0 → Becomes w₀ w (λ st. st) (mark_strings types m 0 (string_places m))
-    unfolding string_places mark_strings
-    all_marked l same = record { state = so.state; names = rw (sym same) (rw (no_fields m q e l) at so.names); rest = so.rest; fine = so.fine }
+    all_marked none_left same = record { state = so.state; names = rw (sym same) (rw none_left at so.names); rest = so.rest; fine = so.fine }
 
 -- ---- What the marks say
 
@@ -155,12 +151,12 @@ texts_count m (p ∷ ps) = ap suc (texts_count m ps)
 
 -- ---- prepare
 
-pub found_back : (o : Option ℕ) {n : ℕ} → found_of o ≡ At n → o ≡ some n
+pub found_back : (o : Option ℕ) {n : ℕ} → found_of o ≡ Some n → o ≡ some n
 unfolding found_of
 found_back none e = let z : ◌≡◌ {A = ℕ} 0 1 = cc in absurd (omega arith)
 found_back (some i) e = cc
 
-pub found_nothing : (o : Option ℕ) → found_of o ≡ Nothing → o ≡ none
+pub found_nothing : (o : Option ℕ) → found_of o ≡ None → o ≡ none
 unfolding found_of
 found_nothing none e = refl
 found_nothing (some i) e = let z : ◌≡◌ {A = ℕ} 0 1 = cc in absurd (omega arith)
@@ -173,10 +169,10 @@ found_below m bytes {n} is few =
     let count = texts_count m (string_places m) in
     omega arith
 
-pub title_below : (m : List ℕ) {r : Found} → r ≡ found_of (string_number title_text (string_texts m) 0) → {n : ℕ} → length (string_places m) ≤ 1024 → r ≡ At n → n < 1024
+pub title_below : (m : List ℕ) {r : CodeOption ℕ} → r ≡ found_of (string_number title_text (string_texts m) 0) → {n : ℕ} → length (string_places m) ≤ 1024 → r ≡ Some n → n < 1024
 title_below m told few h = found_below m title_text (found_back _ (sym told ∙ h)) few
 
-module _ (types : Types) (m w₀ w : List ℕ) (letters : is_built_in_text types [] ≡ false) (sound : check m ≡ Sound) (first : Begun w₀) (marked : Becomes w₀ w (λ st. st) (mark_strings types m 0 (string_places m))) where
+module _ (types : Types) (m w₀ w : List ℕ) (letters : is_built_in_text types [] ≡ false) (sound : check m ≡ no_fault) (first : Begun w₀) (marked : Becomes w₀ w (λ st. st) (mark_strings types m 0 (string_places m))) where
   -- the names after the marks
   names_are : names_of w ≡ mark_strings types m 0 (string_places m) no_names
   names_are = marked.names ∙ ap (mark_strings types m 0 (string_places m)) first.names
@@ -244,14 +240,14 @@ module _ (types : Types) (m w₀ w : List ℕ) (letters : is_built_in_text types
         words i l u =
             sym (word_at w' i) ∙ after (words_at + 2 * i) (omega arith) ∙ others_read w₀ w marked.rest (words_at + 2 * i) (omega arith) ∙ word_at w₀ i ∙ first.words i u
 
-    pub titled : {r : Found} (w' : List ℕ) {n : ℕ} → r ≡ found_of (string_number title_text (string_texts m) 0) → r ≡ At n → TitleSet w w' n → length w' ≡ length w → Prepares types m w' none_struck_out × Blank w'
+    pub titled : {r : CodeOption ℕ} (w' : List ℕ) {n : ℕ} → r ≡ found_of (string_number title_text (string_texts m) 0) → r ≡ Some n → TitleSet w w' n → length w' ≡ length w → Prepares types m w' none_struck_out × Blank w'
     titled w' told h s same = ready w' same s.names s.state s.fine (s.title ∙ sym (found_back _ (sym told ∙ h))) s.after
 
-    pub untitled : {r : Found} → r ≡ found_of (string_number title_text (string_texts m) 0) → r ≡ Nothing → Prepares types m w none_struck_out × Blank w
+    pub untitled : {r : CodeOption ℕ} → r ≡ found_of (string_number title_text (string_texts m) 0) → r ≡ None → Prepares types m w none_struck_out × Blank w
     untitled told h = ready w refl refl (λ es n r. refl) (λ f. f) (no_title_yet ∙ sym (found_nothing _ (sym told ∙ h))) (λ p l. refl)
 
 -- ---- choose_node
 
 -- the table of places after `index_strings`
-pub node_table : (m table : List ℕ) {table' : List ℕ} {n : ℕ} → check m ≡ Sound → length m ≤ 65535 → 2048 ≤ length table → n ≡ length (string_places m) → table' ≡ indexed m table → Indexed m table' n
+pub node_table : (m table : List ℕ) {table' : List ℕ} {n : ℕ} → check m ≡ no_fault → length m ≤ 65535 → 2048 ≤ length table → n ≡ length (string_places m) → table' ≡ indexed m table → Indexed m table' n
 node_table m table sound short room count e = rw (e, count) (table_holds m table sound short room)

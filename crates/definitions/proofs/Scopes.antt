@@ -14,7 +14,6 @@ use Rattle.rules.specs.Types.{Types}
 use Rattle.rules.specs.Compile.{is_built_in, known_with, start, run_manifest}
 use Rattle.rules.specs.Ranges.{Each, none_left, also}
 use Rattle.rules.specs.declared.Kind.TheVariants.{Item as ItemKind}
-use Rattle.rules.specs.declared.Verdict.TheVariants.{Sound}
 use Rattle.rules.proofs.Outcome.{All, all_bind}
 use Rattle.rules.proofs.Gathering.{gathered_each}
 use Rattle.rules.proofs.Laws.{items_for_each}
@@ -27,6 +26,7 @@ use Rattle.declarations.specs.Standing.{NamesKnown}
 use Rattle.declarations.proofs.Standing.{name_small}
 use Rattle.rules.specs.Tree.{Constant}
 use mathlib.Core.Bool.{Bool}
+use Rattle.rules.specs.Verdicts.{no_fault}
 
 module _ (m : List ℕ) (few : length (string_places m) ≤ 1024) where
   small_item : {q : ℕ} → StandsAs m 32 ItemKind q → NamesKnown m q → SmallItem (item_at m q)
@@ -48,14 +48,14 @@ module _ (m : List ℕ) (few : length (string_places m) ≤ 1024) where
   small_items {q = q} {e = e} l (sibling b s r) known =
       rw (field_first m q e b) (also (small_item s known) (small_items l r (known_after m (length (string_places m)) (length m) 32 q s.stands.sound s.stands.ends known)))
 
-pub manifest_small : (m : List ℕ) → check m ≡ Sound → Each SmallItem (manifest_of m).items
+pub manifest_small : (m : List ℕ) → check m ≡ no_fault → Each SmallItem (manifest_of m).items
 manifest_small m c =
     let o = manifest_opens m c in
     subst (Each SmallItem) (sym o.items) (small_items m o.most (omega arith) o.each (items_known m c))
 
 -- every state that the run of a sound manifest passes is tidy (rules/proofs/Scopes.antt), so in it more than 1,026 scopes change no read and a body's
 -- scope is empty when it is entered; here for the state at its end
-pub manifest_tidy : (struck_out : Constant → Bool) (types : Types) (m device : List ℕ) (limit output_length : ℕ) → check m ≡ Sound → All (Tidy everywhere) (run_manifest struck_out types (manifest_of m) device limit output_length)
+pub manifest_tidy : (struck_out : Constant → Bool) (types : Types) (m device : List ℕ) (limit output_length : ℕ) → check m ≡ no_fault → All (Tidy everywhere) (run_manifest struck_out types (manifest_of m) device limit output_length)
 unfolding run_manifest known_with
 manifest_tidy struck_out types m device limit output_length c =
     all_bind (gathered_each (λ d. small_definition_lem) (is_built_in types (manifest_of m).strings) (manifest_small m c) none_left) λ ds small.

@@ -1,5 +1,5 @@
 -- Definitions as they are gathered.
-use Rattle.std.specs.Prelude.{ℕ, ◌<◌, ◌≡◌, ◌⊎◌, false, List, ◌∷◌}
+use Rattle.std.specs.Prelude.{ℕ, ◌<◌, ◌≡◌, ◌⊎◌, false, List, ◌∷◌, Result, Ok, Err}
 use Rattle.wire.specs.Bytes.{byte}
 use Rattle.values.specs.declared.Refusal.{Refusal}
 use Rattle.rules.specs.Tree.{Definition, definition}
@@ -12,8 +12,6 @@ use Rattle.cells.specs.Memory.{state_of, Fine}
 use Rattle.evaluator.specs.Answers.{refused_by}
 use Rattle.evaluator.specs.Known.{KnownIn}
 use Rattle.declarations.specs.Standing.{NamesKnown, Set}
-use Rattle.definitions.specs.declared.Gathered.{Gathered}
-use Rattle.definitions.specs.declared.Gathered.TheVariants.{Done, Refused}
 
 -- at p stands an item, after the string table
 pub record ItemStands (m : List ℕ) (p : ℕ) : Type 0 where
@@ -48,6 +46,6 @@ pub record KnownTo (m w' : List ℕ) (from to : List ℕ) (k : Known) : Type 0 w
   pub known : KnownIn m w' (with_definitions definitions k)
 
 -- from w to w' the items at `from` were gathered up to those at `to`, or a name was taken
-pub data GathersTo (m w w' : List ℕ) (from to : List ℕ) : Gathered → Type 0 where
-  taken_so : {why : Refusal} → ((k : Known) → KnownIn m w k → gather_definitions k.built_in k.definitions (items_at m from) ≡ refused_by why) → GathersTo m w w' from to (Refused why)
-  known_so : OnlyNames m w w' → ((k : Known) → KnownIn m w k → KnownTo m w' from to k) → GathersTo m w w' from to Done
+pub data GathersTo (m w w' : List ℕ) (from to : List ℕ) : Result Unit Refusal → Type 0 where
+  taken_so : {why : Refusal} → ((k : Known) → KnownIn m w k → gather_definitions k.built_in k.definitions (items_at m from) ≡ refused_by why) → GathersTo m w w' from to (Err why)
+  known_so : OnlyNames m w w' → ((k : Known) → KnownIn m w k → KnownTo m w' from to k) → GathersTo m w w' from to (Ok tt)

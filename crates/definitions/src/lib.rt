@@ -7,7 +7,6 @@ ghost use Rattle.rules.specs.Check.{string_places, check};
 ghost use Rattle.rules.specs.Types.{check_types};
 ghost use Rattle.rules.specs.State.{Known};
 ghost use Rattle.rules.specs.Run.{is_taken};
-ghost use Rattle.rules.specs.declared.Verdict.TheVariants.{Sound};
 ghost use Rattle.syntax.specs.Strings.{found_of};
 ghost use Rattle.syntax.specs.Nodes.{node_for, item_places};
 ghost use Rattle.type_list.specs.Listed.{chosen, Listed};
@@ -17,16 +16,9 @@ ghost use Rattle.declarations.specs.Standing.{Set};
 ghost use Rattle.definitions.specs.Prepared.{mark_string, mark_strings, Prepares, Blank, is_device_at, NodeBlock};
 ghost use Rattle.definitions.specs.Defined.{ItemStands, IsDefinition, Defines, GathersTo};
 ghost use Rattle.rules.specs.Compile.{none_struck_out};
+ghost use Rattle.rules.specs.Verdicts.{no_fault};
 
-use syntax::Found;
 use values::{Reason, Refusal};
-
-// Whether the definitions are gathered, or why not.
-#[derive(Clone, Copy)]
-pub enum Gathered {
-    Done,
-    Refused(Refusal),
-}
 
 // ---- Before the first item
 
@@ -47,18 +39,14 @@ fn mark_built_ins(types: &[u8], index: &[u8], count: u16, m: &[u8], work: &mut [
     ensures { Becomes work.old work.new (λ st. st) (mark_strings (chosen types.now) m.now 0 (string_places m.now)) }
 {
     let end = wire::end_of(m, 0);
-    let mut n: u16 = 0;
-    let mut q: usize = 3;
-    while q < end {
-        mark_string(types, index, count, m, q, work, n);
-        n += 1;
-        q = wire::end_of(m, q);
+    for (n, q) in wire::fields_in(m, 3, end).enumerate() {
+        mark_string(types, index, count, m, q, work, n as u16);
     }
 }
 
 // The same, the list of types not being indexed yet.
 fn mark_types(types: &[u8], m: &[u8], work: &mut [u8])
-    requires { (check_types (chosen types.now) ≡ Sound) × ((65536 ≤ length work.old) × (length (string_places m.now) ≤ 1024)) }
+    requires { (check_types (chosen types.now) ≡ no_fault) × ((65536 ≤ length work.old) × (length (string_places m.now) ≤ 1024)) }
     ensures { Becomes work.old work.new (λ st. st) (mark_strings (chosen types.now) m.now 0 (string_places m.now)) }
 {
     let mut index = [0u8; type_list::INDEX];
@@ -68,23 +56,21 @@ fn mark_types(types: &[u8], m: &[u8], work: &mut [u8])
 
 // The state before the first item and the names of a manifest, whatever the memory holds. An empty list of types means the eight.
 pub fn prepare(types: &[u8], m: &[u8], work: &mut [u8])
-    requires { ((check_types (chosen types.now) ≡ Sound) × ((check m.now ≡ Sound) × (length m.now ≤ 65535))) × (65536 ≤ length work.old) }
+    requires { ((check_types (chosen types.now) ≡ no_fault) × ((check m.now ≡ no_fault) × (length m.now ≤ 65535))) × (65536 ≤ length work.old) }
     ensures { Prepares (chosen types.now) m.now work.new none_struck_out × Blank work.new }
 {
     memory::begin(work);
     mark_types(types, m, work);
-    let title = syntax::strings::title_number(m);
-    match title {
-        Found::At(n) => memory::set_title(work, n),
-        Found::Nothing => {}
+    if let Some(n) = syntax::strings::title_number(m) {
+        memory::set_title(work, n);
     }
 }
 
 // ---- The node that runs
 
 // The place of the node that runs for the device.
-pub fn choose_node(m: &[u8], device: &[u8]) -> Found
-    requires { (check m.now ≡ Sound) × (length m.now ≤ 65535) }
+pub fn choose_node(m: &[u8], device: &[u8]) -> Option<u16>
+    requires { (check m.now ≡ no_fault) × (length m.now ≤ 65535) }
     ensures { result ≡ found_of (node_for m.now device.now) }
 {
     let mut index = [0u8; 2048];
@@ -132,41 +118,35 @@ fn define(m: &[u8], p: usize, work: &mut [u8])
 }
 
 // The definition at p becomes known, unless its name is taken.
-fn gather_definition(m: &[u8], p: usize, work: &mut [u8]) -> Gathered
+fn gather_definition(m: &[u8], p: usize, work: &mut [u8]) -> Result<(), Refusal>
     requires { Set m.now work.old × (ItemStands m.now p × IsDefinition m.now p) }
     ensures { (ps : List ℕ) → GathersTo m.now work.old work.new (p ∷ ps) ps result }
 {
     if is_taken(m, p, work) {
-        return Gathered::Refused(Refusal::at(Reason::DefinedAgain, p));
+        return Err(Refusal::at(Reason::DefinedAgain, p));
     }
     define(m, p, work);
-    Gathered::Done
+    Ok(())
 }
 
 // The item at p, if it is a definition.
-fn gather_item(m: &[u8], p: usize, work: &mut [u8]) -> Gathered
+fn gather_item(m: &[u8], p: usize, work: &mut [u8]) -> Result<(), Refusal>
     requires { Set m.now work.old × ItemStands m.now p }
     ensures { (ps : List ℕ) → GathersTo m.now work.old work.new (p ∷ ps) ps result }
 {
     match wire::byte_at(m, p) {
         0x32 | 0x34 => gather_definition(m, p, work),
-        _ => Gathered::Done,
+        _ => Ok(()),
     }
 }
 
 // "All definitions are gathered first": those of all items become known, up to the first whose name is taken.
-pub fn gather(m: &[u8], work: &mut [u8]) -> Gathered
-    requires { Set m.now work.old × (check m.now ≡ Sound) }
+pub fn gather(m: &[u8], work: &mut [u8]) -> Result<(), Refusal>
+    requires { Set m.now work.old × (check m.now ≡ no_fault) }
     ensures { GathersTo m.now work.old work.new (item_places m.now) [] result }
 {
-    let mut p = wire::end_of(m, 0);
-    while p < m.len() {
-        let r = gather_item(m, p, work);
-        match r {
-            Gathered::Refused(refusal) => return Gathered::Refused(refusal),
-            Gathered::Done => {}
-        }
-        p = wire::end_of(m, p);
+    for p in wire::fields_in(m, wire::end_of(m, 0), m.len()) {
+        gather_item(m, p, work)?;
     }
-    Gathered::Done
+    Ok(())
 }

@@ -8,6 +8,7 @@ use native.Mathlib.Omega.{arith}
 use borrow.Author.Tests.{ne_eqb, eqb-true, le-ltb}
 use lib.Dec.{eqb}
 use lib.IntN.{ℤ}
+use Rattle.std.specs.Prelude.{Err}
 use Rattle.labels.specs.declared.Labels.{Labels}
 use Rattle.labels.specs.Sets.{one_label, ◌∪◌}
 use Rattle.labels.specs.Words.{labels_in, Joins}
@@ -17,7 +18,7 @@ use Rattle.values.specs.declared.Value.TheVariants.{Integer, String, Boolean}
 use Rattle.values.specs.declared.Labelled.{Labelled}
 use Rattle.values.specs.declared.Refusal.{Refusal}
 use Rattle.values.specs.Refusals.{refusal_at}
-use Rattle.wire.specs.Bytes.{pick, byte, two}
+use Rattle.wire.specs.Bytes.{byte, two}
 use Rattle.wire.specs.Numbers.{number, signed64}
 use Rattle.wire.specs.Runs.{bytes_at}
 use Rattle.rules.specs.Evaluate.{of_constant}
@@ -25,9 +26,7 @@ use Rattle.places.specs.At.{value_at, constant_at}
 use Rattle.rules.specs.Outcome.{◌>>=◌, refuse_if, plain}
 use Rattle.values.specs.declared.Reason.TheVariants.{Malformed}
 use Rattle.memory.specs.Words.{word_of, strike_label, strike_end, struck_at, struck_in}
-use Rattle.evaluator.specs.declared.Evaluated.{Evaluated}
-use Rattle.evaluator.specs.declared.Evaluated.TheVariants.{Refused}
-use Rattle.evaluator.specs.Answers.{evaluated, Joined}
+use Rattle.evaluator.specs.Answers.{Evaluated, evaluated, Joined}
 use Rattle.evaluator.specs.Known.{constant_in}
 use Rattle.evaluator.proofs.Outcomes.{refusal_joined, value_joined}
 
@@ -64,7 +63,7 @@ module _ (m w : List ℕ) (p : ℕ) where
   struck_told labelled struck = struck ∙ ap (λ (n : ℕ). struck_at w n p) labelled
 
   module _ {b : Bool} (struck : b ≡ struck_in w (constant_at m p)) where
-    pub constant_struck : {s : List ℕ} {why : Refusal} → length s ≡ 4 → b ≡ true → why ≡ refusal_at Malformed p → Joined s s (Refused why) (constant_in w (constant_at m p))
+    pub constant_struck : {s : List ℕ} {why : Refusal} → length s ≡ 4 → b ≡ true → why ≡ refusal_at Malformed p → Joined s s (Err why) (constant_in w (constant_at m p))
     unfolding constant_in constant_at refuse_if ◌>>=◌
     constant_struck {s} size is e = record { grows = grows_none size; says = rw (sym struck ∙ is) (refusal_joined (labels_in s) (labels_in s) e) }
 

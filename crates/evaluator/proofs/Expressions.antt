@@ -23,11 +23,8 @@ use Rattle.memory.specs.declared.Scope.{Scope}
 use Rattle.memory.specs.Contexts.{context_in}
 use Rattle.evaluator.specs.declared.Begun.{Begun}
 use Rattle.evaluator.specs.declared.Begun.TheVariants.{WrongKind, Decided, Open}
-use Rattle.evaluator.specs.declared.Evaluated.{Evaluated}
-use Rattle.evaluator.specs.declared.Evaluated.TheVariants.{Refused}
-use Rattle.evaluator.specs.declared.Valued.{Valued}
-use Rattle.evaluator.specs.declared.Valued.TheVariants.{Value as IsValue, Refused as IsRefused}
-use Rattle.evaluator.specs.Answers.{answered, evaluated, valued_as}
+use Rattle.evaluator.specs.Answers.{Evaluated, answered, evaluated}
+use Rattle.std.specs.Prelude.{Ok, Err}
 use Rattle.evaluator.specs.Operators.{begin, after_left, combine, negation}
 use Rattle.evaluator.specs.Known.{Ready, TellsJoined, Sized, attribute_of}
 use Rattle.evaluator.proofs.Outcomes.{◌▷◌, stops, goes_on, refusal_joined, plain_joined, with_labels}
@@ -61,14 +58,14 @@ module _ (m w out : List ℕ) (fill : ℕ) (scope : Scope) where
 
   -- first an operand, then the rest with its value
   module _ {f whole : Run} {s s1 : List ℕ} {e : Evaluated} (rest : Known → Context → State → Value → Outcome Labelled) (means : (k : Known) (c : Context) (st : State) → (f k c st ▷ rest k c st) ≡ whole k c st)
-      (told : TellsJoined m w out fill scope s s1 e f) {u : Valued} (apart : u ≡ valued_as e) where
-    pub then_stops : {why : Refusal} → u ≡ IsRefused why → TellsJoined m w out fill scope s s1 e whole
-    then_stops refuses = tells_as whole means
-        (record { says = λ k path es n r h. stops e (labels_in s) (labels_in s1) (rest k (context_in scope path) (state_of w es n r)) apart (f k (context_in scope path) (state_of w es n r)) (told.says k path es n r h) refuses })
+      (told : TellsJoined m w out fill scope s s1 e f) where
+    pub then_stops : {why : Refusal} {a : Evaluated} → e ≡ Err why → a ≡ Err why → TellsJoined m w out fill scope s s1 a whole
+    then_stops {a = a} refuses handed_on = tells_as whole means
+        (record { says = λ k path es n r h. ap (λ (x : Evaluated). answered x (labels_in s1)) handed_on ∙ stops e (labels_in s) (labels_in s1) (rest k (context_in scope path) (state_of w es n r)) (f k (context_in scope path) (state_of w es n r)) (told.says k path es n r h) refuses })
 
-    pub then_goes_on : {v : Value} {s2 : List ℕ} {g : Evaluated} → u ≡ IsValue v → TellsJoined m w out fill scope s1 s2 g (λ k c st. rest k c st v) → TellsJoined m w out fill scope s s2 g whole
+    pub then_goes_on : {v : Value} {s2 : List ℕ} {g : Evaluated} → e ≡ Ok v → TellsJoined m w out fill scope s1 s2 g (λ k c st. rest k c st v) → TellsJoined m w out fill scope s s2 g whole
     then_goes_on yields after = tells_as whole means
-        (record { says = λ k path es n r h. goes_on e (labels_in s) (labels_in s1) (rest k (context_in scope path) (state_of w es n r)) apart (f k (context_in scope path) (state_of w es n r)) (told.says k path es n r h) yields (after.says k path es n r h) })
+        (record { says = λ k path es n r h. goes_on e (labels_in s) (labels_in s1) (rest k (context_in scope path) (state_of w es n r)) (f k (context_in scope path) (state_of w es n r)) (told.says k path es n r h) yields (after.says k path es n r h) })
 
   -- ---- Operators
 
@@ -99,40 +96,40 @@ module _ (m w out : List ℕ) (fill : ℕ) (scope : Scope) where
       unfolding after_left
       right_means eq k c st = steps eq k c st
 
-    module _ {q : ℕ} {s s1 : List ℕ} {a : Evaluated} (small : Small q (p + 4)) (left : StandsAs m b ExpressionKind q → Told b q s s1 a) {u : Valued} (apart : u ≡ valued_as a) where
-      pub left_stops : {why : Refusal} → u ≡ IsRefused why → Told d p s s1 a
-      left_stops refuses = then_stops (λ k c st x. operator_here x k c st) operation_means (operand_told b (p + 4) short o.left small left) apart refuses
+    module _ {q : ℕ} {s s1 : List ℕ} {a : Evaluated} (small : Small q (p + 4)) (left : StandsAs m b ExpressionKind q → Told b q s s1 a) where
+      pub left_stops : {why : Refusal} {g : Evaluated} → a ≡ Err why → g ≡ Err why → Told d p s s1 g
+      left_stops refuses handed_on = then_stops (λ k c st x. operator_here x k c st) operation_means (operand_told b (p + 4) short o.left small left) refuses handed_on
 
-      left_goes_on : {x : Value} {s2 : List ℕ} {g : Evaluated} → u ≡ IsValue x → TellsJoined m w out fill scope s1 s2 g (operator_here x) → Told d p s s2 g
-      left_goes_on yields after = then_goes_on (λ k c st x. operator_here x k c st) operation_means (operand_told b (p + 4) short o.left small left) apart yields after
+      left_goes_on : {x : Value} {s2 : List ℕ} {g : Evaluated} → a ≡ Ok x → TellsJoined m w out fill scope s1 s2 g (operator_here x) → Told d p s s2 g
+      left_goes_on yields after = then_goes_on (λ k c st x. operator_here x k c st) operation_means (operand_told b (p + 4) short o.left small left) yields after
 
-      module _ {x : Value} (yields : u ≡ IsValue x) {op : ℕ} {begun : Begun} (byte-is : op ≡ byte m (p + 3)) (begins : begun ≡ begin (operator_from op) x) where
-        pub left_unlike : {why : Refusal} → begun ≡ WrongKind → why ≡ refusal_at NotThatKind q → Told d p s s1 (Refused why)
+      module _ {x : Value} (yields : a ≡ Ok x) {op : ℕ} {begun : Begun} (byte-is : op ≡ byte m (p + 3)) (begins : begun ≡ begin (operator_from op) x) where
+        pub left_unlike : {why : Refusal} → begun ≡ WrongKind → why ≡ refusal_at NotThatKind q → Told d p s s1 (Err why)
         unfolding after_left
         left_unlike eq e =
             let same : q ≡ p + 4 = small.1 (omega (arith, o.left.stands.ends)) in
             left_goes_on yields (record { says = λ k path es n r h. refusal_joined (labels_in s1) (labels_in s1) e ∙ ap (joining (labels_in s1)) (ap (refused NotThatKind) same ∙ steps x byte-is begins eq k (context_in scope path) (state_of w es n r)) })
 
-        pub left_decides : begun ≡ Decided → Told d p s s1 a
+        pub left_decides : begun ≡ Decided → Told d p s s1 (Ok x)
         unfolding after_left
         left_decides eq =
-            left_goes_on yields (record { says = λ k path es n r h. plain_joined a apart yields (labels_in s1) ∙ ap (joining (labels_in s1)) (steps x byte-is begins eq k (context_in scope path) (state_of w es n r)) })
+            left_goes_on yields (record { says = λ k path es n r h. plain_joined x (labels_in s1) ∙ ap (joining (labels_in s1)) (steps x byte-is begins eq k (context_in scope path) (state_of w es n r)) })
 
         -- the right operand, if the left value leaves it open
-        module _ {e r : ℕ} {s2 : List ℕ} {y : Evaluated} (is_open : begun ≡ Open) (end_is : e ≡ end_of m (p + 4)) (near : Small r e) (right : StandsAs m b ExpressionKind r → Told b r s1 s2 y) {v : Valued} (taken : v ≡ valued_as y) where
+        module _ {e r : ℕ} {s2 : List ℕ} {y : Evaluated} (is_open : begun ≡ Open) (end_is : e ≡ end_of m (p + 4)) (near : Small r e) (right : StandsAs m b ExpressionKind r → Told b r s1 s2 y) where
           right_near : Small r (end_of m (p + 4))
           right_near = (near.0, λ l. near.1 (omega arith) ∙ end_is)
 
           right_told : Told b (end_of m (p + 4)) s1 s2 y
           right_told = operand_told b (end_of m (p + 4)) short o.right right_near right
 
-          pub right_stops : {why : Refusal} → v ≡ IsRefused why → Told d p s s2 y
-          right_stops refuses = left_goes_on yields (then_stops (λ k c st z. combined x z) (right_means x byte-is begins is_open) right_told taken refuses)
+          pub right_stops : {why : Refusal} {g : Evaluated} → y ≡ Err why → g ≡ Err why → Told d p s s2 g
+          right_stops refuses handed_on = left_goes_on yields (then_stops (λ k c st z. combined x z) (right_means x byte-is begins is_open) right_told refuses handed_on)
 
-          pub right_goes_on : {z : Value} {g : Evaluated} → v ≡ IsValue z → evaluated g ≡ combine (operator_from op) p r x z → Told d p s s2 g
+          pub right_goes_on : {z : Value} {g : Evaluated} → y ≡ Ok z → evaluated g ≡ combine (operator_from op) p r x z → Told d p s s2 g
           right_goes_on {z} {g} gives both =
               let same : r ≡ end_of m (p + 4) = right_near.1 (omega (arith, o.right.stands.ends)) in
-              left_goes_on yields (then_goes_on (λ k c st z. combined x z) (right_means x byte-is begins is_open) right_told taken gives
+              left_goes_on yields (then_goes_on (λ k c st z. combined x z) (right_means x byte-is begins is_open) right_told gives
               (record { says = λ k path es n t h. with_labels g (both ∙ λ j. combine (operator_from (byte-is j)) p (same j) x z) (labels_in s2) }))
 
   -- ---- not
@@ -144,14 +141,14 @@ module _ (m w out : List ℕ) (fill : ℕ) (scope : Scope) where
         (λ i. evaluate k c st (expression_at m b (p + 3)) ▷ λ x. negation (sym (expression_place m b (p + 3)) i) x)
         ∙ sym (ap (evaluate k c st) o.tree)
 
-    module _ {q : ℕ} {s s1 : List ℕ} {a : Evaluated} (small : Small q (p + 3)) (told : StandsAs m b ExpressionKind q → Told b q s s1 a) {u : Valued} (apart : u ≡ valued_as a) where
-      pub negation_stops : {why : Refusal} → u ≡ IsRefused why → Told d p s s1 a
-      negation_stops refuses = then_stops (λ k c st x. negation (p + 3) x) negation_means (operand_told b (p + 3) short o.operand small told) apart refuses
+    module _ {q : ℕ} {s s1 : List ℕ} {a : Evaluated} (small : Small q (p + 3)) (told : StandsAs m b ExpressionKind q → Told b q s s1 a) where
+      pub negation_stops : {why : Refusal} {g : Evaluated} → a ≡ Err why → g ≡ Err why → Told d p s s1 g
+      negation_stops refuses handed_on = then_stops (λ k c st x. negation (p + 3) x) negation_means (operand_told b (p + 3) short o.operand small told) refuses handed_on
 
-      pub negation_goes_on : {x : Value} {g : Evaluated} → u ≡ IsValue x → evaluated g ≡ negation q x → Told d p s s1 g
+      pub negation_goes_on : {x : Value} {g : Evaluated} → a ≡ Ok x → evaluated g ≡ negation q x → Told d p s s1 g
       negation_goes_on {x} {g} yields gave =
           let same : q ≡ p + 3 = small.1 (omega (arith, o.operand.stands.ends)) in
-          then_goes_on (λ k c st x. negation (p + 3) x) negation_means (operand_told b (p + 3) short o.operand small told) apart yields
+          then_goes_on (λ k c st x. negation (p + 3) x) negation_means (operand_told b (p + 3) short o.operand small told) yields
           (record { says = λ k path es n r h. with_labels g (gave ∙ ap (λ (l : ℕ). negation l x) same) (labels_in s1) })
 
   -- ---- Attributes
@@ -166,15 +163,15 @@ module _ (m w out : List ℕ) (fill : ℕ) (scope : Scope) where
         (λ i. evaluate k c st (expression_at m b (p + 7)) ▷ λ x. attribute_here (sym (expression_place m b (p + 7)) i) k st.entries x)
         ∙ sym (ap (evaluate k c st) o.tree)
 
-    module _ {q : ℕ} {s s1 : List ℕ} {a : Evaluated} (small : Small q (p + 7)) (told : StandsAs m b ExpressionKind q → Told b q s s1 a) {u : Valued} (apart : u ≡ valued_as a) where
-      pub title_stops : {why : Refusal} → u ≡ IsRefused why → Told d p s s1 a
-      title_stops refuses = then_stops (λ k c st x. attribute_here (p + 7) k st.entries x) attribute_means (operand_told b (p + 7) short o.title small told) apart refuses
+    module _ {q : ℕ} {s s1 : List ℕ} {a : Evaluated} (small : Small q (p + 7)) (told : StandsAs m b ExpressionKind q → Told b q s s1 a) where
+      pub title_stops : {why : Refusal} {g : Evaluated} → a ≡ Err why → g ≡ Err why → Told d p s s1 g
+      title_stops refuses handed_on = then_stops (λ k c st x. attribute_here (p + 7) k st.entries x) attribute_means (operand_told b (p + 7) short o.title small told) refuses handed_on
 
-      pub title_goes_on : {x : Value} (s2 : List ℕ) (g : Evaluated) → u ≡ IsValue x → ((k : Known) (es : List Entry) → Ready m w out fill k es → answered g (labels_in s2) ≡ joining (labels_in s1) (attribute_here q k es x)) → Told d p s s2 g
+      pub title_goes_on : {x : Value} (s2 : List ℕ) (g : Evaluated) → a ≡ Ok x → ((k : Known) (es : List Entry) → Ready m w out fill k es → answered g (labels_in s2) ≡ joining (labels_in s1) (attribute_here q k es x)) → Told d p s s2 g
       unfolding state_of
       title_goes_on {x} s2 g yields read =
           let same : q ≡ p + 7 = small.1 (omega (arith, o.title.stands.ends)) in
-          then_goes_on (λ k c st x. attribute_here (p + 7) k st.entries x) attribute_means (operand_told b (p + 7) short o.title small told) apart yields
+          then_goes_on (λ k c st x. attribute_here (p + 7) k st.entries x) attribute_means (operand_told b (p + 7) short o.title small told) yields
           (record { says = λ k path es n r h. read k es h ∙ ap (λ (l : ℕ). joining (labels_in s1) (attribute_here l k es x)) same })
 
 -- the same lengths, at another place

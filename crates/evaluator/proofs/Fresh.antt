@@ -2,6 +2,7 @@
 use Prim.Native.Nat.{ℕ}
 use mathlib.Core.Path.{◌≡◌, sym, ap, ◌∙◌}
 use mathlib.Core.List.{List}
+use Rattle.std.specs.Prelude.{Ok, Err}
 use Rattle.labels.specs.declared.Labels.{Labels}
 use Rattle.labels.specs.Sets.{no_labels}
 use Rattle.labels.specs.Words.{labels_in}
@@ -12,10 +13,7 @@ use Rattle.rules.specs.Outcome.{Outcome, joining}
 use Rattle.cells.specs.Memory.{state_of}
 use Rattle.memory.specs.declared.Scope.{Scope}
 use Rattle.memory.specs.Contexts.{context_in}
-use Rattle.evaluator.specs.declared.Evaluated.{Evaluated}
-use Rattle.evaluator.specs.declared.Valued.{Valued}
-use Rattle.evaluator.specs.declared.Valued.TheVariants.{Value as IsValue, Refused as IsRefused}
-use Rattle.evaluator.specs.Answers.{refused_by, value_with, answered, valued_as}
+use Rattle.evaluator.specs.Answers.{Evaluated, refused_by, value_with, answered}
 use Rattle.evaluator.specs.Known.{Tells, TellsJoined}
 use Rattle.evaluator.proofs.Outcomes.{joining_none, value_answered, refusal_answered}
 use Rattle.evaluator.proofs.Expressions.{Run}
@@ -29,9 +27,8 @@ module _ {m w out : List ℕ} {fill : ℕ} {scope : Scope} {s s' : List ℕ} {e 
         sym is ∙ told.says k path es n r h ∙ ap (λ (l : Labels). joining l run) none ∙ joining_none run;
   }
 
-  module _ {u : Valued} (apart : u ≡ valued_as e) where
-    pub fresh_refusal : {why : Refusal} → u ≡ IsRefused why → Tells m w out fill scope (refused_by why) f
-    fresh_refusal refuses = fresh_told (refusal_answered e apart refuses (labels_in s'))
+  pub fresh_refusal : {why : Refusal} → e ≡ Err why → Tells m w out fill scope (refused_by why) f
+  fresh_refusal refuses = fresh_told (refusal_answered refuses (labels_in s'))
 
-    pub fresh_value : {v : Value} {l : Labels} → u ≡ IsValue v → l ≡ labels_in s' → Tells m w out fill scope (value_with v l) f
-    fresh_value {v} yields read = fresh_told (value_answered e apart yields (labels_in s') ∙ ap (value_with v) (sym read))
+  pub fresh_value : {v : Value} {l : Labels} → e ≡ Ok v → l ≡ labels_in s' → Tells m w out fill scope (value_with v l) f
+  fresh_value {v} yields read = fresh_told (value_answered yields (labels_in s') ∙ ap (value_with v) (sym read))

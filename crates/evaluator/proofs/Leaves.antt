@@ -21,8 +21,7 @@ use Rattle.cells.specs.Memory.{cells_of, classes_of, base_for, state_of}
 use Rattle.cells.proofs.Scopes.{top_scope_lem}
 use Rattle.memory.specs.declared.Scope.{Scope}
 use Rattle.memory.specs.Contexts.{context_in}
-use Rattle.evaluator.specs.declared.Evaluated.{Evaluated}
-use Rattle.evaluator.specs.Answers.{answered}
+use Rattle.evaluator.specs.Answers.{Evaluated, answered}
 use Rattle.evaluator.specs.Known.{KnownIn, Tells, TellsJoined, class_read, constant_in}
 use Rattle.evaluator.proofs.Reading.{read_one}
 use Rattle.values.specs.declared.Reason.TheVariants.{Malformed}

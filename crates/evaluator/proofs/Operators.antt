@@ -12,8 +12,6 @@ use denote.Enum.Declared.{tag_of}
 use Rattle.values.specs.declared.Value.{Value}
 use Rattle.values.specs.declared.Value.TheVariants.{Integer, String, Boolean}
 use Rattle.values.specs.declared.Labelled.{Labelled}
-use Rattle.values.specs.declared.Computed.{Computed}
-use Rattle.values.specs.declared.Computed.TheVariants.{Integer as Whole, Overflow as TooLarge, DivisionByZero as ByZero}
 use Rattle.values.specs.declared.Reason.TheVariants.{WrongKind as NotThatKind, Overflow, DivisionByZero}
 use Rattle.values.specs.Integers.{fits64, is_zero, floor_divide}
 use Rattle.values.specs.Computed.{computed}
@@ -27,6 +25,9 @@ use Rattle.rules.specs.Evaluate.{integers, booleans, equality, operate}
 use Rattle.evaluator.specs.declared.Begun.{Begun}
 use Rattle.evaluator.specs.declared.Begun.TheVariants.{WrongKind, Decided, Open}
 use Rattle.evaluator.specs.Operators.{begin_integer, begin_boolean, begin, after_left, arithmetic, both_integers, right_boolean, combine, result_of, computed_at, negation}
+use Rattle.std.specs.Prelude.{Result, Ok, Err}
+use Rattle.values.specs.declared.ArithmeticError.{ArithmeticError}
+use Rattle.values.specs.declared.ArithmeticError.TheVariants.{DivisionByZero, Overflow}
 
 -- ---- Values of another kind
 
@@ -131,21 +132,21 @@ ranged : (z : ℤ) → result_of (computed false z) ≡ in_range z
 unfolding result_of computed in_range
 ranged z = go (fits64 z)
   where
-    go : (b : Bool) → result_of (elim b [ true ↦ Whole z | false ↦ TooLarge ]) ≡ (elim b [ true ↦ gives (Integer z) | false ↦ fails Overflow ])
+    go : (b : Bool) → result_of (elim b [ true ↦ Ok z | false ↦ Err Overflow ]) ≡ (elim b [ true ↦ gives (Integer z) | false ↦ fails Overflow ])
     go true = refl
     go false = refl
 
 -- i and j are passed on as i' and j'
 module _ (n : ℕ) (i j : ℤ) {i' j' : ℤ} (li : i' ≡ i) (lj : j' ≡ j) where
-  pub computes_sum : {c : Computed} → n ≡ 0 → c ≡ computed false (i' +ℤ j') → result_of c ≡ arithmetic (operator_from n) i j
+  pub computes_sum : {c : Result ℤ ArithmeticError} → n ≡ 0 → c ≡ computed false (i' +ℤ j') → result_of c ≡ arithmetic (operator_from n) i j
   unfolding operator_from operators entry_for arithmetic sum
   computes_sum e h = rw (h, li, lj, e) (ranged (i +ℤ j))
 
-  pub computes_difference : {c : Computed} → n ≡ 1 → c ≡ computed false (i' -ℤ j') → result_of c ≡ arithmetic (operator_from n) i j
+  pub computes_difference : {c : Result ℤ ArithmeticError} → n ≡ 1 → c ≡ computed false (i' -ℤ j') → result_of c ≡ arithmetic (operator_from n) i j
   unfolding operator_from operators entry_for arithmetic difference
   computes_difference e h = rw (h, li, lj, e) (ranged (i -ℤ j))
 
-  pub computes_quotient : {c : Computed} → n < 3 → (n ≡ 0 → ⊥) → (n ≡ 1 → ⊥) → c ≡ computed (is_zero j') (floor_divide i' j') → result_of c ≡ arithmetic (operator_from n) i j
+  pub computes_quotient : {c : Result ℤ ArithmeticError} → n < 3 → (n ≡ 0 → ⊥) → (n ≡ 1 → ⊥) → c ≡ computed (is_zero j') (floor_divide i' j') → result_of c ≡ arithmetic (operator_from n) i j
   unfolding operator_from operators entry_for arithmetic quotient result_of computed
   computes_quotient l a b h =
       let two : n ≡ 2 = omega arith in
@@ -155,15 +156,15 @@ module _ (n : ℕ) (i j : ℤ) {i' j' : ℤ} (li : i' ≡ i) (lj : j' ≡ j) whe
       go true = refl
       go false = ranged (floor_divide i j)
 
-pub computed_whole : (p : ℕ) {c : Computed} {z z' : ℤ} {e : Outcome Labelled} → c ≡ Whole z → z' ≡ z → e ≡ plain (Integer z') → e ≡ computed_at p c
+pub computed_whole : (p : ℕ) {c : Result ℤ ArithmeticError} {z z' : ℤ} {e : Outcome Labelled} → c ≡ Ok z → z' ≡ z → e ≡ plain (Integer z') → e ≡ computed_at p c
 unfolding computed_at result_of at ◌>>=◌
 computed_whole p h i e = e ∙ rw (h, i)
 
-pub computed_large : (p : ℕ) {c : Computed} {e : Outcome Labelled} → c ≡ TooLarge → e ≡ refused Overflow p → e ≡ computed_at p c
+pub computed_large : (p : ℕ) {c : Result ℤ ArithmeticError} {e : Outcome Labelled} → c ≡ Err Overflow → e ≡ refused Overflow p → e ≡ computed_at p c
 unfolding computed_at result_of at ◌>>=◌
 computed_large p h e = rw h e
 
-pub computed_by_zero : (p : ℕ) {c : Computed} {e : Outcome Labelled} → c ≡ ByZero → e ≡ refused DivisionByZero p → e ≡ computed_at p c
+pub computed_by_zero : (p : ℕ) {c : Result ℤ ArithmeticError} {e : Outcome Labelled} → c ≡ Err DivisionByZero → e ≡ refused DivisionByZero p → e ≡ computed_at p c
 unfolding computed_at result_of at ◌>>=◌
 computed_by_zero p h e = rw h e
 
@@ -181,7 +182,7 @@ pub both_greater : (n p r : ℕ) (x y : Value) {i j i' j' : ℤ} {b : Bool} {e :
 unfolding both_integers integer_in at ◌>>=◌ operator_from operators entry_for arithmetic is_greater
 both_greater n p r x y l h li lj t g e = e ∙ rw (l, h, t, g, li, lj)
 
-pub both_computed : (o : Operator) (p r : ℕ) (x y : Value) {i j i' j' : ℤ} (c : Computed) {e : Outcome Labelled} → x ≡ Integer i → y ≡ Integer j → i' ≡ i → j' ≡ j → result_of c ≡ arithmetic o i' j' → e ≡ computed_at p c → e ≡ both_integers o p r x y
+pub both_computed : (o : Operator) (p r : ℕ) (x y : Value) {i j i' j' : ℤ} (c : Result ℤ ArithmeticError) {e : Outcome Labelled} → x ≡ Integer i → y ≡ Integer j → i' ≡ i → j' ≡ j → result_of c ≡ arithmetic o i' j' → e ≡ computed_at p c → e ≡ both_integers o p r x y
 unfolding both_integers integer_in at ◌>>=◌ computed_at
 both_computed o p r x y {i} {j} c l h li lj g e = e ∙ rw (l, h, ← li, ← lj, g)
 

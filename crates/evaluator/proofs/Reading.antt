@@ -23,8 +23,6 @@ use Rattle.rules.specs.Arithmetic.{string_in}
 use Rattle.rules.specs.State.{Scope, Base, DeclaredClass, parent_of, upward, is_some, no_cell, Cells, Known, Entry}
 use Rattle.rules.specs.Evaluate.{is_type, is_class, or_else, read_in, read_attribute}
 use Rattle.rules.specs.Compile.{onto}
-use Rattle.cells.specs.declared.Found.{Found as SlotFound}
-use Rattle.cells.specs.declared.Found.TheVariants.{At as SlotAt, Nothing as NoSlot}
 use Rattle.cells.specs.Layout.{body_at, body_mark, slots_of, content_in}
 use Rattle.cells.specs.Scopes.{scope_of}
 use Rattle.cells.specs.Slots.{value_in, mark_in, slot_for}
@@ -32,17 +30,9 @@ use Rattle.cells.specs.Memory.{cell_at, cells_of, classes_of}
 use Rattle.cells.proofs.Scopes.{class_scope_lem}
 use Rattle.cells.proofs.SlotReads.{content_there, mark_read}
 use Rattle.cells.proofs.Ways.{in_slots, cell_found}
-use Rattle.memory.specs.declared.Above.{Above}
-use Rattle.memory.specs.declared.Above.TheVariants.{At, Nothing}
-use Rattle.evaluator.specs.declared.Evaluated.{Evaluated}
-use Rattle.evaluator.specs.declared.Evaluated.TheVariants.{Refused}
 use Rattle.evaluator.specs.declared.Variable.{Variable}
-use Rattle.evaluator.specs.declared.Sought.{Sought}
-use Rattle.evaluator.specs.declared.Sought.TheVariants.{Variable as IsVariable, Unknown as UnknownClass}
-use Rattle.evaluator.specs.Answers.{answered, evaluated}
+use Rattle.evaluator.specs.Answers.{Evaluated, answered, evaluated}
 use Rattle.memory.specs.Names.{scope_above}
-use Rattle.catalog.specs.declared.Found.{Found}
-use Rattle.catalog.specs.declared.Found.TheVariants.{Content, Nothing as NotFound}
 use Rattle.catalog.specs.Finding.{Written, look_up, found_in}
 use Rattle.catalog.proofs.Reading.{read_attribute_is}
 use Rattle.catalog.proofs.Order.{look_in_order}
@@ -50,6 +40,7 @@ use Rattle.catalog_index.specs.Index.{Indexed}
 use Rattle.evaluator.specs.Known.{KnownIn, Ready, variable_in, sought_as, class_read, attribute_of}
 use Rattle.evaluator.proofs.Outcomes.{joining_none, joining_both, value_joined, refusal_joined}
 use Rattle.evaluator.proofs.Operators.{not_string}
+use Rattle.std.specs.Prelude.{Option as CodeOption, Some, None, Err}
 
 pub no_value : (o : Option Labelled) → is_some o ≡ false → o ≡ none
 unfolding is_some
@@ -102,28 +93,28 @@ module _ (p : ℕ) (cells : Cells) (n : ℕ) (classes : ℕ → Option DeclaredC
     unfolding upward read_in joining ◌>>=◌
     read_out so_far z e = e ∙ (rw z at so_far)
 
-    module _ (passed : joining marks (beyond left s) ≡ whole) {a : Above} (parent : scope_above a ≡ parent_of classes b s) where
-      pub read_end : {e : Outcome Labelled} → a ≡ Nothing → e ≡ refused NoValue p → e ≡ whole
+    module _ (passed : joining marks (beyond left s) ≡ whole) {a : CodeOption ℕ} (parent : scope_above a ≡ parent_of classes b s) where
+      pub read_end : {e : Outcome Labelled} → a ≡ None → e ≡ refused NoValue p → e ≡ whole
       unfolding scope_above above read_in joining ◌>>=◌
       read_end z e = e ∙ (rw (sym parent, z) at passed)
 
-      pub read_on : {q : ℕ} → a ≡ At q → joining marks (reading (left - 1) (scope_of q)) ≡ whole
+      pub read_on : {q : ℕ} → a ≡ Some q → joining marks (reading (left - 1) (scope_of q)) ≡ whole
       unfolding scope_above above
       read_on z = rw (sym parent, z) at passed
 
 -- the ways of `read_up` at one scope, by the slot that is found
-module _ (w : List ℕ) (p n : ℕ) (b : Base) {whole : Outcome Labelled} (marks : Labels) (left s : ℕ) (so_far : joining marks (reading p (cells_of w) n (classes_of w) b left (scope_of s)) ≡ whole) (more : 0 < left) {q : SlotFound} (found : q ≡ slot_for (slots_of w) s n) where
+module _ (w : List ℕ) (p n : ℕ) (b : Base) {whole : Outcome Labelled} (marks : Labels) (left s : ℕ) (so_far : joining marks (reading p (cells_of w) n (classes_of w) b left (scope_of s)) ≡ whole) (more : 0 < left) {q : CodeOption ℕ} (found : q ≡ slot_for (slots_of w) s n) where
   abbrev rest : Outcome Labelled
   rest = beyond p (cells_of w) n (classes_of w) b left (scope_of s)
 
   by_slot : joining marks (joining (cell_at (slots_of w) q).mark (or_else (cell_at (slots_of w) q).value rest)) ≡ whole
   by_slot = rw (sym (cell_found w s n found)) (ap (joining marks) (sym (read_step p (cells_of w) n (classes_of w) b left (scope_of s) more)) ∙ so_far)
 
-  pub pass_none : {u : Labels} → q ≡ NoSlot → u ≡ marks → joining u rest ≡ whole
+  pub pass_none : {u : Labels} → q ≡ None → u ≡ marks → joining u rest ≡ whole
   unfolding cell_at no_cell or_else
   pass_none none_there same = rw same (ap (joining marks) (sym (joining_none rest)) ∙ (rw none_there at by_slot))
 
-  module _ (i : ℕ) {m u : Labels} {t : Bool} (is : q ≡ SlotAt i) (mark : m ≡ set_at w (body_at i + body_mark)) (joined : u ≡ marks ∪ m) (told : t ≡ is_some (value_in (slots_of w i))) where
+  module _ (i : ℕ) {m u : Labels} {t : Bool} (is : q ≡ Some i) (mark : m ≡ set_at w (body_at i + body_mark)) (joined : u ≡ marks ∪ m) (told : t ≡ is_some (value_in (slots_of w i))) where
     below : i < 512
     below = in_slots 1 (slots_of w) s n i found is
 
@@ -162,23 +153,23 @@ was_true false e = sym e
 
 -- ---- The ways of `variable_read`
 
-module _ (w : List ℕ) (p : ℕ) (k l : Labels) {r : Sought} where
-  pub sought_unknown : {why : Refusal} → r ≡ UnknownClass → why ≡ refusal_at Unknown p → answered (Refused why) l ≡ joining k (sought_as w p r)
+module _ (w : List ℕ) (p : ℕ) (k l : Labels) {r : CodeOption Variable} where
+  pub sought_unknown : {g : Evaluated} {why : Refusal} → r ≡ None → g ≡ Err why → why ≡ refusal_at Unknown p → answered g l ≡ joining k (sought_as w p r)
   unfolding sought_as
-  sought_unknown is e = rw is (refusal_joined k l e)
+  sought_unknown is told e = rw (is, told) (refusal_joined k l e)
 
-  pub sought_read : {v : Variable} (a : Evaluated) → r ≡ IsVariable v → answered a l ≡ joining k (variable_in w p v) → answered a l ≡ joining k (sought_as w p r)
+  pub sought_read : {v : Variable} (a : Evaluated) → r ≡ Some v → answered a l ≡ joining k (variable_in w p v) → answered a l ≡ joining k (sought_as w p r)
   unfolding sought_as
   sought_read a is read = rw is read
 
 -- ---- The ways of `attribute_of`
 
-found_some : (o : Option Labelled) (x : Labelled) → found_in o ≡ Content x → o ≡ some x
+found_some : (o : Option Labelled) (x : Labelled) → found_in o ≡ Some x → o ≡ some x
 unfolding found_in
 found_some none x e = let z : ◌≡◌ {A = Option Labelled} none (some x) = cc in z
 found_some (some y) x e = cc
 
-found_none : (o : Option Labelled) → found_in o ≡ NotFound → o ≡ none
+found_none : (o : Option Labelled) → found_in o ≡ None → o ≡ none
 unfolding found_in
 found_none none e = refl
 found_none (some y) e = let z : ◌≡◌ {A = Option Labelled} (some y) none = cc in z
@@ -203,7 +194,7 @@ module _ (m w out : List ℕ) (fill p l : ℕ) (x : Value) where
     unfolding known refuse_if ◌>>=◌
     type_unknown n e k es r = e ∙ (rw n at (opened k es r.known))
 
-    module _ {a : ℕ} {f : Found} (n : not b ≡ false) (name : a ≡ two m (p + 5)) (found : (es : List Entry) → Written out fill es → Indexed w es → f ≡ found_in (look_up t s a es)) where
+    module _ {a : ℕ} {f : CodeOption Labelled} (n : not b ≡ false) (name : a ≡ two m (p + 5)) (found : (es : List Entry) → Written out fill es → Indexed w es → f ≡ found_in (look_up t s a es)) where
       looked : (k : Known) (es : List Entry) → Ready m w out fill k es → or_refuse (look_up t s a es) NotInCatalog p ≡ attribute k es
       unfolding known refuse_if ◌>>=◌
       looked k es r = sym (read_attribute_is p t s a es) ∙ ap (λ (i : ℕ). read_attribute p t s i es) name ∙ (rw n at (opened k es r.known))
@@ -211,10 +202,10 @@ module _ (m w out : List ℕ) (fill p l : ℕ) (x : Value) where
       found_is : (k : Known) (es : List Entry) → Ready m w out fill k es → found_in (look_up t s a es) ≡ f
       found_is k es r = sym (found (onto es []) r.catalog r.index ∙ ap found_in (look_in_order t s a es r.unique))
 
-      pub attribute_there : (y : Labelled) → f ≡ Content y → (k : Known) (es : List Entry) → Ready m w out fill k es → done y ≡ attribute k es
+      pub attribute_there : (y : Labelled) → f ≡ Some y → (k : Known) (es : List Entry) → Ready m w out fill k es → done y ≡ attribute k es
       unfolding or_refuse
       attribute_there y g k es r = rw (found_some (look_up t s a es) y (found_is k es r ∙ g)) at (looked k es r)
 
-      pub attribute_missing : {e : Outcome Labelled} → f ≡ NotFound → e ≡ refused NotInCatalog p → (k : Known) (es : List Entry) → Ready m w out fill k es → e ≡ attribute k es
+      pub attribute_missing : {e : Outcome Labelled} → f ≡ None → e ≡ refused NotInCatalog p → (k : Known) (es : List Entry) → Ready m w out fill k es → e ≡ attribute k es
       unfolding or_refuse
       attribute_missing g e k es r = e ∙ (rw (found_none (look_up t s a es) (found_is k es r ∙ g)) at (looked k es r))

@@ -1,5 +1,5 @@
 -- What the bytes must stand for when an expression is evaluated, and what an answer then says.
-use Rattle.std.specs.Prelude.{ℕ, ◌<◌, ◌≤◌, length, ◌≡◌, not, List, [], ◌∷◌, eqb}
+use Rattle.std.specs.Prelude.{ℕ, ◌<◌, ◌≤◌, length, ◌≡◌, not, List, [], ◌∷◌, eqb, Option as CodeOption, Some, None}
 use Rattle.std.proofs.Math.Option.{Option, none, some}
 use Rattle.labels.specs.declared.Labels.{Labels}
 use Rattle.labels.specs.Words.{labels_in}
@@ -23,11 +23,8 @@ use Rattle.memory.specs.declared.Scope.{Scope}
 use Rattle.memory.specs.Contexts.{context_in}
 use Rattle.catalog.specs.Finding.{Written}
 use Rattle.catalog_index.specs.Index.{Indexed}
-use Rattle.evaluator.specs.declared.Evaluated.{Evaluated}
 use Rattle.evaluator.specs.declared.Variable.{Variable}
-use Rattle.evaluator.specs.declared.Sought.{Sought}
-use Rattle.evaluator.specs.declared.Sought.TheVariants.{Variable as IsVariable, Unknown as UnknownClass}
-use Rattle.evaluator.specs.Answers.{answered}
+use Rattle.evaluator.specs.Answers.{Evaluated, answered}
 
 -- what the definition at a place says of its name: none at 0, and else a type or a class, as read there
 pub data DefinedAt (m : List ℕ) (p : ℕ) : Option TypeDefinition → Option ClassDefinition → Type 0 where
@@ -70,9 +67,9 @@ constant_in w v = refuse_if (struck_in w v) Malformed v.place >>= λ _. done (of
 unfoldable pub variable_in : (w : List ℕ) → (p : ℕ) → Variable → Outcome Labelled
 variable_in w p v = read_in p (cells_of w) v.name (upward v.tries (classes_of w) (base_for v.scope.base_is_node) (scope_of v.scope.number))
 
-unfoldable pub sought_as : (w : List ℕ) → (p : ℕ) → Sought → Outcome Labelled
-sought_as w p (IsVariable v) = variable_in w p v
-sought_as w p UnknownClass = refused Unknown p
+unfoldable pub sought_as : (w : List ℕ) → (p : ℕ) → CodeOption Variable → Outcome Labelled
+sought_as w p (Some v) = variable_in w p v
+sought_as w p None = refused Unknown p
 
 -- a class variable: its class q, its name n
 unfoldable pub class_read : Known → (place : ℕ) → Cells → (q n : ℕ) → Outcome Labelled

@@ -1,18 +1,18 @@
 -- The operators in two steps: what the left value alone says, and what both give. The definition's `operate` is the two together (proofs/Operators.antt).
-use Rattle.std.specs.Prelude.{ℕ, Bool, true, false, not, ℤ}
+use Rattle.std.specs.Prelude.{ℕ, Bool, true, false, not, ℤ, Result as CodeResult, Ok, Err}
 use Rattle.std.specs.Bool.{beq}
 use Rattle.values.specs.declared.Value.{Value}
 use Rattle.values.specs.declared.Value.TheVariants.{Integer, String, Boolean}
 use Rattle.values.specs.declared.Labelled.{Labelled}
-use Rattle.values.specs.declared.Computed.{Computed}
-use Rattle.values.specs.declared.Computed.TheVariants.{Integer as Whole, Overflow as TooLarge, DivisionByZero as ByZero}
 use Rattle.values.specs.declared.Reason.TheVariants.{WrongKind as NotThatKind, Overflow, DivisionByZero}
 use Rattle.wire.specs.Bytes.{pick}
-use Rattle.rules.specs.Outcome.{Outcome, refused, done, ◌>>=◌, Result, fails, gives, at, plain}
+use Rattle.rules.specs.Outcome.{Outcome, refused, ◌>>=◌, Result, fails, gives, at, plain}
 use Rattle.rules.specs.Arithmetic.{integer_in, boolean_in, sum, difference, quotient, is_greater, same_value}
 use Rattle.rules.specs.Tree.{Operator, plus, minus, divide, greater, equal, and, or}
 use Rattle.evaluator.specs.declared.Begun.{Begun}
 use Rattle.evaluator.specs.declared.Begun.TheVariants.{WrongKind, Decided, Open}
+use Rattle.values.specs.declared.ArithmeticError.{ArithmeticError}
+use Rattle.values.specs.declared.ArithmeticError.TheVariants.{DivisionByZero, Overflow}
 
 -- ---- The left value
 
@@ -68,12 +68,12 @@ combine and p r x y = right_boolean r y
 combine or p r x y = right_boolean r y
 
 -- what an operation on integers gave
-unfoldable pub result_of : Computed → Result Value
-result_of (Whole z) = gives (Integer z)
-result_of TooLarge = fails Overflow
-result_of ByZero = fails DivisionByZero
+unfoldable pub result_of : CodeResult ℤ ArithmeticError → Result Value
+result_of (Ok z) = gives (Integer z)
+result_of (Err Overflow) = fails Overflow
+result_of (Err DivisionByZero) = fails DivisionByZero
 
-unfoldable pub computed_at : (p : ℕ) → Computed → Outcome Labelled
+unfoldable pub computed_at : (p : ℕ) → CodeResult ℤ ArithmeticError → Outcome Labelled
 computed_at p c = at p (result_of c) >>= λ v. plain v
 
 -- ---- not, of an operand at l

@@ -15,31 +15,14 @@ ghost use Rattle.places.specs.At.{value_at, constant_at, expression_at, arms_at,
 ghost use Rattle.places.specs.Parts.{OperationAt, NegationAt, AttributeReadAt, SelectorAt};
 ghost use Rattle.cells.specs.Memory.{cells_of};
 ghost use Rattle.memory.specs.Words.{struck_in};
-ghost use Rattle.evaluator.specs.Answers.{answered, evaluated, valued_as, Joined};
+ghost use Rattle.evaluator.specs.Answers.{answered, evaluated, Joined};
 ghost use Rattle.evaluator.specs.Operators.{begin_integer, begin_boolean, arithmetic, both_integers, right_boolean, result_of, computed_at};
 ghost use Rattle.evaluator.specs.Operators as operators;
 ghost use Rattle.evaluator.specs.Known.{KnownIn, Ready, Tells, TellsJoined, Sized, defined_tag, constant_in, variable_in, sought_as, class_read, attribute_of};
 
 use labels::Labels;
 use memory::Scope;
-use patterns::Choice;
-use values::{Computed, Labelled, Reason, Refusal, Value, place};
-
-// A value or a refusal, in one flat enum: this is what each part of an expression hands back.
-#[derive(Clone, Copy)]
-pub enum Evaluated {
-    Integer(i64),
-    String(u16),
-    Boolean(bool),
-    Refused(Refusal),
-}
-
-// The same, taken apart.
-#[derive(Clone, Copy)]
-pub enum Valued {
-    Value(Value),
-    Refused(Refusal),
-}
+use values::{ArithmeticError, Labelled, Reason, Refusal, Value, place};
 
 // A variable that is sought: its name, the scope where the search begins, and how many scopes are tried.
 #[derive(Clone, Copy)]
@@ -49,42 +32,12 @@ struct Variable {
     tries: u16,
 }
 
-#[derive(Clone, Copy)]
-enum Sought {
-    Variable(Variable),
-    Unknown,
-}
-
 // What the left value says of an operator: not of its kind, the result already, or that the right value counts.
 #[derive(Clone, Copy)]
 enum Begun {
     WrongKind,
     Decided,
     Open,
-}
-
-// ---- Answers
-
-// A value that no label decides by itself.
-fn answer(value: Value) -> Evaluated
-    ensures { evaluated result ≡ plain value }
-{
-    match value {
-        Value::Integer(z) => Evaluated::Integer(z),
-        Value::String(n) => Evaluated::String(n),
-        Value::Boolean(b) => Evaluated::Boolean(b),
-    }
-}
-
-pub fn value_of(e: Evaluated) -> Valued
-    ensures { result ≡ valued_as e }
-{
-    match e {
-        Evaluated::Integer(z) => Valued::Value(Value::Integer(z)),
-        Evaluated::String(n) => Valued::Value(Value::String(n)),
-        Evaluated::Boolean(b) => Valued::Value(Value::Boolean(b)),
-        Evaluated::Refused(refusal) => Valued::Refused(refusal),
-    }
 }
 
 // ---- Constants
@@ -121,15 +74,15 @@ fn is_struck(m: &[u8], p: usize, work: &[u8]) -> bool
 }
 
 // The constant at p: its label joins the set.
-fn constant(m: &[u8], p: usize, work: &[u8], set: &mut [u64; 4]) -> Evaluated
+fn constant(m: &[u8], p: usize, work: &[u8], set: &mut [u64; 4]) -> Result<Value, Refusal>
     requires { ((65536 ≤ length work.now) × (p ≤ 65535)) × (length set.old ≡ 4) }
     ensures { Joined set.old set.new result (constant_in work.now (constant_at m.now p)) }
 {
     if is_struck(m, p, work) {
-        return Evaluated::Refused(Refusal::at(Reason::Malformed, p));
+        return Err(Refusal::at(Reason::Malformed, p));
     }
     labels::join(set, Labels::one(wire::byte_at(m, p + 3)));
-    answer(value_at(m, p))
+    Ok(value_at(m, p))
 }
 
 // ---- Operators
@@ -171,7 +124,7 @@ fn begin(op: u8, x: Value) -> Begun
     begin_boolean(op != 5, x)
 }
 
-fn compute(op: u8, i: i64, j: i64) -> Computed
+fn compute(op: u8, i: i64, j: i64) -> Result<i64, ArithmeticError>
     requires { op < 3 }
     ensures { result_of result ≡ arithmetic (operator_from op) i j }
 {
@@ -182,44 +135,44 @@ fn compute(op: u8, i: i64, j: i64) -> Computed
     }
 }
 
-fn computed_at(p: usize, c: Computed) -> Evaluated
+fn computed_at(p: usize, c: Result<i64, ArithmeticError>) -> Result<Value, Refusal>
     requires { p ≤ 65535 }
     ensures { evaluated result ≡ computed_at p c }
 {
     match c {
-        Computed::Integer(z) => answer(Value::Integer(z)),
-        Computed::Overflow => Evaluated::Refused(Refusal::at(Reason::Overflow, p)),
-        Computed::DivisionByZero => Evaluated::Refused(Refusal::at(Reason::DivisionByZero, p)),
+        Ok(z) => Ok(Value::Integer(z)),
+        Err(ArithmeticError::Overflow) => Err(Refusal::at(Reason::Overflow, p)),
+        Err(ArithmeticError::DivisionByZero) => Err(Refusal::at(Reason::DivisionByZero, p)),
     }
 }
 
-fn both_integers(op: u8, p: usize, right: usize, x: Value, y: Value) -> Evaluated
+fn both_integers(op: u8, p: usize, right: usize, x: Value, y: Value) -> Result<Value, Refusal>
     requires { (op < 4) × (p ≤ 65535) × (right ≤ 65535) }
     ensures { evaluated result ≡ both_integers (operator_from op) p right x y }
 {
     let Value::Integer(i) = x else {
-        return Evaluated::Refused(Refusal::at(Reason::WrongKind, right));
+        return Err(Refusal::at(Reason::WrongKind, right));
     };
     let Value::Integer(j) = y else {
-        return Evaluated::Refused(Refusal::at(Reason::WrongKind, right));
+        return Err(Refusal::at(Reason::WrongKind, right));
     };
     if op == 3 {
-        return answer(Value::Boolean(values::integers::is_greater(i, j)));
+        return Ok(Value::Boolean(values::integers::is_greater(i, j)));
     }
     computed_at(p, compute(op, i, j))
 }
 
-fn right_boolean(right: usize, y: Value) -> Evaluated
+fn right_boolean(right: usize, y: Value) -> Result<Value, Refusal>
     requires { right ≤ 65535 }
     ensures { evaluated result ≡ right_boolean right y }
 {
     let Value::Boolean(_) = y else {
-        return Evaluated::Refused(Refusal::at(Reason::WrongKind, right));
+        return Err(Refusal::at(Reason::WrongKind, right));
     };
-    answer(y)
+    Ok(y)
 }
 
-fn combine(op: u8, p: usize, right: usize, x: Value, y: Value) -> Evaluated
+fn combine(op: u8, p: usize, right: usize, x: Value, y: Value) -> Result<Value, Refusal>
     requires { (p ≤ 65535) × (right ≤ 65535) }
     ensures { evaluated result ≡ operators.combine (operator_from op) p right x y }
 {
@@ -227,25 +180,25 @@ fn combine(op: u8, p: usize, right: usize, x: Value, y: Value) -> Evaluated
         return both_integers(op, p, right, x, y);
     }
     if op == 4 {
-        return answer(Value::Boolean(values::same_value(x, y)));
+        return Ok(Value::Boolean(values::same_value(x, y)));
     }
     right_boolean(right, y)
 }
 
-fn negated(operand: usize, x: Value) -> Evaluated
+fn negated(operand: usize, x: Value) -> Result<Value, Refusal>
     requires { operand ≤ 65535 }
     ensures { evaluated result ≡ operators.negation operand x }
 {
     let Value::Boolean(b) = x else {
-        return Evaluated::Refused(Refusal::at(Reason::WrongKind, operand));
+        return Err(Refusal::at(Reason::WrongKind, operand));
     };
-    answer(Value::Boolean(!b))
+    Ok(Value::Boolean(!b))
 }
 
 // ---- Reads
 
 // A variable in a scope, or else in those above it: the marks on the way join the set, and then the value's own labels.
-fn read_up(work: &[u8], p: usize, variable: Variable, set: &mut [u64; 4]) -> Evaluated
+fn read_up(work: &[u8], p: usize, variable: Variable, set: &mut [u64; 4]) -> Result<Value, Refusal>
     requires { ((65536 ≤ length work.now) × (p ≤ 65535)) × (length set.old ≡ 4) }
     ensures { Joined set.old set.new result (variable_in work.now p variable) }
 {
@@ -253,23 +206,20 @@ fn read_up(work: &[u8], p: usize, variable: Variable, set: &mut [u64; 4]) -> Eva
     let mut at = variable.scope.number;
     let mut left = variable.tries;
     while 0 < left {
-        match cells::slot_for(work, at, name) {
-            cells::Found::At(i) => {
-                labels::join(set, cells::mark_at(work, i));
-                if cells::has_value(work, i) {
-                    labels::join(set, cells::labels_at(work, i));
-                    return answer(cells::value_at(work, i));
-                }
+        if let Some(i) = cells::slot_for(work, at, name) {
+            labels::join(set, cells::mark_at(work, i));
+            if cells::has_value(work, i) {
+                labels::join(set, cells::labels_at(work, i));
+                return Ok(cells::value_at(work, i));
             }
-            cells::Found::Nothing => {}
         }
-        let memory::Above::At(q) = memory::parent_of(work, variable.scope.base_is_node, at) else {
-            return Evaluated::Refused(Refusal::at(Reason::NoValue, p));
+        let Some(q) = memory::parent_of(work, variable.scope.base_is_node, at) else {
+            return Err(Refusal::at(Reason::NoValue, p));
         };
         at = q;
         left -= 1;
     }
-    Evaluated::Refused(Refusal::at(Reason::NoValue, p))
+    Err(Refusal::at(Reason::NoValue, p))
 }
 
 fn defined_tag(m: &[u8], work: &[u8], name: u16) -> u8
@@ -307,15 +257,15 @@ fn is_type(m: &[u8], work: &[u8], name: u16) -> bool
 }
 
 // The variable at p of a class, which is sought there alone.
-fn class_variable(m: &[u8], p: usize, work: &[u8], class: u16) -> Sought
+fn class_variable(m: &[u8], p: usize, work: &[u8], class: u16) -> Option<Variable>
     requires { (65536 ≤ length work.now) × (p ≤ 65535) }
     ensures { (k : Known) → KnownIn m.now work.now k → sought_as work.now p result ≡ class_read k p (cells_of work.now) class (two m.now (p + 5)) }
 {
     if !is_class(m, work, class) {
-        return Sought::Unknown;
+        return None;
     }
     let number = 2 + class;
-    Sought::Variable(Variable {
+    Some(Variable {
         name: wire::two_at(m, p + 5),
         scope: Scope {
             number,
@@ -326,18 +276,18 @@ fn class_variable(m: &[u8], p: usize, work: &[u8], class: u16) -> Sought
 }
 
 // The variable at p: in a scope or those above it, in top, or in a class.
-fn variable_at(m: &[u8], p: usize, work: &[u8], scope: Scope) -> Sought
+fn variable_at(m: &[u8], p: usize, work: &[u8], scope: Scope) -> Option<Variable>
     requires { (65536 ≤ length work.now) × (p ≤ 65535) }
     ensures { (out : List ℕ) (fill d : ℕ) → StandsAs m.now d Expression p → 0x13 ≤ byte m.now p → byte m.now p < 0x16 → Tells m.now work.now out fill scope (sought_as work.now p result) (λ k c st. rules.evaluate k c st (expression_at m.now d p)) }
 {
     let name = wire::two_at(m, p + 3);
     match wire::byte_at(m, p) {
-        0x13 => Sought::Variable(Variable {
+        0x13 => Some(Variable {
             name,
             scope,
             tries: 1026,
         }),
-        0x14 => Sought::Variable(Variable {
+        0x14 => Some(Variable {
             name,
             scope: memory::TOP,
             tries: 1,
@@ -347,15 +297,18 @@ fn variable_at(m: &[u8], p: usize, work: &[u8], scope: Scope) -> Sought
 }
 
 // One call of `read_up` for the three kinds of variables: the back end then merges it into `evaluate`, and its answer is not copied.
-fn variable_read(m: &[u8], p: usize, work: &[u8], scope: Scope, set: &mut [u64; 4]) -> Evaluated
+fn variable_read(
+    m: &[u8],
+    p: usize,
+    work: &[u8],
+    scope: Scope,
+    set: &mut [u64; 4],
+) -> Result<Value, Refusal>
     requires { ((65536 ≤ length work.now) × (p ≤ 65535)) × (length set.old ≡ 4) }
     ensures { Grows set.old set.new × ((out : List ℕ) (fill d : ℕ) → StandsAs m.now d Expression p → 0x13 ≤ byte m.now p → byte m.now p < 0x16 → TellsJoined m.now work.now out fill scope set.old set.new result (λ k c st. rules.evaluate k c st (expression_at m.now d p))) }
 {
-    let sought = variable_at(m, p, work, scope);
-    match sought {
-        Sought::Unknown => Evaluated::Refused(Refusal::at(Reason::Unknown, p)),
-        Sought::Variable(variable) => read_up(work, p, variable, set),
-    }
+    let variable = variable_at(m, p, work, scope).ok_or(Refusal::at(Reason::Unknown, p))?;
+    read_up(work, p, variable, set)
 }
 
 // The attribute that the field at p names, of the resource with this title, which stands at `title_place`.
@@ -368,28 +321,23 @@ fn attribute_of(
     title_place: usize,
     title: Value,
     set: &mut [u64; 4],
-) -> Evaluated
+) -> Result<Value, Refusal>
     requires { (Sized m.now work.now out.now fill p) × ((title_place ≤ 65535) × (length set.old ≡ 4)) }
     ensures { Grows set.old set.new × ((k : Known) (es : List Entry) → Ready m.now work.now out.now fill k es → answered result (labels_in set.new) ≡ joining (labels_in set.old) (attribute_of k es p title_place (two m.now (p + 3)) (two m.now (p + 5)) title)) }
 {
     let Value::String(s) = title else {
-        return Evaluated::Refused(Refusal::at(Reason::WrongKind, title_place));
+        return Err(Refusal::at(Reason::WrongKind, title_place));
     };
     let kind = wire::two_at(m, p + 3);
     if !is_type(m, work, kind) {
-        return Evaluated::Refused(Refusal::at(Reason::Unknown, p));
+        return Err(Refusal::at(Reason::Unknown, p));
     }
     let name = wire::two_at(m, p + 5);
-    let found = catalog_index::read(work, out, fill, kind, s, name);
-    match found {
-        catalog::Found::Content(x) => {
-            let value = x.value;
-            let labels = x.labels;
-            labels::join(set, labels);
-            answer(value)
-        }
-        catalog::Found::Nothing => Evaluated::Refused(Refusal::at(Reason::NotInCatalog, p)),
-    }
+    let Some(x) = catalog_index::read(work, out, fill, kind, s, name) else {
+        return Err(Refusal::at(Reason::NotInCatalog, p));
+    };
+    labels::join(set, x.labels);
+    Ok(x.value)
 }
 
 // ---- Expressions. `below` is how many levels are left for the parts of one
@@ -404,25 +352,19 @@ fn operation(
     fill: usize,
     scope: Scope,
     set: &mut [u64; 4],
-) -> Evaluated
+) -> Result<Value, Refusal>
     requires { Sized m.now work.now out.now fill p × (length set.old ≡ 4) }
     ensures { Grows set.old set.new × ((d : ℕ) → OperationAt m.now d below p → TellsJoined m.now work.now out.now fill scope set.old set.new result (λ k c st. rules.evaluate k c st (expression_at m.now d p))) }
 {
     let left = place(p + 4);
-    let a = evaluate(m, below, left, work, out, fill, scope, set);
-    let Valued::Value(x) = value_of(a) else {
-        return a;
-    };
+    let x = evaluate(m, below, left, work, out, fill, scope, set)?;
     let op = wire::byte_at(m, p + 3);
     match begin(op, x) {
-        Begun::WrongKind => Evaluated::Refused(Refusal::at(Reason::WrongKind, left)),
-        Begun::Decided => a,
+        Begun::WrongKind => Err(Refusal::at(Reason::WrongKind, left)),
+        Begun::Decided => Ok(x),
         Begun::Open => {
             let right = place(wire::end_of(m, p + 4));
-            let b = evaluate(m, below, right, work, out, fill, scope, set);
-            let Valued::Value(y) = value_of(b) else {
-                return b;
-            };
+            let y = evaluate(m, below, right, work, out, fill, scope, set)?;
             combine(op, p, right, x, y)
         }
     }
@@ -438,15 +380,12 @@ fn negation(
     fill: usize,
     scope: Scope,
     set: &mut [u64; 4],
-) -> Evaluated
+) -> Result<Value, Refusal>
     requires { Sized m.now work.now out.now fill p × (length set.old ≡ 4) }
     ensures { Grows set.old set.new × ((d : ℕ) → NegationAt m.now d below p → TellsJoined m.now work.now out.now fill scope set.old set.new result (λ k c st. rules.evaluate k c st (expression_at m.now d p))) }
 {
     let operand = place(p + 3);
-    let a = evaluate(m, below, operand, work, out, fill, scope, set);
-    let Valued::Value(x) = value_of(a) else {
-        return a;
-    };
+    let x = evaluate(m, below, operand, work, out, fill, scope, set)?;
     negated(operand, x)
 }
 
@@ -460,15 +399,12 @@ fn attribute_read(
     fill: usize,
     scope: Scope,
     set: &mut [u64; 4],
-) -> Evaluated
+) -> Result<Value, Refusal>
     requires { Sized m.now work.now out.now fill p × (length set.old ≡ 4) }
     ensures { Grows set.old set.new × ((d : ℕ) → AttributeReadAt m.now d below p → TellsJoined m.now work.now out.now fill scope set.old set.new result (λ k c st. rules.evaluate k c st (expression_at m.now d p))) }
 {
     let title = place(p + 7);
-    let a = evaluate(m, below, title, work, out, fill, scope, set);
-    let Valued::Value(x) = value_of(a) else {
-        return a;
-    };
+    let x = evaluate(m, below, title, work, out, fill, scope, set)?;
     attribute_of(m, work, out, fill, p, title, x, set)
 }
 
@@ -484,22 +420,19 @@ fn choose(
     fill: usize,
     scope: Scope,
     set: &mut [u64; 4],
-) -> Evaluated
+) -> Result<Value, Refusal>
     requires { Sized m.now work.now out.now fill p × (length set.old ≡ 4) }
     ensures { Grows set.old set.new × ((d : ℕ) → d ≡ suc inner → Siblings m.now d Arm (end_of m.now (p + 3)) (end_of m.now p) → end_of m.now p ≤ 65535 → TellsJoined m.now work.now out.now fill scope set.old set.new result (λ k c st. rules.select k (rules.arm_patterns k c st (arms_at m.now d (fields_in m.now (end_of m.now (p + 3)) (end_of m.now p)))) p x)) }
 {
     let first = wire::end_of(m, p + 3);
     let end = place(wire::end_of(m, p));
-    let struck = patterns::struck_pattern(m, first, end, x, work);
-    match struck {
-        Choice::At(q) => return Evaluated::Refused(Refusal::at(Reason::Malformed, q)),
-        Choice::Nothing => {}
+    if let Some(q) = patterns::struck_pattern(m, first, end, x, work) {
+        return Err(Refusal::at(Reason::Malformed, q));
     }
-    let at = patterns::try_patterns(m, first, end, x, set);
-    match at {
-        Choice::Nothing => Evaluated::Refused(Refusal::at(Reason::NoMatch, p)),
-        Choice::At(chosen) => evaluate(m, inner, place(chosen), work, out, fill, scope, set),
-    }
+    let Some(chosen) = patterns::try_patterns(m, first, end, x, set) else {
+        return Err(Refusal::at(Reason::NoMatch, p));
+    };
+    evaluate(m, inner, place(chosen), work, out, fill, scope, set)
 }
 
 #[cycle(attribute_read_choose_composed_evaluate_negation_operation_selector)]
@@ -512,17 +445,14 @@ fn selector(
     fill: usize,
     scope: Scope,
     set: &mut [u64; 4],
-) -> Evaluated
+) -> Result<Value, Refusal>
     requires { Sized m.now work.now out.now fill p × (length set.old ≡ 4) }
     ensures { Grows set.old set.new × ((d : ℕ) → SelectorAt m.now d below p → TellsJoined m.now work.now out.now fill scope set.old set.new result (λ k c st. rules.evaluate k c st (expression_at m.now d p))) }
 {
     if below == 0 {
-        return Evaluated::Refused(Refusal::at(Reason::Malformed, p));
+        return Err(Refusal::at(Reason::Malformed, p));
     }
-    let a = evaluate(m, below, place(p + 3), work, out, fill, scope, set);
-    let Valued::Value(x) = value_of(a) else {
-        return a;
-    };
+    let x = evaluate(m, below, place(p + 3), work, out, fill, scope, set)?;
     choose(m, below - 1, p, x, work, out, fill, scope, set)
 }
 
@@ -537,12 +467,12 @@ fn composed(
     fill: usize,
     scope: Scope,
     set: &mut [u64; 4],
-) -> Evaluated
+) -> Result<Value, Refusal>
     requires { Sized m.now work.now out.now fill p × (length set.old ≡ 4) }
     ensures { Grows set.old set.new × (StandsAs m.now depth Expression p → 0x16 ≤ byte m.now p → TellsJoined m.now work.now out.now fill scope set.old set.new result (λ k c st. rules.evaluate k c st (expression_at m.now depth p))) }
 {
     if depth == 0 {
-        return Evaluated::Refused(Refusal::at(Reason::Malformed, p));
+        return Err(Refusal::at(Reason::Malformed, p));
     }
     let below = depth - 1;
     match wire::byte_at(m, p) {
@@ -565,7 +495,7 @@ pub fn evaluate(
     fill: usize,
     scope: Scope,
     set: &mut [u64; 4],
-) -> Evaluated
+) -> Result<Value, Refusal>
     requires { Sized m.now work.now out.now fill p × (length set.old ≡ 4) }
     ensures { Grows set.old set.new × (StandsAs m.now depth Expression p → TellsJoined m.now work.now out.now fill scope set.old set.new result (λ k c st. rules.evaluate k c st (expression_at m.now depth p))) }
 {

@@ -19,12 +19,11 @@ use Rattle.places.specs.At.{statement_at, block_at, statements_at, StandsAs, Sib
 use Rattle.places.proofs.Parts.{first_sibling, no_sibling}
 use Rattle.places.proofs.Statements.{statement_place_lem, block_opens}
 use Rattle.branches.proofs.Standing.{has_level, block_statements, sibling_here, siblings_after}
-use Rattle.resources.specs.declared.Filled.{Filled}
-use Rattle.resources.specs.declared.Filled.TheVariants.{Done, Refused}
 use Rattle.declarations.specs.Standing.{NamesKnown}
 use Rattle.execution.specs.Executed.{Able, state_with, Executes, begun}
 use Rattle.execution.proofs.Ends.{stops, executes_as, then_runs, never_runs, able_after}
 use Rattle.execution.proofs.Names.{known_in, known_past}
+use Rattle.std.specs.Prelude.{Result, Ok, Err}
 
 -- the statements from q to e, with d levels of fields and n of declarations left
 abbrev pub run_from : List ℕ → (d n q e : ℕ) → Known → Context → State → Outcome State
@@ -37,7 +36,7 @@ pub record ToRun (m : List ℕ) (d n q e : ℕ) (w₀ w out₀ out : List ℕ) (
   pub size : length w ≡ length w₀
   pub long : length out ≡ length out₀
   pub steps : left ≤ left₀
-  pub closes : {a : Filled} {w' out' : List ℕ} {left' : ℕ} → Executes m w w' out out' fill left left' c a (run_from m d n q e) → Executes m w₀ w' out₀ out' fill₀ left₀ left' c a whole
+  pub closes : {a : Result ℕ Refusal} {w' out' : List ℕ} {left' : ℕ} → Executes m w w' out out' fill left left' c a (run_from m d n q e) → Executes m w₀ w' out₀ out' fill₀ left₀ left' c a whole
 
 -- the statements of a block
 pub block_known : {m : List ℕ} {d p : ℕ} → StandsAs m d BlockKind p → NamesKnown m p → NamesKnown m (p + 3)
@@ -68,15 +67,15 @@ first_runs {m} {d} {q} {e} {r} n s l h k c st = ap (λ (ps : List ℕ). run_bloc
     go (done x) = refl
 
 module _ {m w₀ w out₀ out : List ℕ} {d n q e fill₀ fill left₀ left : ℕ} {c : Context} {whole : Known → Context → State → Outcome State} (i : ToRun m d n q e w₀ w out₀ out fill₀ fill left₀ left c whole) where
-  pub block_ends : e ≤ q → Executes m w₀ w out₀ out fill₀ left₀ left c (Done fill) whole
+  pub block_ends : e ≤ q → Executes m w₀ w out₀ out fill₀ left₀ left c (Ok fill) whole
   unfolding run statements_at
   block_ends l = i.closes (stops i.able (omega arith) λ k ask es s. record { entries = es; same = ap (λ (ps : List ℕ). run_block k (declaration k n) (statements_at m d ps) c (state_with w out fill left es)) (no_sibling i.siblings l).places; stage = s })
 
-  module _ (l : q < e) {a : Filled} {w' out' : List ℕ} {left' : ℕ} (runs : Executes m w w' out out' fill left left' c a (begun n q (statement_at m d q))) where
-    pub block_stops : {why : Refusal} → a ≡ Refused why → Executes m w₀ w' out₀ out' fill₀ left₀ left' c a whole
+  module _ (l : q < e) {a : Result ℕ Refusal} {w' out' : List ℕ} {left' : ℕ} (runs : Executes m w w' out out' fill left left' c a (begun n q (statement_at m d q))) where
+    pub block_stops : {why : Refusal} → a ≡ Err why → Executes m w₀ w' out₀ out' fill₀ left₀ left' c a whole
     block_stops e = i.closes (never_runs (run_from m d n (end_of m q) _) (first_runs n i.siblings l refl) runs e)
 
-    pub block_goes_on : {more r : ℕ} → a ≡ Done more → length w' ≡ length w → length out' ≡ length out → r ≡ end_of m q → ToRun m d n r e w₀ w' out₀ out' fill₀ more left₀ left' c whole
+    pub block_goes_on : {more r : ℕ} → a ≡ Ok more → length w' ≡ length w → length out' ≡ length out → r ≡ end_of m q → ToRun m d n r e w₀ w' out₀ out' fill₀ more left₀ left' c whole
     block_goes_on {more} {r} is size long next =
         let s = sibling_here i.siblings l in
         let fewer = runs.steps in
@@ -92,5 +91,5 @@ module _ {m w₀ w out₀ out : List ℕ} {d n q e fill₀ fill left₀ left : �
         }
 
 -- one without statements
-pub block_empty : {m w out : List ℕ} {d p fill left : ℕ} (n : ℕ) (c : Context) → Able m w out fill → StandsAs m d BlockKind p → NamesKnown m p → {b : Bool} → b ≡ leb (end_of m p) (p + 3) → b ≡ true → Executes m w w out out fill left left c (Done fill) (λ k. run_block k (declaration k n) (block_at m d p))
+pub block_empty : {m w out : List ℕ} {d p fill left : ℕ} (n : ℕ) (c : Context) → Able m w out fill → StandsAs m d BlockKind p → NamesKnown m p → {b : Bool} → b ≡ leb (end_of m p) (p + 3) → b ≡ true → Executes m w w out out fill left left c (Ok fill) (λ k. run_block k (declaration k n) (block_at m d p))
 block_empty {m} {p = p} n c able s k told none = block_ends (block_begins n c able s k refl) (leb-true (end_of m p) (p + 3) (sym told ∙ none))

@@ -29,8 +29,6 @@ use Rattle.memory.specs.declared.Scope.{Scope}
 use Rattle.memory.specs.declared.Context.{Context as Here}
 use Rattle.memory.specs.Contexts.{context_in, context_of}
 use Rattle.evaluator.specs.Answers.{refused_by}
-use Rattle.attributes.specs.declared.Gathered.{Gathered}
-use Rattle.attributes.specs.declared.Gathered.TheVariants.{Done as AllGiven, Refused as NotGiven}
 use Rattle.attributes.specs.Names.{Alike, alike_none}
 use Rattle.attributes.specs.Table.{Gives}
 use Rattle.attributes.specs.Evaluated.{GivenIn, not_given, given}
@@ -38,12 +36,7 @@ use Rattle.attributes.proofs.Table.{gives_none}
 use Rattle.parameters.specs.Checked.{check_given}
 use Rattle.parameters.proofs.Laws.{checked_values}
 use Rattle.provenance.specs.Notes.{Question}
-use Rattle.resources.specs.declared.Filled.{Filled}
-use Rattle.resources.specs.declared.Filled.TheVariants.{Done, Refused}
-use Rattle.declarations.specs.declared.Class.{Class}
-use Rattle.declarations.specs.declared.Class.TheVariants.{At, Refused as NotFound}
-use Rattle.declarations.specs.declared.StartedClass.{StartedClass}
-use Rattle.declarations.specs.declared.StartedClass.TheVariants.{Body, Refused as NotStarted}
+use Rattle.declarations.specs.declared.ClassBody.{ClassBody}
 use Rattle.declarations.specs.Standing.{NamesKnown, Set}
 use Rattle.declarations.specs.Classes.{Checked, check_class, ClassStands, FoundStands, FoundAs, refused_so as not_found, found_so, ChecksClass, Entered, started_as, BodyStands, StartsClass}
 use Rattle.declarations.proofs.Laws.{class_runs, include_runs, class_enters}
@@ -52,6 +45,7 @@ use Rattle.execution.proofs.Ends.{ended_done, ended_refused, ends_same, stage_ke
 use Rattle.execution.proofs.Names.{known_in, name_small}
 use Rattle.execution.proofs.Types.{too_deep}
 use Rattle.memory.specs.Words.{StrikesAs}
+use Rattle.std.specs.Prelude.{Result, Ok, Err}
 
 -- ---- Names and places
 
@@ -85,24 +79,24 @@ module _ {m : List ℕ} {d p : ℕ} (s : StandsAs m d StatementKind p) (tag : by
   unfolding run
   class_statement_runs k declare c st = ap (λ (t : Statement). run k declare t c st) (class_opens s.stands (level s.stands) tag).tree
 
-  module _ (levels : ℕ) {w out t : List ℕ} {fill end : ℕ} {scope : Scope} {g : Gathered} (at_end_lem : end ≡ end_of m p) (told : GivenIn m w out fill scope (d - 1) (p + 5) end t g) where
-    given_here : {a : Gathered} → g ≡ a → GivenIn m w out fill scope (d - 1) (p + 5) (end_of m p) t a
+  module _ (levels : ℕ) {w out t : List ℕ} {fill end : ℕ} {scope : Scope} {g : Result Unit Refusal} (at_end_lem : end ≡ end_of m p) (told : GivenIn m w out fill scope (d - 1) (p + 5) end t g) where
+    given_here : {a : Result Unit Refusal} → g ≡ a → GivenIn m w out fill scope (d - 1) (p + 5) (end_of m p) t a
     given_here {a} is = subst (λ (e : ℕ). GivenIn m w out fill scope (d - 1) (p + 5) e t a) at_end_lem (subst (GivenIn m w out fill scope (d - 1) (p + 5) end t) is told)
 
-    pub class_refused : {left : ℕ} {path : Labels} {why : Refusal} → g ≡ NotGiven why → Executes m w w out out fill left left (context_in scope path) (Refused why) (λ k. run k (declaration k levels) (statement_at m d p))
+    pub class_refused : {left : ℕ} {path : Labels} {why : Refusal} → g ≡ Err why → Executes m w w out out fill left left (context_in scope path) (Err why) (λ k. run k (declaration k levels) (statement_at m d p))
     unfolding ◌>>=◌
     class_refused {left} {path} {why} is = go (given_here is)
       where
-        go : GivenIn m w out fill scope (d - 1) (p + 5) (end_of m p) t (NotGiven why) → Executes m w w out out fill left left (context_in scope path) (Refused why) (λ k. run k (declaration k levels) (statement_at m d p))
+        go : GivenIn m w out fill scope (d - 1) (p + 5) (end_of m p) t (Err why) → Executes m w w out out fill left left (context_in scope path) (Err why) (λ k. run k (declaration k levels) (statement_at m d p))
         go (not_given tells) = refuses why (omega arith) (λ k ask es i. class_statement_runs k (declaration k levels) (context_in scope path) _ ∙ ap (λ (o : Outcome (List Given)). o >>= λ gs. declaration k levels (of_class p (two m (p + 3)) gs) (context_in scope path) (state_with w out fill left es)) (sym (tells.says k path es _ _ i.ready)))
 
-    pub class_declares : {name left left' : ℕ} {w' out' : List ℕ} {path : Labels} {a : Filled} → g ≡ AllGiven → name ≡ two m (p + 3)
+    pub class_declares : {name left left' : ℕ} {w' out' : List ℕ} {path : Labels} {a : Result ℕ Refusal} → g ≡ Ok tt → name ≡ two m (p + 3)
         → ((gs : List Given) → Gives t gs → Alike m gs (fields_in m (p + 5) end) → (true ≡ false → gs ≡ []) → Executes m w w' out out' fill left left' (context_in scope path) a (λ k. declaration k levels (asked true p name gs)))
         → Executes m w w' out out' fill left left' (context_in scope path) a (λ k. run k (declaration k levels) (statement_at m d p))
     unfolding ◌>>=◌ asked
     class_declares {name} {left} {left'} {w'} {out'} {path} {a} is by_name then = go (given_here is)
       where
-        go : GivenIn m w out fill scope (d - 1) (p + 5) (end_of m p) t AllGiven → Executes m w w' out out' fill left left' (context_in scope path) a (λ k. run k (declaration k levels) (statement_at m d p))
+        go : GivenIn m w out fill scope (d - 1) (p + 5) (end_of m p) t (Ok tt) → Executes m w w' out out' fill left left' (context_in scope path) a (λ k. run k (declaration k levels) (statement_at m d p))
         go (given gs gives alikes tells) =
             goes_on (omega arith) (λ k ask es i. record {
               entries = es;
@@ -115,7 +109,7 @@ module _ {m : List ℕ} {d p : ℕ} (s : StandsAs m d StatementKind p) (tag : by
 -- ---- What a 29 or a child's definition gives
 
 -- what is asked for gives nothing
-pub nothing_given : (levels p name : ℕ) {m t w w' out out' : List ℕ} {fill left left' : ℕ} {c : Context} {a : Filled} → length t ≡ 0
+pub nothing_given : (levels p name : ℕ) {m t w w' out out' : List ℕ} {fill left left' : ℕ} {c : Context} {a : Result ℕ Refusal} → length t ≡ 0
     → ((gs : List Given) → Gives t gs → Alike m gs (fields_in m 0 0) → (false ≡ false → gs ≡ []) → Executes m w w' out out' fill left left' c a (λ k. declaration k levels (asked false p name gs)))
     → Executes m w w' out out' fill left left' c a (λ k. declaration k levels (included p name))
 unfolding asked
@@ -130,15 +124,15 @@ module _ (m w : List ℕ) (levels p : ℕ) {name : ℕ} {b : Bool} (by_name : na
       ap (λ (n : ℕ). run k (declaration k levels) (include p n) c (state_with w out fill left es)) (sym by_name)
       ∙ ap (λ (y : Bool). elim y [ true ↦ done (state_with w out fill left es) | false ↦ declaration k levels (included p name) c (state_with w out fill left es) ]) (sym (told es _ _) ∙ is)
 
-  pub include_declared : {out : List ℕ} {fill left : ℕ} {c : Context} → Able m w out fill → b ≡ true → Executes m w w out out fill left left c (Done fill) (λ k. run k (declaration k levels) (include p (two m (p + 3))))
+  pub include_declared : {out : List ℕ} {fill left : ℕ} {c : Context} → Able m w out fill → b ≡ true → Executes m w w out out fill left left c (Ok fill) (λ k. run k (declaration k levels) (include p (two m (p + 3))))
   include_declared {out} {fill} {left} {c} able is = stops able (omega arith) (λ k ask es g. record { entries = es; same = include_told out fill left k c es is; stage = g })
 
-  pub include_declares : {w' out out' : List ℕ} {fill left left' : ℕ} {c : Context} {a : Filled} → b ≡ false → Executes m w w' out out' fill left left' c a (λ k. declaration k levels (included p name)) → Executes m w w' out out' fill left left' c a (λ k. run k (declaration k levels) (include p (two m (p + 3))))
+  pub include_declares : {w' out out' : List ℕ} {fill left left' : ℕ} {c : Context} {a : Result ℕ Refusal} → b ≡ false → Executes m w w' out out' fill left left' c a (λ k. declaration k levels (included p name)) → Executes m w w' out out' fill left left' c a (λ k. run k (declaration k levels) (include p (two m (p + 3))))
   include_declares {out = out} {fill = fill} {left = left} {c = c} is then = goes_on (omega arith) (λ k ask es g. record { entries = es; stage = g; same = include_told out fill left k c es is }) then
 
 -- ---- The ways of `declare_class`
 
-pub class_too_deep : (again : Bool) {m w out : List ℕ} {fill left levels : ℕ} {c : Context} {a : Filled} (p q : ℕ) (gs : List Given) → levels ≡ 0 → a ≡ Refused (refusal_at LevelLimit p) → Executes m w w out out fill left left c a (λ k. declaration k levels (asked again p q gs))
+pub class_too_deep : (again : Bool) {m w out : List ℕ} {fill left levels : ℕ} {c : Context} {a : Result ℕ Refusal} (p q : ℕ) (gs : List Given) → levels ≡ 0 → a ≡ Err (refusal_at LevelLimit p) → Executes m w w out out fill left left c a (λ k. declaration k levels (asked again p q gs))
 unfolding asked declaration_place
 class_too_deep true p q gs z e = too_deep (of_class p q gs) z e
 class_too_deep false p q gs z e = too_deep (included p q) z e
@@ -159,12 +153,12 @@ looked_new k true n p q gs x c st e = rw e refl
 looked_new k false n p q gs x c st e = rw (e, looked) refl
 
 -- a class that is declared meanwhile
-meanwhile_able : (again : Bool) (p : ℕ) {m w out : List ℕ} {fill : ℕ} {answer : Filled} → answer ≡ pick again (Refused (refusal_at DeclaredAgain p)) (Done fill) → Able m w out fill → AbleAfter m w out answer
+meanwhile_able : (again : Bool) (p : ℕ) {m w out : List ℕ} {fill : ℕ} {answer : Result ℕ Refusal} → answer ≡ pick again (Err (refusal_at DeclaredAgain p)) (Ok fill) → Able m w out fill → AbleAfter m w out answer
 unfolding AbleAfter
 meanwhile_able true p {m} {w} {out} e a = subst (AbleAfter m w out) (sym e) tt
 meanwhile_able false p {m} {w} {out} e a = subst (AbleAfter m w out) (sym e) a
 
-meanwhile_ends : (k : Known) (again : Bool) (n p q : ℕ) (gs : List Given) (x : Checked) (c : Context) {m w out : List ℕ} {fill left : ℕ} {ask : Question} {es : List Entry} {answer : Filled} → is_declared q (state_with w out fill left es) ≡ true → answer ≡ pick again (Refused (refusal_at DeclaredAgain p)) (Done fill) → Stage m w out fill k ask es → Ends m w out left k ask (looked again k n p q gs x c (state_with w out fill left es)) answer
+meanwhile_ends : (k : Known) (again : Bool) (n p q : ℕ) (gs : List Given) (x : Checked) (c : Context) {m w out : List ℕ} {fill left : ℕ} {ask : Question} {es : List Entry} {answer : Result ℕ Refusal} → is_declared q (state_with w out fill left es) ≡ true → answer ≡ pick again (Err (refusal_at DeclaredAgain p)) (Ok fill) → Stage m w out fill k ask es → Ends m w out left k ask (looked again k n p q gs x c (state_with w out fill left es)) answer
 unfolding looked refuse_if ◌>>=◌
 meanwhile_ends k true n p q gs x c {m} {w} {out} {left = left} y e g = subst (Ends m w out left k _ _) (sym e) (refused_so (rw (y, looked) refl))
 meanwhile_ends k false n p q gs x c {m} {w} {out} {left = left} {es = es} y e g = subst (Ends m w out left k _ _) (sym e) (done_so es (rw (y, looked) refl) g)
@@ -202,13 +196,13 @@ record FoundClass (m : List ℕ) (k : Known) (n p q d : ℕ) (again : Bool) (gs 
   values : parameter_values checked.definition.parameters gs ≡ done checked.values
   runs : declaration k (suc n) (asked again p q gs) c st ≡ (parent_first k (declaration k n) (parent_at m (d + 5)) c st >>= looked again k n p q gs checked c)
 
-module _ {m t w : List ℕ} {levels p q first end : ℕ} {again : Bool} {found : Class} (n : ℕ) (up : levels ≡ suc n) (checks : ChecksClass m t w again p q first end found) where
-  pub found_stands : {d : ℕ} → found ≡ At d → ClassStands m d
+module _ {m t w : List ℕ} {levels p q first end : ℕ} {again : Bool} {found : Result ℕ Refusal} (n : ℕ) (up : levels ≡ suc n) (checks : ChecksClass m t w again p q first end found) where
+  pub found_stands : {d : ℕ} → found ≡ Ok d → ClassStands m d
   unfolding FoundStands
   found_stands is = subst (FoundStands m) is checks.stands
 
-  pub check_refused : {out : List ℕ} {fill left : ℕ} {c : Context} {why : Refusal} → found ≡ NotFound why
-      → (gs : List Given) → Gives t gs → Alike m gs (fields_in m first end) → (again ≡ false → gs ≡ []) → Executes m w w out out fill left left c (Refused why) (λ k. declaration k levels (asked again p q gs))
+  pub check_refused : {out : List ℕ} {fill left : ℕ} {c : Context} {why : Refusal} → found ≡ Err why
+      → (gs : List Given) → Gives t gs → Alike m gs (fields_in m first end) → (again ≡ false → gs ≡ []) → Executes m w w out out fill left left c (Err why) (λ k. declaration k levels (asked again p q gs))
   unfolding ◌>>=◌
   check_refused {out} {fill} {left} {c} {why} is gs gives alikes empty = refuses why (omega arith) (λ k ask es g.
       ap (λ (l : ℕ). declaration k l (asked again p q gs) c (state_with w out fill left es)) up
@@ -216,15 +210,15 @@ module _ {m t w : List ℕ} {levels p q first end : ℕ} {again : Bool} {found :
       ∙ ap (λ (o : Outcome Checked). o >>= λ x. parent_first k (declaration k n) x.definition.parent c (state_with w out fill left es) >>= looked again k n p q gs x c)
       (go (subst (FoundAs m (check_class k again p q gs (state_with w out fill left es))) is (checks.says k es _ _ gs g.ready.known gives alikes))))
     where
-      go : {o : Outcome Checked} → FoundAs m o (NotFound why) → o ≡ refused_by why
+      go : {o : Outcome Checked} → FoundAs m o (Err why) → o ≡ refused_by why
       go (not_found e) = e
 
-  module _ {d : ℕ} (is : found ≡ At d) (gs : List Given) (gives : Gives t gs) (alikes : Alike m gs (fields_in m first end)) (empty : again ≡ false → gs ≡ []) where
+  module _ {d : ℕ} (is : found ≡ Ok d) (gs : List Given) (gives : Gives t gs) (alikes : Alike m gs (fields_in m first end)) (empty : again ≡ false → gs ≡ []) where
     found_class : (left : ℕ) {out : List ℕ} {fill : ℕ} {k : Known} {ask : Question} (c : Context) {es : List Entry} → Stage m w out fill k ask es → FoundClass m k n p q d again gs c (state_with w out fill left es)
     unfolding ◌>>=◌
     found_class left {out} {fill} {k} c {es} g = go (subst (FoundAs m (check_class k again p q gs (state_with w out fill left es))) is (checks.says k es _ _ gs g.ready.known gives alikes))
       where
-        go : FoundAs m (check_class k again p q gs (state_with w out fill left es)) (At d) → FoundClass m k n p q d again gs c (state_with w out fill left es)
+        go : FoundAs m (check_class k again p q gs (state_with w out fill left es)) (Ok d) → FoundClass m k n p q d again gs c (state_with w out fill left es)
         go (found_so x vs item e) = record {
           checked = record { definition = x; values = vs };
           item = item;
@@ -234,17 +228,17 @@ module _ {m t w : List ℕ} {levels p q first end : ℕ} {again : Bool} {found :
               ∙ ap (λ (o : Option Parent). parent_first k (declaration k n) o c (state_with w out fill left es) >>= looked again k n p q gs (record { definition = x; values = vs }) c) (class_parent (found_stands is) item);
         }
 
-    module _ {w₁ out out₁ : List ℕ} {fill left left₁ : ℕ} {c : Context} {a : Filled} (parent : Executes m w w₁ out out₁ fill left left₁ c a (λ k. parent_first k (declaration k n) (parent_at m (d + 5)))) where
-      pub parent_refused : {why : Refusal} → a ≡ Refused why → Executes m w w₁ out out₁ fill left left₁ c a (λ k. declaration k levels (asked again p q gs))
+    module _ {w₁ out out₁ : List ℕ} {fill left left₁ : ℕ} {c : Context} {a : Result ℕ Refusal} (parent : Executes m w w₁ out out₁ fill left left₁ c a (λ k. parent_first k (declaration k n) (parent_at m (d + 5)))) where
+      pub parent_refused : {why : Refusal} → a ≡ Err why → Executes m w w₁ out out₁ fill left left₁ c a (λ k. declaration k levels (asked again p q gs))
       unfolding ◌>>=◌
-      parent_refused {why} e = subst (λ (b : Filled). Executes m w w₁ out out₁ fill left left₁ c b (λ k. declaration k levels (asked again p q gs))) (sym e) (refuses why parent.steps (λ k ask es g.
+      parent_refused {why} e = subst (λ (b : Result ℕ Refusal). Executes m w w₁ out out₁ fill left left₁ c b (λ k. declaration k levels (asked again p q gs))) (sym e) (refuses why parent.steps (λ k ask es g.
           let f = found_class left c g in
           ap (λ (l : ℕ). declaration k l (asked again p q gs) c (state_with w out fill left es)) up
           ∙ f.runs
           ∙ ap (λ (o : Outcome State). o >>= looked again k n p q gs f.checked c) (ended_refused (subst (Ends m w₁ out₁ left₁ k _ (parent_first k (declaration k n) (parent_at m (d + 5)) c (state_with w out fill left es))) e (parent.says k ask es g)))))
 
       -- the parent is declared: the second look
-      module _ {fill₁ : ℕ} (e : a ≡ Done fill₁) {b : Bool} (told : (es : List Entry) (n r : ℕ) → b ≡ is_declared q (state_of w₁ es n r)) where
+      module _ {fill₁ : ℕ} (e : a ≡ Ok fill₁) {b : Bool} (told : (es : List Entry) (n r : ℕ) → b ≡ is_declared q (state_of w₁ es n r)) where
         record After (k : Known) (ask : Question) (es : List Entry) : Type 0 where
           entries : List Entry
           stage : Stage m w₁ out₁ fill₁ k ask entries
@@ -263,7 +257,7 @@ module _ {m t w : List ℕ} {levels p q first end : ℕ} {again : Bool} {found :
               same = ap (λ (l : ℕ). declaration k l (asked again p q gs) c (state_with w out fill left es)) up ∙ f.runs ∙ ap (λ (o : Outcome State). o >>= looked again k n p q gs f.checked c) o.same;
             }
 
-        pub class_meanwhile : {answer : Filled} → b ≡ true → answer ≡ pick again (Refused (refusal_at DeclaredAgain p)) (Done fill₁) → Executes m w w₁ out out₁ fill left left₁ c answer (λ k. declaration k levels (asked again p q gs))
+        pub class_meanwhile : {answer : Result ℕ Refusal} → b ≡ true → answer ≡ pick again (Err (refusal_at DeclaredAgain p)) (Ok fill₁) → Executes m w w₁ out out₁ fill left left₁ c answer (λ k. declaration k levels (asked again p q gs))
         class_meanwhile y i = record {
           able = meanwhile_able again p i (able_after e parent.able);
           steps = parent.steps;
@@ -272,7 +266,7 @@ module _ {m t w : List ℕ} {levels p q first end : ℕ} {again : Bool} {found :
               ends_same f.same (meanwhile_ends k again n p q gs f.class.checked c (sym (told f.entries _ _) ∙ y) i f.stage);
         }
 
-        pub class_entered : {w₂ out₂ : List ℕ} {left₂ : ℕ} {answer : Filled} → b ≡ false → Enters m t w₁ w₂ out₁ out₂ fill₁ left₁ left₂ n d c answer → Executes m w w₂ out out₂ fill left left₂ c answer (λ k. declaration k levels (asked again p q gs))
+        pub class_entered : {w₂ out₂ : List ℕ} {left₂ : ℕ} {answer : Result ℕ Refusal} → b ≡ false → Enters m t w₁ w₂ out₁ out₂ fill₁ left₁ left₂ n d c answer → Executes m w w₂ out out₂ fill left left₂ c answer (λ k. declaration k levels (asked again p q gs))
         class_entered y enters = record {
           able = enters.able;
           steps = let x = enters.steps in let z = parent.steps in omega arith;
@@ -301,7 +295,7 @@ abbrev after_look : (levels q name : ℕ) → Known → Context → State → Bo
 after_look levels q name k c st x = elim x [ true ↦ done st | false ↦ take_step q st >>= λ st'. declaration k levels (included q name) c st' ]
 
 module _ (m w : List ℕ) (levels d : ℕ) {t : ℕ} (read : t ≡ byte m (d + 5)) where
-  pub no_parent_lem : {out : List ℕ} {fill left : ℕ} {c : Context} → Able m w out fill → (t ≡ 0x35 → ⊥) → Executes m w w out out fill left left c (Done fill) (λ k. parent_first k (declaration k levels) (parent_at m (d + 5)))
+  pub no_parent_lem : {out : List ℕ} {fill left : ℕ} {c : Context} → Able m w out fill → (t ≡ 0x35 → ⊥) → Executes m w w out out fill left left c (Ok fill) (λ k. parent_first k (declaration k levels) (parent_at m (d + 5)))
   unfolding parent_first
   no_parent_lem {out} {fill} {left} {c} able other = stops able (omega arith) (λ k ask es g. record {
     entries = es;
@@ -316,15 +310,15 @@ module _ (m w : List ℕ) (levels d : ℕ) {t : ℕ} (read : t ≡ byte m (d + 5
         ap (λ (o : Option Parent). parent_first k (declaration k levels) o c (state_with w out fill left es)) (parent_given m (d + 5) (eq-eqb (byte m (d + 5)) 0x35 (sym read ∙ is)) ∙ ap (λ (n : ℕ). some (record { place = d + 5; name = n })) (sym by_name))
         ∙ ap (after_look levels (d + 5) name k c (state_with w out fill left es)) (sym (told es _ _) ∙ e)
 
-    pub parent_declared : {out : List ℕ} {fill left : ℕ} {c : Context} → Able m w out fill → b ≡ true → Executes m w w out out fill left left c (Done fill) (λ k. parent_first k (declaration k levels) (parent_at m (d + 5)))
+    pub parent_declared : {out : List ℕ} {fill left : ℕ} {c : Context} → Able m w out fill → b ≡ true → Executes m w w out out fill left left c (Ok fill) (λ k. parent_first k (declaration k levels) (parent_at m (d + 5)))
     parent_declared {out} {fill} {left} {c} able y = stops able (omega arith) (λ k ask es g. record { entries = es; same = parent_told out fill left k c es y; stage = g })
 
-    pub parent_no_step : {out : List ℕ} {fill left : ℕ} {c : Context} {a : Filled} → b ≡ false → left ≡ 0 → a ≡ Refused (refusal_at StepLimit (d + 5)) → Executes m w w out out fill left left c a (λ k. parent_first k (declaration k levels) (parent_at m (d + 5)))
+    pub parent_no_step : {out : List ℕ} {fill left : ℕ} {c : Context} {a : Result ℕ Refusal} → b ≡ false → left ≡ 0 → a ≡ Err (refusal_at StepLimit (d + 5)) → Executes m w w out out fill left left c a (λ k. parent_first k (declaration k levels) (parent_at m (d + 5)))
     unfolding ◌>>=◌
-    parent_no_step {out} {fill} {left} {c} y z e = subst (λ (a : Filled). Executes m w w out out fill left left c a (λ k. parent_first k (declaration k levels) (parent_at m (d + 5)))) (sym e) (refuses (refusal_at StepLimit (d + 5)) (omega arith) (λ k ask es g.
+    parent_no_step {out} {fill} {left} {c} y z e = subst (λ (a : Result ℕ Refusal). Executes m w w out out fill left left c a (λ k. parent_first k (declaration k levels) (parent_at m (d + 5)))) (sym e) (refuses (refusal_at StepLimit (d + 5)) (omega arith) (λ k ask es g.
         parent_told out fill left k c es y ∙ ap (λ (o : Outcome State). o >>= λ st'. declaration k levels (included (d + 5) name) c st') (no_step (d + 5) w out fill left es z)))
 
-    pub parent_declares : {w' out out' : List ℕ} {fill left left' : ℕ} {c : Context} {a : Filled} → b ≡ false → (left ≡ 0 → ⊥) → Executes m w w' out out' fill (left - 1) left' c a (λ k. declaration k levels (included (d + 5) name)) → Executes m w w' out out' fill left left' c a (λ k. parent_first k (declaration k levels) (parent_at m (d + 5)))
+    pub parent_declares : {w' out out' : List ℕ} {fill left left' : ℕ} {c : Context} {a : Result ℕ Refusal} → b ≡ false → (left ≡ 0 → ⊥) → Executes m w w' out out' fill (left - 1) left' c a (λ k. declaration k levels (included (d + 5) name)) → Executes m w w' out out' fill left left' c a (λ k. parent_first k (declaration k levels) (parent_at m (d + 5)))
     unfolding ◌>>=◌
     parent_declares {out = out} {fill = fill} {left = left} {c = c} y some_left then = goes_on (omega arith) (λ k ask es g. record {
       entries = es;
@@ -334,15 +328,15 @@ module _ (m w : List ℕ) (levels d : ℕ) {t : ℕ} (read : t ≡ byte m (d + 5
 
 -- ---- The ways of `enter_class`
 
-module _ {m t w w₁ : List ℕ} {d : ℕ} {here : Here} {started : StartedClass} (starts : StartsClass m t w w₁ d here started) (n : ℕ) where
-  class_started : (out : List ℕ) (fill left : ℕ) {a : StartedClass} → started ≡ a → {x : ClassDefinition} {gs vs : List Given} → item_at m d ≡ definition (class_definition x) → Gives t gs → parameter_values x.parameters gs ≡ done vs → (k : Known) (es : List Entry) → StrikesAs k w
+module _ {m t w w₁ : List ℕ} {d : ℕ} {here : Here} {started : Result ClassBody Refusal} (starts : StartsClass m t w w₁ d here started) (n : ℕ) where
+  class_started : (out : List ℕ) (fill left : ℕ) {a : Result ClassBody Refusal} → started ≡ a → {x : ClassDefinition} {gs vs : List Given} → item_at m d ≡ definition (class_definition x) → Gives t gs → parameter_values x.parameters gs ≡ done vs → (k : Known) (es : List Entry) → StrikesAs k w
       → enter_class k (declaration k n) x (taken_defaults x.parameters gs) vs (context_of here) (state_with w out fill left es) ≡ (started_as m a (state_with w₁ out fill left es) >>= λ e. run_block k (declaration k n) e.body e.here e.state)
   class_started out fill left is {x} {gs} {vs} item gives values k es strikes =
       class_enters k (declaration k n) x (taken_defaults x.parameters gs) vs (context_of here) (state_with w out fill left es)
       ∙ ap (λ (o : Outcome Entered). o >>= λ e. run_block k (declaration k n) e.body e.here e.state)
-      (sym (starts.says k es _ _ x gs vs strikes item gives values) ∙ ap (λ (a : StartedClass). started_as m a (state_with w₁ out fill left es)) is)
+      (sym (starts.says k es _ _ x gs vs strikes item gives values) ∙ ap (λ (a : Result ClassBody Refusal). started_as m a (state_with w₁ out fill left es)) is)
 
-  pub enter_refused : {out : List ℕ} {fill left : ℕ} {why : Refusal} → started ≡ NotStarted why → Enters m t w w₁ out out fill left left n d (context_of here) (Refused why)
+  pub enter_refused : {out : List ℕ} {fill left : ℕ} {why : Refusal} → started ≡ Err why → Enters m t w w₁ out out fill left left n d (context_of here) (Err why)
   unfolding AbleAfter started_as ◌>>=◌
   enter_refused {out} {fill} {left} is = record {
     able = tt;
@@ -350,15 +344,15 @@ module _ {m t w w₁ : List ℕ} {d : ℕ} {here : Here} {started : StartedClass
     says = λ x gs vs item gives values k ask es g. refused_so (class_started out fill left is item gives values k es g.ready.known.struck);
   }
 
-  pub enter_runs : {w₂ out out₂ : List ℕ} {fill left left₂ b : ℕ} (inside : Here) {a : Filled} → started ≡ Body b inside → Executes m w₁ w₂ out out₂ fill left left₂ (context_of inside) a (λ k. run_block k (declaration k n) (block_at m 31 b)) → Enters m t w w₂ out out₂ fill left left₂ n d (context_of here) a
+  pub enter_runs : {w₂ out out₂ : List ℕ} {fill left left₂ : ℕ} (body : ClassBody) {a : Result ℕ Refusal} → started ≡ Ok body → Executes m w₁ w₂ out out₂ fill left left₂ (context_of body.here) a (λ k. run_block k (declaration k n) (block_at m 31 body.block)) → Enters m t w w₂ out out₂ fill left left₂ n d (context_of here) a
   unfolding started_as ◌>>=◌
-  enter_runs {out = out} {fill = fill} {left = left} inside is body = record {
-    able = body.able;
-    steps = body.steps;
-    says = λ x gs vs item gives values k ask es g. ends_same (class_started out fill left is item gives values k es g.ready.known.struck) (body.says k ask es (stage_kept starts.keeps g));
+  enter_runs {out = out} {fill = fill} {left = left} body is ran = record {
+    able = ran.able;
+    steps = ran.steps;
+    says = λ x gs vs item gives values k ask es g. ends_same (class_started out fill left is item gives values k es g.ready.known.struck) (ran.says k ask es (stage_kept starts.keeps g));
   }
 
 -- its block
-pub class_body_stands : {m t w w₁ : List ℕ} {d b : ℕ} {here inside : Here} {started : StartedClass} → StartsClass m t w w₁ d here started → started ≡ Body b inside → StandsAs m 31 BlockKind b × NamesKnown m b
+pub class_body_stands : {m t w w₁ : List ℕ} {d : ℕ} {here : Here} {body : ClassBody} {started : Result ClassBody Refusal} → StartsClass m t w w₁ d here started → started ≡ Ok body → StandsAs m 31 BlockKind body.block × NamesKnown m body.block
 unfolding BodyStands
 class_body_stands {m} starts is = subst (BodyStands m) is starts.stands

@@ -18,12 +18,11 @@ use Rattle.statements.specs.Answers.{Keeps, Preserves}
 use Rattle.statements.proofs.Entering.{preserved}
 use Rattle.provenance.specs.Notes.{Question}
 use Rattle.provenance.proofs.Notes.{noted_same}
-use Rattle.resources.specs.declared.Filled.{Filled}
-use Rattle.resources.specs.declared.Filled.TheVariants.{Done, Refused}
 use Rattle.declarations.proofs.Laws.{set_kept, known_kept}
 use Rattle.execution.specs.Executed.{Able, Stage, state_with, Ends, refused_so, done_so, AbleAfter, Executes}
 use Rattle.memory.specs.Words.{word_of}
 use Rattle.memory.proofs.Words.{word_at}
+use Rattle.std.specs.Prelude.{Result, Ok, Err}
 
 -- ---- What an answer tells
 
@@ -33,14 +32,14 @@ pub record DoneAs (m w out : List ℕ) (fill left : ℕ) (k : Known) (ask : Ques
   pub same : o ≡ done (state_with w out fill left entries)
   pub stage : Stage m w out fill k ask entries
 
-pub ended_done : {m w out : List ℕ} {left f : ℕ} {k : Known} {ask : Question} {o : Outcome State} → Ends m w out left k ask o (Done f) → DoneAs m w out f left k ask o
+pub ended_done : {m w out : List ℕ} {left f : ℕ} {k : Known} {ask : Question} {o : Outcome State} → Ends m w out left k ask o (Ok f) → DoneAs m w out f left k ask o
 ended_done (done_so es e s) = record { entries = es; same = e; stage = s }
 
-pub ended_refused : {m w out : List ℕ} {left : ℕ} {why : Refusal} {k : Known} {ask : Question} {o : Outcome State} → Ends m w out left k ask o (Refused why) → o ≡ refused_by why
+pub ended_refused : {m w out : List ℕ} {left : ℕ} {why : Refusal} {k : Known} {ask : Question} {o : Outcome State} → Ends m w out left k ask o (Err why) → o ≡ refused_by why
 ended_refused (refused_so e) = e
 
 -- the same outcome, the same end
-pub ends_same : {m w out : List ℕ} {left : ℕ} {k : Known} {ask : Question} {o o' : Outcome State} {a : Filled} → o ≡ o' → Ends m w out left k ask o' a → Ends m w out left k ask o a
+pub ends_same : {m w out : List ℕ} {left : ℕ} {k : Known} {ask : Question} {o o' : Outcome State} {a : Result ℕ Refusal} → o ≡ o' → Ends m w out left k ask o' a → Ends m w out left k ask o a
 ends_same e i = rw e i
 
 -- ---- What stays
@@ -71,12 +70,12 @@ module _ {m w w' : List ℕ} (kept : Keeps w w') where
 
 module _ {m w out : List ℕ} {fill left : ℕ} {c : Context} {f : Known → Context → State → Outcome State} where
   -- a refusal
-  pub refuses : {w' out' : List ℕ} {left' : ℕ} (why : Refusal) → left' ≤ left → ((k : Known) (ask : Question) (es : List Entry) → Stage m w out fill k ask es → f k c (state_with w out fill left es) ≡ refused_by why) → Executes m w w' out out' fill left left' c (Refused why) f
+  pub refuses : {w' out' : List ℕ} {left' : ℕ} (why : Refusal) → left' ≤ left → ((k : Known) (ask : Question) (es : List Entry) → Stage m w out fill k ask es → f k c (state_with w out fill left es) ≡ refused_by why) → Executes m w w' out out' fill left left' c (Err why) f
   unfolding AbleAfter
   refuses why l h = record { able = tt; steps = l; says = λ k ask es s. refused_so (h k ask es s) }
 
   -- the end at a state that the bytes stand for
-  pub stops : {w' out' : List ℕ} {fill' left' : ℕ} → Able m w' out' fill' → left' ≤ left → ((k : Known) (ask : Question) (es : List Entry) → Stage m w out fill k ask es → DoneAs m w' out' fill' left' k ask (f k c (state_with w out fill left es))) → Executes m w w' out out' fill left left' c (Done fill') f
+  pub stops : {w' out' : List ℕ} {fill' left' : ℕ} → Able m w' out' fill' → left' ≤ left → ((k : Known) (ask : Question) (es : List Entry) → Stage m w out fill k ask es → DoneAs m w' out' fill' left' k ask (f k c (state_with w out fill left es))) → Executes m w w' out out' fill left left' c (Ok fill') f
   unfolding AbleAfter
   stops a l h = record { able = a; steps = l; says = λ k ask es s. let d = h k ask es s in done_so d.entries d.same d.stage }
 
@@ -87,7 +86,7 @@ pub record GoesOn (m w out : List ℕ) (fill left : ℕ) (k : Known) (ask : Ques
   pub same : o ≡ g k c (state_with w out fill left entries)
 
 -- what a callee runs is all that is left
-pub goes_on : {m w w₁ w' out out₁ out' : List ℕ} {fill fill₁ left left₁ left' : ℕ} {c c₁ : Context} {a : Filled} {f g : Known → Context → State → Outcome State} → left₁ ≤ left → ((k : Known) (ask : Question) (es : List Entry) → Stage m w out fill k ask es → GoesOn m w₁ out₁ fill₁ left₁ k ask c₁ g (f k c (state_with w out fill left es))) → Executes m w₁ w' out₁ out' fill₁ left₁ left' c₁ a g → Executes m w w' out out' fill left left' c a f
+pub goes_on : {m w w₁ w' out out₁ out' : List ℕ} {fill fill₁ left left₁ left' : ℕ} {c c₁ : Context} {a : Result ℕ Refusal} {f g : Known → Context → State → Outcome State} → left₁ ≤ left → ((k : Known) (ask : Question) (es : List Entry) → Stage m w out fill k ask es → GoesOn m w₁ out₁ fill₁ left₁ k ask c₁ g (f k c (state_with w out fill left es))) → Executes m w₁ w' out₁ out' fill₁ left₁ left' c₁ a g → Executes m w w' out out' fill left left' c a f
 goes_on l h e = record {
   able = e.able;
   steps = let s = e.steps in omega arith;
@@ -95,14 +94,14 @@ goes_on l h e = record {
 }
 
 -- the same run by another name
-pub executes_as : {m w w' out out' : List ℕ} {fill left left' : ℕ} {c : Context} {a : Filled} {f g : Known → Context → State → Outcome State} → ((k : Known) (st : State) → f k c st ≡ g k c st) → Executes m w w' out out' fill left left' c a g → Executes m w w' out out' fill left left' c a f
+pub executes_as : {m w w' out out' : List ℕ} {fill left left' : ℕ} {c : Context} {a : Result ℕ Refusal} {f g : Known → Context → State → Outcome State} → ((k : Known) (st : State) → f k c st ≡ g k c st) → Executes m w w' out out' fill left left' c a g → Executes m w w' out out' fill left left' c a f
 executes_as same e = record { able = e.able; steps = e.steps; says = λ k ask es s. ends_same (same k _) (e.says k ask es s) }
 
 -- ---- One run, and then another: f is g and then h
 
-module _ {m w w₁ out out₁ : List ℕ} {fill left left₁ : ℕ} {c : Context} {a : Filled} {f g : Known → Context → State → Outcome State} (h : Known → Context → State → Outcome State) (both : (k : Known) (c : Context) (st : State) → f k c st ≡ (g k c st >>= h k c)) (first : Executes m w w₁ out out₁ fill left left₁ c a g) where
+module _ {m w w₁ out out₁ : List ℕ} {fill left left₁ : ℕ} {c : Context} {a : Result ℕ Refusal} {f g : Known → Context → State → Outcome State} (h : Known → Context → State → Outcome State) (both : (k : Known) (c : Context) (st : State) → f k c st ≡ (g k c st >>= h k c)) (first : Executes m w w₁ out out₁ fill left left₁ c a g) where
   -- the first is done, and the second runs from there
-  pub then_runs : {w' out' : List ℕ} {fill₁ left' : ℕ} {b : Filled} → a ≡ Done fill₁ → Executes m w₁ w' out₁ out' fill₁ left₁ left' c b h → Executes m w w' out out' fill left left' c b f
+  pub then_runs : {w' out' : List ℕ} {fill₁ left' : ℕ} {b : Result ℕ Refusal} → a ≡ Ok fill₁ → Executes m w₁ w' out₁ out' fill₁ left₁ left' c b h → Executes m w w' out out' fill left left' c b f
   unfolding ◌>>=◌
   then_runs {fill₁ = fill₁} d e = record {
     able = e.able;
@@ -113,13 +112,13 @@ module _ {m w w₁ out out₁ : List ℕ} {fill left left₁ : ℕ} {c : Context
   }
 
   -- the first is refused
-  pub never_runs : {why : Refusal} → a ≡ Refused why → Executes m w w₁ out out₁ fill left left₁ c a f
+  pub never_runs : {why : Refusal} → a ≡ Err why → Executes m w w₁ out out₁ fill left left₁ c a f
   unfolding ◌>>=◌
   never_runs {why} e =
-      let e' : Executes m w w₁ out out₁ fill left left₁ c (Refused why) g = rw e at first in
+      let e' : Executes m w w₁ out out₁ fill left left₁ c (Err why) g = rw e at first in
       rw e (refuses why e'.steps (λ k ask es s. both k c (state_with w out fill left es) ∙ ap (λ (x : Outcome State). x >>= h k c) (ended_refused (e'.says k ask es s))))
 
 -- what can run after an answer that is done
-pub able_after : {m w out : List ℕ} {f : ℕ} {a : Filled} → a ≡ Done f → AbleAfter m w out a → Able m w out f
+pub able_after : {m w out : List ℕ} {f : ℕ} {a : Result ℕ Refusal} → a ≡ Ok f → AbleAfter m w out a → Able m w out f
 unfolding AbleAfter
 able_after {m} {w} {out} e i = subst (AbleAfter m w out) e i

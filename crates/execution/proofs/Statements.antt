@@ -38,21 +38,15 @@ use Rattle.summaries.proofs.Summaries.{summarized_same, summarized_before}
 use Rattle.evaluator.specs.Answers.{refused_by}
 use Rattle.evaluator.specs.Known.{Ready, Sized}
 use Rattle.branches.proofs.Standing.{has_level, has_header}
-use Rattle.statements.specs.declared.Ran as assigned
-use Rattle.statements.specs.declared.Ran.TheVariants.{Done as Assigned, Refused as NotAssigned}
-use Rattle.statements.specs.declared.Tested.{Tested}
-use Rattle.statements.specs.declared.Tested.TheVariants.{Branch, Refused as NotTested}
-use Rattle.statements.specs.declared.TestedCase.{TestedCase}
-use Rattle.statements.specs.declared.TestedCase.TheVariants.{Branch as Chosen, Nothing, Refused as NotMatched}
+use Rattle.statements.specs.declared.Branch.{Branch}
+use Rattle.statements.specs.declared.CaseBranch.{CaseBranch}
 use Rattle.statements.specs.Answers.{ran_as, Runs}
 use Rattle.statements.specs.Tests.{Passed, test_if_at, tested_as, Testable, Tests}
-use Rattle.statements.specs.Cases.{test_case_at, case_as, block_stands}
+use Rattle.statements.specs.Cases.{choice_stands, test_case_at, case_as, block_stands}
 use Rattle.statements.proofs.Conditions.{if_runs}
 use Rattle.statements.proofs.Cases.{case_refuses, case_goes_on, case_ends}
 use Rattle.provenance.specs.Notes.{Question, NotesResource}
 use Rattle.provenance.proofs.Notes.{noted_same}
-use Rattle.resources.specs.declared.Filled.{Filled}
-use Rattle.resources.specs.declared.Filled.TheVariants.{Done, Refused}
 use Rattle.resources.specs.Entries.{Within, Means, refused_so as refused_there, done_so as done_there}
 use Rattle.resources.specs.Entries as resources
 use Rattle.declarations.specs.Standing.{NamesKnown}
@@ -63,6 +57,7 @@ use Rattle.execution.proofs.Ends.{DoneAs, refuses, stops, goes_on, executes_as, 
 use Rattle.memory.specs.Names.{title_of}
 use Rattle.memory.specs.Words.{word_of}
 use Rattle.memory.proofs.Words.{word_at}
+use Rattle.std.specs.Prelude.{Some, None, Result, Ok, Err}
 
 -- ---- Before a part is evaluated
 
@@ -80,18 +75,18 @@ sized {out = out} a s =
 
 -- ---- Assignments
 
-module _ {m w w' out : List ℕ} {fill : ℕ} {here : Here} (d p : ℕ) (answer : assigned.Ran) (runs : Runs m w w' out fill here answer (statement_at m d p)) (n levels : ℕ) where
-  pub assignment_done : Able m w out fill → length w' ≡ length w → answer ≡ Assigned → Executes m w w' out out fill n n (context_of here) (Done fill) (λ k. run k (declaration k levels) (statement_at m d p))
+module _ {m w w' out : List ℕ} {fill : ℕ} {here : Here} (d p : ℕ) (answer : Result Unit Refusal) (runs : Runs m w w' out fill here answer (statement_at m d p)) (n levels : ℕ) where
+  pub assignment_done : Able m w out fill → length w' ≡ length w → answer ≡ Ok tt → Executes m w w' out out fill n n (context_of here) (Ok fill) (λ k. run k (declaration k levels) (statement_at m d p))
   unfolding ran_as
   assignment_done able size e = stops (able_kept runs.keeps size able) (omega arith) λ k ask es s. record {
     entries = es;
-    same = sym (runs.says k (declaration k levels) es n _ s.ready) ∙ ap (λ (a : assigned.Ran). ran_as a (state_with w' out fill n es)) e;
+    same = sym (runs.says k (declaration k levels) es n _ s.ready) ∙ ap (λ (a : Result Unit Refusal). ran_as a (state_with w' out fill n es)) e;
     stage = stage_kept runs.keeps s;
   }
 
-  pub assignment_refused : (why : Refusal) → answer ≡ NotAssigned why → Executes m w w' out out fill n n (context_of here) (Refused why) (λ k. run k (declaration k levels) (statement_at m d p))
+  pub assignment_refused : (why : Refusal) → answer ≡ Err why → Executes m w w' out out fill n n (context_of here) (Err why) (λ k. run k (declaration k levels) (statement_at m d p))
   unfolding ran_as
-  assignment_refused why e = refuses why (omega arith) λ k ask es s. sym (runs.says k (declaration k levels) es n _ s.ready) ∙ ap (λ (a : assigned.Ran). ran_as a (state_with w' out fill n es)) e
+  assignment_refused why e = refuses why (omega arith) λ k ask es s. sym (runs.says k (declaration k levels) es n _ s.ready) ∙ ap (λ (a : Result Unit Refusal). ran_as a (state_with w' out fill n es)) e
 
 -- ---- Resources
 
@@ -119,7 +114,7 @@ module _ {m w v out : List ℕ} {fill d p : ℕ} {here : Here} (notes : NotesRes
   }
 
 module _ {m w v out out' : List ℕ} {d p fill room : ℕ} {here : Here} {built : Bool} {name : ℕ} (able : Able m w out fill) (s : StandsAs m d StatementKind p) (tag : byte m p ≡ 0x25) (notes : NotesResource m w v out fill here d p) (size : length v ≡ length w)
-    (named : name ≡ two m (p + 3)) (is_built : built ≡ built_in_of v name) (is_room : room ≡ room_in (length out) - fill) {a : Filled} (runs : resources.Runs m v out out' fill room here d p built a) (n levels : ℕ) where
+    (named : name ≡ two m (p + 3)) (is_built : built ≡ built_in_of v name) (is_room : room ≡ room_in (length out) - fill) {a : Result ℕ Refusal} (runs : resources.Runs m v out out' fill room here d p built a) (n levels : ℕ) where
   abbrev statement_run : Known → Context → State → Outcome State
   statement_run k = run k (declaration k levels) (statement_at m d p)
 
@@ -127,23 +122,23 @@ module _ {m w v out out' : List ℕ} {d p fill room : ℕ} {here : Here} {built 
   meant k ask es stage =
       rw (sym is_room) (subst (λ (st : State). Means v out' fill room n es (statement_run k (context_of here) st) a) (notes.set.state es n room) (runs.says s.stands tag (rw (sym named) is_built) k (declaration k levels) es n (ready_noted notes stage.ready)))
 
-  pub resource_refused : {why : Refusal} → a ≡ Refused why → Executes m w v out out' fill n n (context_of here) a statement_run
+  pub resource_refused : {why : Refusal} → a ≡ Err why → Executes m w v out out' fill n n (context_of here) a statement_run
   resource_refused {why} is = rw is (refuses why (omega arith) λ k ask es stage. refused_so_lem (rw is at (meant k ask es stage)))
     where
-      refused_so_lem : {es : List Entry} {o : Outcome State} → Means v out' fill room n es o (Refused why) → o ≡ refused_by why
+      refused_so_lem : {es : List Entry} {o : Outcome State} → Means v out' fill room n es o (Err why) → o ≡ refused_by why
       refused_so_lem (refused_there e) = e
 
   -- the new fill point is within the output
-  pub resource_within : {f : ℕ} → a ≡ Done f → (f ≤ length out') × (f ≤ 65535)
+  pub resource_within : {f : ℕ} → a ≡ Ok f → (f ≤ length out') × (f ≤ 65535)
   unfolding Within
   resource_within {f} is =
-      let within : Within fill room (Done f) = rw is at runs.within in
+      let within : Within fill room (Ok f) = rw is at runs.within in
       let long = runs.kept.long in
       let room-there = room_within (length out) in
       let filled = able.filled in
       (omega (arith, within.1, room-there.0), omega (arith, within.1, room-there.1))
 
-  module _ {f : ℕ} (is : a ≡ Done f) {w' : List ℕ} (indexed : Extended out' fill f v w') where
+  module _ {f : ℕ} (is : a ≡ Ok f) {w' : List ℕ} (indexed : Extended out' fill f v w') where
     stays : Stays v w'
     stays = index_stays v w' indexed.kept
 
@@ -153,14 +148,14 @@ module _ {m w v out out' : List ℕ} {d p fill room : ℕ} {here : Here} {built 
     able_then : Able m w' out' f
     unfolding Within
     able_then =
-        let within : Within fill room (Done f) = rw is at runs.within in
+        let within : Within fill room (Ok f) = rw is at runs.within in
         let here : Able m v out fill = able_noted notes size able in
         record { set = set_kept stays.names indexed.kept.size (summarized_before indexed.kept.before) here.set; fine = stays.fine here.fine; filled = rw runs.kept.long (omega (arith, within.1, is_room, able.filled)) }
 
-    done_so_lem : (k : Known) (ask : Question) (es : List Entry) → Stage m w out fill k ask es → Means v out' fill room n es (statement_run k (context_of here) (state_with w out fill n es)) (Done f) → DoneAs m w' out' f n k ask (statement_run k (context_of here) (state_with w out fill n es))
+    done_so_lem : (k : Known) (ask : Question) (es : List Entry) → Stage m w out fill k ask es → Means v out' fill room n es (statement_run k (context_of here) (state_with w out fill n es)) (Ok f) → DoneAs m w' out' f n k ask (statement_run k (context_of here) (state_with w out fill n es))
     unfolding Within
     done_so_lem k ask es stage (done_there x e written once) =
-        let within : Within fill room (Done f) = rw is at runs.within in
+        let within : Within fill room (Ok f) = rw is at runs.within in
         let long = runs.kept.long in
         let ready : Ready m v out fill k es = ready_noted notes stage.ready in
         let left : room - (f - fill) ≡ room_in (length out') - f = rw long (omega (arith, within.0, is_room)) in
@@ -178,17 +173,17 @@ module _ {m w v out out' : List ℕ} {d p fill room : ℕ} {here : Here} {built 
           };
         }
 
-    pub resource_done : Executes m w w' out out' fill n n (context_of here) (Done f) statement_run
+    pub resource_done : Executes m w w' out out' fill n n (context_of here) (Ok f) statement_run
     resource_done = stops able_then (omega arith) λ k ask es stage. done_so_lem k ask es stage (rw is at (meant k ask es stage))
 
 -- ---- Steps
 
 module _ {m w out : List ℕ} {fill left : ℕ} {c : Context} (levels p : ℕ) (s : Statement) where
-  pub no_step : {a : Filled} → left ≡ 0 → a ≡ Refused (refusal_at StepLimit p) → Executes m w w out out fill left left c a (begun levels p s)
+  pub no_step : {a : Result ℕ Refusal} → left ≡ 0 → a ≡ Err (refusal_at StepLimit p) → Executes m w w out out fill left left c a (begun levels p s)
   unfolding begun take_step state_of ◌>>=◌
   no_step none e = rw e (refuses (refusal_at StepLimit p) (omega arith) λ k ask es st. rw none refl)
 
-  pub step_taken : {w' out' : List ℕ} {left' : ℕ} {a : Filled} → (left ≡ 0 → ⊥) → Executes m w w' out out' fill (left - 1) left' c a (λ k. run k (declaration k levels) s) → Executes m w w' out out' fill left left' c a (begun levels p s)
+  pub step_taken : {w' out' : List ℕ} {left' : ℕ} {a : Result ℕ Refusal} → (left ≡ 0 → ⊥) → Executes m w w' out out' fill (left - 1) left' c a (λ k. run k (declaration k levels) s) → Executes m w w' out out' fill left left' c a (begun levels p s)
   unfolding begun take_step state_of ◌>>=◌
   step_taken some e =
       let one : left ≡ suc (left - 1) = omega (arith, some) in
@@ -216,7 +211,7 @@ include_known {m} {p = p} able s k tag =
     let o = opened_leaf {h = 2} s.stands tag (record { head = refl; rest = refl }) in
     (omega (arith, o.ends, s.stands.ends, able.set.manifest), name_small s.stands tag refl able.set.strings k)
 
-pub include_runs_here : {m w w' out out' : List ℕ} {fill left left' d p : ℕ} {c : Context} {a : Filled} (levels : ℕ) → StandsAs m d StatementKind p → byte m p ≡ 0x29 → Executes m w w' out out' fill left left' c a (λ k. run k (declaration k levels) (include p (two m (p + 3)))) → Executes m w w' out out' fill left left' c a (λ k. run k (declaration k levels) (statement_at m d p))
+pub include_runs_here : {m w w' out out' : List ℕ} {fill left left' d p : ℕ} {c : Context} {a : Result ℕ Refusal} (levels : ℕ) → StandsAs m d StatementKind p → byte m p ≡ 0x29 → Executes m w w' out out' fill left left' c a (λ k. run k (declaration k levels) (include p (two m (p + 3)))) → Executes m w w' out out' fill left left' c a (λ k. run k (declaration k levels) (statement_at m d p))
 include_runs_here {c = c} levels s tag e = executes_as (λ k st. ap (λ (x : Statement). run k (declaration k levels) x c st) (include_opens s.stands tag)) e
 
 -- ---- Conditions
@@ -231,7 +226,7 @@ pub in_branch_lem : (here : Here) (set : Labels) {path : Labels} → path ≡ se
 unfolding in_branch
 in_branch_lem here set e = ap (context_in here.scope) e
 
-module _ {m w w' out : List ℕ} {d p fill : ℕ} {here : Here} (levels : ℕ) (s : StandsAs m d StatementKind p) (tag : byte m p ≡ 0x22) (t : Tested) (tests : Tests m w w' out fill here (tested_as t) (test_if_at m (d - 1) p)) where
+module _ {m w w' out : List ℕ} {d p fill : ℕ} {here : Here} (levels : ℕ) (s : StandsAs m d StatementKind p) (tag : byte m p ≡ 0x22) (t : Result Branch Refusal) (tests : Tests m w w' out fill here (tested_as t) (test_if_at m (d - 1) p)) where
   -- where the block that runs is
   abbrev pub block_if : Bool → ℕ
   block_if b = pick b (end_of m (p + 3)) (end_of m (end_of m (p + 3)))
@@ -243,23 +238,23 @@ module _ {m w w' out : List ℕ} {d p fill : ℕ} {here : Here} (levels : ℕ) (
   into : Known → Passed Bool → Outcome State
   into k x = run_block k (declaration k levels) (pick x.chosen (block_at m (d - 1) (end_of m (p + 3))) (block_at m (d - 1) (end_of m (end_of m (p + 3))))) (in_branch x.set (context_of here)) x.state
 
-  if_tested : {u : Tested} (k : Known) (ask : Question) (es : List Entry) (n : ℕ) → t ≡ u → Stage m w out fill k ask es → run k (declaration k levels) (statement_at m d p) (context_of here) (state_with w out fill n es) ≡ (tested_as u (state_with w' out fill n es) >>= into k)
+  if_tested : {u : Result Branch Refusal} (k : Known) (ask : Question) (es : List Entry) (n : ℕ) → t ≡ u → Stage m w out fill k ask es → run k (declaration k levels) (statement_at m d p) (context_of here) (state_with w out fill n es) ≡ (tested_as u (state_with w' out fill n es) >>= into k)
   unfolding test_if_at into
   if_tested k ask es n e stage =
       ap (λ (x : Statement). run k (declaration k levels) x (context_of here) (state_with w out fill n es)) (conditional_opens s.stands (has_level s) tag).tree
       ∙ if_runs k (declaration k levels) p (expression_at m (d - 1) (p + 3)) (block_at m (d - 1) (end_of m (p + 3))) (block_at m (d - 1) (end_of m (end_of m (p + 3)))) (context_of here) (state_with w out fill n es)
-      ∙ ap (λ (o : Outcome (Passed Bool)). o >>= into k) (sym (tests.says k es n _ stage.ready) ∙ ap (λ (u : Tested). tested_as u (state_with w' out fill n es)) e)
+      ∙ ap (λ (o : Outcome (Passed Bool)). o >>= into k) (sym (tests.says k es n _ stage.ready) ∙ ap (λ (u : Result Branch Refusal). tested_as u (state_with w' out fill n es)) e)
 
-  pub if_refused : (why : Refusal) (n : ℕ) → t ≡ NotTested why → Executes m w w' out out fill n n (context_of here) (Refused why) (λ k. run k (declaration k levels) (statement_at m d p))
+  pub if_refused : (why : Refusal) (n : ℕ) → t ≡ Err why → Executes m w w' out out fill n n (context_of here) (Err why) (λ k. run k (declaration k levels) (statement_at m d p))
   unfolding tested_as ◌>>=◌
   if_refused why n e = refuses why (omega arith) λ k ask es stage. if_tested k ask es n e stage
 
-  pub if_goes_on : {b : Bool} {set : Labels} {inside : Context} {q n n' : ℕ} {w'' out' : List ℕ} {a : Filled} → t ≡ Branch b set → q ≡ block_if b → inside ≡ in_branch set (context_of here) → Executes m w' w'' out out' fill n n' inside a (λ k. run_block k (declaration k levels) (block_at m (d - 1) q)) → Executes m w w'' out out' fill n n' (context_of here) a (λ k. run k (declaration k levels) (statement_at m d p))
+  pub if_goes_on : (branch : Branch) {inside : Context} {q n n' : ℕ} {w'' out' : List ℕ} {a : Result ℕ Refusal} → t ≡ Ok branch → q ≡ block_if branch.yes → inside ≡ in_branch branch.set (context_of here) → Executes m w' w'' out out' fill n n' inside a (λ k. run_block k (declaration k levels) (block_at m (d - 1) q)) → Executes m w w'' out out' fill n n' (context_of here) a (λ k. run k (declaration k levels) (statement_at m d p))
   unfolding tested_as ◌>>=◌ into
-  if_goes_on {b} {set} {q = q} {n = n} e at joined runs = goes_on (omega arith) (λ k ask es stage. record {
+  if_goes_on branch {q = q} {n = n} e at joined runs = goes_on (omega arith) (λ k ask es stage. record {
     entries = es;
     stage = stage_preserved tests.keeps stage;
-    same = if_tested k ask es n e stage ∙ ap (λ (x : Block). run_block k (declaration k levels) x (in_branch set (context_of here)) (state_with w' out fill n es)) (pick_block b ∙ ap (block_at m (d - 1)) (sym at)) ∙ ap (λ (h : Context). run_block k (declaration k levels) (block_at m (d - 1) q) h (state_with w' out fill n es)) (sym joined);
+    same = if_tested k ask es n e stage ∙ ap (λ (x : Block). run_block k (declaration k levels) x (in_branch branch.set (context_of here)) (state_with w' out fill n es)) (pick_block branch.yes ∙ ap (block_at m (d - 1)) (sym at)) ∙ ap (λ (h : Context). run_block k (declaration k levels) (block_at m (d - 1) q) h (state_with w' out fill n es)) (sym joined);
   }) runs
 
 -- the blocks of an if
@@ -281,29 +276,29 @@ if_block {m} {d} {p} {q} b s k tag at = go b at
 -- ---- Cases
 
 -- the block chosen
-pub case_block : {m : List ℕ} {d p q : ℕ} {t : TestedCase} {set : Labels} → StandsAs m d StatementKind p → NamesKnown m p → byte m p ≡ 0x23 → t ≡ Chosen q set → block_stands m (d - 1 - 1) p t → (2 ≤ d) × (StandsAs m (d - 2) BlockKind q × NamesKnown m q)
-unfolding block_stands
-case_block {m} {d} {p} {q} s k tag e stands =
-    let i = subst (block_stands m (d - 1 - 1) p) e stands in
+pub case_block : {m : List ℕ} {d p q : ℕ} {t : Result CaseBranch Refusal} (branch : CaseBranch) → StandsAs m d StatementKind p → NamesKnown m p → byte m p ≡ 0x23 → t ≡ Ok branch → branch.block ≡ Some q → block_stands m (d - 1 - 1) p t → (2 ≤ d) × (StandsAs m (d - 2) BlockKind q × NamesKnown m q)
+unfolding block_stands choice_stands
+case_block {m} {d} {p} {q} branch s k tag e chosen stands =
+    let i = subst (choice_stands m (d - 1 - 1) (end_of m (p + 3)) (end_of m p)) chosen (subst (block_stands m (d - 1 - 1) p) e stands) in
     let same : d - 1 - 1 ≡ d - 2 = omega arith in
     (omega (arith, has_level i.0), (subst (λ (b : ℕ). StandsAs m b BlockKind q) same i.0, known_chosen (choice_opens s.stands (has_level s) tag).branches (known_branches s tag k) i.1))
 
-module _ {m w w' out : List ℕ} {d p fill : ℕ} {here : Here} (levels : ℕ) (s : StandsAs m d StatementKind p) (tag : byte m p ≡ 0x23) (t : TestedCase) (tests : Tests m w w' out fill here (case_as m (d - 1 - 1) t) (test_case_at m (d - 1) p)) where
-  pub case_refused : (why : Refusal) (n : ℕ) → t ≡ NotMatched why → Executes m w w' out out fill n n (context_of here) (Refused why) (λ k. run k (declaration k levels) (statement_at m d p))
+module _ {m w w' out : List ℕ} {d p fill : ℕ} {here : Here} (levels : ℕ) (s : StandsAs m d StatementKind p) (tag : byte m p ≡ 0x23) (t : Result CaseBranch Refusal) (tests : Tests m w w' out fill here (case_as m (d - 1 - 1) t) (test_case_at m (d - 1) p)) where
+  pub case_refused : (why : Refusal) (n : ℕ) → t ≡ Err why → Executes m w w' out out fill n n (context_of here) (Err why) (λ k. run k (declaration k levels) (statement_at m d p))
   case_refused why n e = refuses why (omega arith) λ k ask es stage. case_refuses s tag k (declaration k levels) t tests es n _ stage.ready why e
 
-  pub case_passed : (set : Labels) (n : ℕ) → Able m w out fill → length w' ≡ length w → t ≡ Nothing set → Executes m w w' out out fill n n (context_of here) (Done fill) (λ k. run k (declaration k levels) (statement_at m d p))
-  case_passed set n able size e = stops (able_preserved tests.keeps size able) (omega arith) λ k ask es stage. record {
+  pub case_passed : (branch : CaseBranch) (n : ℕ) → Able m w out fill → length w' ≡ length w → t ≡ Ok branch → branch.block ≡ None → Executes m w w' out out fill n n (context_of here) (Ok fill) (λ k. run k (declaration k levels) (statement_at m d p))
+  case_passed branch n able size e none = stops (able_preserved tests.keeps size able) (omega arith) λ k ask es stage. record {
     entries = es;
-    same = case_ends s tag k (declaration k levels) t tests es n _ stage.ready set e;
+    same = case_ends s tag k (declaration k levels) t tests es n _ stage.ready branch e none;
     stage = stage_preserved tests.keeps stage;
   }
 
-  pub case_chosen : {set : Labels} {inside : Context} {q b n n' : ℕ} {w'' out' : List ℕ} {a : Filled} → t ≡ Chosen q set → b ≡ d - 2 → inside ≡ in_branch set (context_of here) → Executes m w' w'' out out' fill n n' inside a (λ k. run_block k (declaration k levels) (block_at m b q)) → Executes m w w'' out out' fill n n' (context_of here) a (λ k. run k (declaration k levels) (statement_at m d p))
-  case_chosen {set} {q = q} {b = b} {n = n} e below joined runs =
+  pub case_chosen : (branch : CaseBranch) {inside : Context} {q b n n' : ℕ} {w'' out' : List ℕ} {a : Result ℕ Refusal} → t ≡ Ok branch → branch.block ≡ Some q → b ≡ d - 2 → inside ≡ in_branch branch.set (context_of here) → Executes m w' w'' out out' fill n n' inside a (λ k. run_block k (declaration k levels) (block_at m b q)) → Executes m w w'' out out' fill n n' (context_of here) a (λ k. run k (declaration k levels) (statement_at m d p))
+  case_chosen branch {q = q} {b = b} {n = n} e chosen below joined runs =
       let same : d - 1 - 1 ≡ b = omega arith in
       goes_on (omega arith) (λ k ask es stage. record {
         entries = es;
         stage = stage_preserved tests.keeps stage;
-        same = case_goes_on s tag k (declaration k levels) t tests es n _ stage.ready q set e ∙ ap (λ (x : ℕ). run_block k (declaration k levels) (block_at m x q) (in_branch set (context_of here)) (state_with w' out fill n es)) same ∙ ap (λ (h : Context). run_block k (declaration k levels) (block_at m b q) h (state_with w' out fill n es)) (sym joined);
+        same = case_goes_on s tag k (declaration k levels) t tests es n _ stage.ready branch e q chosen ∙ ap (λ (x : ℕ). run_block k (declaration k levels) (block_at m x q) (in_branch branch.set (context_of here)) (state_with w' out fill n es)) same ∙ ap (λ (h : Context). run_block k (declaration k levels) (block_at m b q) h (state_with w' out fill n es)) (sym joined);
       }) runs

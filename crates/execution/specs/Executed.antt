@@ -1,5 +1,5 @@
 -- What running a part of the manifest makes of the bytes lent, and what its answer means.
-use Rattle.std.specs.Prelude.{ℕ, ◌+◌, ◌-◌, ◌≤◌, ◌≡◌, Bool, true, false, List, length}
+use Rattle.std.specs.Prelude.{ℕ, ◌+◌, ◌-◌, ◌≤◌, ◌≡◌, Bool, true, false, List, length, Result, Ok, Err}
 use Rattle.values.specs.declared.Refusal.{Refusal}
 use Rattle.wire.specs.Bytes.{byte, end_of, fields_in}
 use Rattle.rules.specs.Outcome.{Outcome, done, ◌>>=◌}
@@ -14,8 +14,6 @@ use Rattle.evaluator.specs.Answers.{refused_by}
 use Rattle.evaluator.specs.Known.{Ready}
 use Rattle.attributes.specs.Table.{Gives, Fresh}
 use Rattle.provenance.specs.Notes.{Question, Noted}
-use Rattle.resources.specs.declared.Filled.{Filled}
-use Rattle.resources.specs.declared.Filled.TheVariants.{Done, Refused}
 use Rattle.declarations.specs.Standing.{Set}
 
 -- ---- Before
@@ -50,17 +48,17 @@ pub record FreshFor (m t : List ℕ) (p : ℕ) : Type 0 where
 -- ---- After
 
 -- the answer means the outcome o: its refusal; or the bytes lent stand for its state
-pub data Ends (m w out : List ℕ) (left : ℕ) (k : Known) (ask : Question) (o : Outcome State) : Filled → Type 0 where
-  refused_so : {why : Refusal} → o ≡ refused_by why → Ends m w out left k ask o (Refused why)
-  done_so : {f : ℕ} (es : List Entry) → o ≡ done (state_with w out f left es) → Stage m w out f k ask es → Ends m w out left k ask o (Done f)
+pub data Ends (m w out : List ℕ) (left : ℕ) (k : Known) (ask : Question) (o : Outcome State) : Result ℕ Refusal → Type 0 where
+  refused_so : {why : Refusal} → o ≡ refused_by why → Ends m w out left k ask o (Err why)
+  done_so : {f : ℕ} (es : List Entry) → o ≡ done (state_with w out f left es) → Stage m w out f k ask es → Ends m w out left k ask o (Ok f)
 
 -- something else can run after it
-unfoldable pub AbleAfter : (m w out : List ℕ) → Filled → Type 0
-AbleAfter m w out (Done f) = Able m w out f
-AbleAfter m w out (Refused why) = Unit {0}
+unfoldable pub AbleAfter : (m w out : List ℕ) → Result ℕ Refusal → Type 0
+AbleAfter m w out (Ok f) = Able m w out f
+AbleAfter m w out (Err why) = Unit {0}
 
 -- in the context c, and in every state that the bytes stand for, the answer is what f gives
-pub record Executes (m w w' out out' : List ℕ) (fill left left' : ℕ) (c : Context) (answer : Filled) (f : Known → Context → State → Outcome State) : Type 0 where
+pub record Executes (m w w' out out' : List ℕ) (fill left left' : ℕ) (c : Context) (answer : Result ℕ Refusal) (f : Known → Context → State → Outcome State) : Type 0 where
   pub able : AbleAfter m w' out' answer
   pub steps : left' ≤ left
   pub says : (k : Known) (ask : Question) (es : List Entry) → Stage m w out fill k ask es → Ends m w' out' left' k ask (f k c (state_with w out fill left es)) answer
@@ -83,7 +81,7 @@ asked false p q gs = included p q
 -- ---- Classes
 
 -- the class whose 34 is at p, with n levels left for what it declares: what its definition and the table t give decides what the answer means
-pub record Enters (m t w w' out out' : List ℕ) (fill left left' n p : ℕ) (c : Context) (answer : Filled) : Type 0 where
+pub record Enters (m t w w' out out' : List ℕ) (fill left left' n p : ℕ) (c : Context) (answer : Result ℕ Refusal) : Type 0 where
   pub able : AbleAfter m w' out' answer
   pub steps : left' ≤ left
   pub says : (d : ClassDefinition) (gs vs : List Given) → item_at m p ≡ definition (class_definition d) → Gives t gs → parameter_values d.parameters gs ≡ done vs → (k : Known) (ask : Question) (es : List Entry) → Stage m w out fill k ask es

@@ -1,7 +1,7 @@
 // Blocks, statements and declarations, which call one another. What falls with each call joins the steps left, the levels left and the depth left. What an answer means is in specs/.
 #![tactic(auto)]
 
-ghost use Rattle.std.specs.Prelude.{◌≡◌, false, List, [], ℕ, ◌+◌, ◌-◌, ◌≤◌, ◌<◌, leb};
+ghost use Rattle.std.specs.Prelude.{◌≡◌, false, List, [], ℕ, ◌+◌, ◌-◌, ◌≤◌, ◌<◌, leb, Ok, Err};
 ghost use Rattle.values.specs.declared.Reason.TheVariants.{DeclaredAgain};
 ghost use Rattle.values.specs.Refusals.{refusal_at};
 ghost use Rattle.wire.specs.Bytes.{pick, byte, two, end_of, fields_in};
@@ -13,17 +13,14 @@ ghost use Rattle.places.specs.At.{statement_at, block_at, parent_at, StandsAs};
 ghost use Rattle.memory.specs.Contexts.{context_of};
 ghost use Rattle.attributes.specs.Names.{Alike};
 ghost use Rattle.attributes.specs.Table.{Gives};
-ghost use Rattle.resources.specs.declared.Filled.TheVariants.{Done, Refused};
 ghost use Rattle.declarations.specs.Standing.{NamesKnown};
 ghost use Rattle.declarations.specs.Classes.{ClassStands};
 ghost use Rattle.execution.specs.Executed.{Able, GivenFrom, FreshFor, Executes, Enters, begun, body_run, asked};
 
-use attributes::{Gathered, SMALL_NAMES, SMALL_TABLE, Span, TABLE, Title, evaluate_attributes};
-use declarations::{Class, Request, Started, StartedClass};
+use attributes::{SMALL_NAMES, SMALL_TABLE, Span, TABLE, evaluate_attributes};
+use declarations::Request;
 use labels::Labels;
 use memory::{Context, Scope};
-use resources::Filled;
-use statements::{Tested, TestedCase};
 use values::{Labelled, Reason, Refusal};
 
 // What a 29 or a 35 gives to the class that it declares.
@@ -43,7 +40,7 @@ pub fn run_block(
     left: &mut u16,
     levels: u8,
     here: Context,
-) -> Filled
+) -> Result<usize, Refusal>
     requires { Able m.now work.old out.old fill × (StandsAs m.now depth Block p × NamesKnown m.now p) }
     ensures { Executes m.now work.old work.new out.old out.new fill left.old left.new (context_of here) result (λ k. run_block k (declaration k levels) (block_at m.now depth p)) }
 {
@@ -51,14 +48,10 @@ pub fn run_block(
     let mut q = p + 3;
     let mut filled = fill;
     while q < end {
-        let r = run_statement(m, depth - 1, q, work, out, filled, left, levels, here);
-        let Filled::Done(more) = r else {
-            return r;
-        };
-        filled = more;
+        filled = run_statement(m, depth - 1, q, work, out, filled, left, levels, here)?;
         q = wire::end_of(m, q);
     }
-    Filled::Done(filled)
+    Ok(filled)
 }
 
 // The statement at p: "each statement begun counts one".
@@ -73,13 +66,13 @@ pub fn run_statement(
     left: &mut u16,
     levels: u8,
     here: Context,
-) -> Filled
+) -> Result<usize, Refusal>
     requires { Able m.now work.old out.old fill × (StandsAs m.now depth Statement p × NamesKnown m.now p) }
     ensures { Executes m.now work.old work.new out.old out.new fill left.old left.new (context_of here) result (begun levels p (statement_at m.now depth p)) }
 {
     let steps = *left;
     if steps == 0 {
-        return Filled::Refused(Refusal::at(Reason::StepLimit, p));
+        return Err(Refusal::at(Reason::StepLimit, p));
     }
     *left = steps - 1;
     run_begun(m, depth, p, work, out, fill, left, levels, here)
@@ -97,7 +90,7 @@ fn run_begun(
     left: &mut u16,
     levels: u8,
     here: Context,
-) -> Filled
+) -> Result<usize, Refusal>
     requires { Able m.now work.old out.old fill × (StandsAs m.now depth Statement p × NamesKnown m.now p) }
     ensures { Executes m.now work.old work.new out.old out.new fill left.old left.new (context_of here) result (λ k. run k (declaration k levels) (statement_at m.now depth p)) }
 {
@@ -123,15 +116,12 @@ fn run_assignment(
     out: &[u8],
     fill: usize,
     here: Context,
-) -> Filled
+) -> Result<usize, Refusal>
     requires { (Able m.now work.old out.now fill × (StandsAs m.now depth Statement p × NamesKnown m.now p)) × (byte m.now p ≡ 0x21) }
     ensures { (n levels : ℕ) → Executes m.now work.old work.new out.now out.now fill n n (context_of here) result (λ k. run k (declaration k levels) (statement_at m.now depth p)) }
 {
-    let r = statements::assign(m, depth, p, work, out, fill, here);
-    match r {
-        statements::Ran::Refused(refusal) => Filled::Refused(refusal),
-        statements::Ran::Done => Filled::Done(fill),
-    }
+    statements::assign(m, depth, p, work, out, fill, here)?;
+    Ok(fill)
 }
 
 // How many bytes entries may take in all.
@@ -150,19 +140,16 @@ fn run_resource(
     out: &mut [u8],
     fill: usize,
     here: Context,
-) -> Filled
+) -> Result<usize, Refusal>
     requires { (Able m.now work.old out.old fill × (StandsAs m.now depth Statement p × NamesKnown m.now p)) × (byte m.now p ≡ 0x25) }
     ensures { (n levels : ℕ) → Executes m.now work.old work.new out.old out.new fill n n (context_of here) result (λ k. run k (declaration k levels) (statement_at m.now depth p)) }
 {
     provenance::note_resource(m, depth, p, work, out, fill, here);
     let built_in = memory::built_in(work, wire::two_at(m, p + 3));
     let room = room_in(out.len()) - fill;
-    let r = resources::add_resource(m, depth, p, work, out, fill, room, here, built_in);
-    let Filled::Done(more) = r else {
-        return r;
-    };
+    let more = resources::add_resource(m, depth, p, work, out, fill, room, here, built_in)?;
     catalog_index::index_entry(work, out, fill, more);
-    Filled::Done(more)
+    Ok(more)
 }
 
 // ---- Conditions
@@ -188,10 +175,10 @@ fn is_empty_block(m: &[u8], p: usize) -> bool
 fn branch_context(here: Context, set: Labels) -> Context
     ensures { context_of result ≡ in_branch set (context_of here) }
 {
-    let scope = here.scope;
-    let outer = here.path;
-    let path = set.union(outer);
-    Context { scope, path }
+    Context {
+        scope: here.scope,
+        path: set.union(here.path),
+    }
 }
 
 // The 22 at p.
@@ -206,22 +193,17 @@ fn run_if(
     left: &mut u16,
     levels: u8,
     here: Context,
-) -> Filled
+) -> Result<usize, Refusal>
     requires { (Able m.now work.old out.old fill × (StandsAs m.now depth Statement p × NamesKnown m.now p)) × (byte m.now p ≡ 0x22) }
     ensures { Executes m.now work.old work.new out.old out.new fill left.old left.new (context_of here) result (λ k. run k (declaration k levels) (statement_at m.now depth p)) }
 {
-    let t = statements::test_if(m, depth, p, work, out, fill, here);
-    match t {
-        Tested::Refused(refusal) => Filled::Refused(refusal),
-        Tested::Branch { yes, set } => {
-            let block = chosen_block(m, p, yes);
-            if is_empty_block(m, block) {
-                return Filled::Done(fill);
-            }
-            let inside = branch_context(here, set);
-            run_block(m, depth - 1, block, work, out, fill, left, levels, inside)
-        }
+    let branch = statements::test_if(m, depth, p, work, out, fill, here)?;
+    let block = chosen_block(m, p, branch.yes);
+    if is_empty_block(m, block) {
+        return Ok(fill);
     }
+    let inside = branch_context(here, branch.set);
+    run_block(m, depth - 1, block, work, out, fill, left, levels, inside)
 }
 
 // The 23 at p: "A case without a match does nothing."
@@ -236,22 +218,19 @@ fn run_case(
     left: &mut u16,
     levels: u8,
     here: Context,
-) -> Filled
+) -> Result<usize, Refusal>
     requires { (Able m.now work.old out.old fill × (StandsAs m.now depth Statement p × NamesKnown m.now p)) × (byte m.now p ≡ 0x23) }
     ensures { Executes m.now work.old work.new out.old out.new fill left.old left.new (context_of here) result (λ k. run k (declaration k levels) (statement_at m.now depth p)) }
 {
-    let t = statements::test_case(m, depth, p, work, out, fill, here);
-    match t {
-        TestedCase::Refused(refusal) => Filled::Refused(refusal),
-        TestedCase::Nothing { set: _ } => Filled::Done(fill),
-        TestedCase::Branch { block, set } => {
-            if is_empty_block(m, block) {
-                return Filled::Done(fill);
-            }
-            let inside = branch_context(here, set);
-            run_block(m, depth - 2, block, work, out, fill, left, levels, inside)
-        }
+    let branch = statements::test_case(m, depth, p, work, out, fill, here)?;
+    let Some(block) = branch.block else {
+        return Ok(fill);
+    };
+    if is_empty_block(m, block) {
+        return Ok(fill);
     }
+    let inside = branch_context(here, branch.set);
+    run_block(m, depth - 2, block, work, out, fill, left, levels, inside)
 }
 
 // ---- Declarations
@@ -268,7 +247,7 @@ fn run_type(
     left: &mut u16,
     levels: u8,
     here: Context,
-) -> Filled
+) -> Result<usize, Refusal>
     requires { (Able m.now work.old out.old fill × (StandsAs m.now depth Statement p × NamesKnown m.now p)) × (byte m.now p ≡ 0x27) }
     ensures { Executes m.now work.old work.new out.old out.new fill left.old left.new (context_of here) result (λ k. run k (declaration k levels) (statement_at m.now depth p)) }
 {
@@ -292,7 +271,7 @@ fn run_class(
     left: &mut u16,
     levels: u8,
     here: Context,
-) -> Filled
+) -> Result<usize, Refusal>
     requires { (Able m.now work.old out.old fill × (StandsAs m.now depth Statement p × NamesKnown m.now p)) × (byte m.now p ≡ 0x28) }
     ensures { Executes m.now work.old work.new out.old out.new fill left.old left.new (context_of here) result (λ k. run k (declaration k levels) (statement_at m.now depth p)) }
 {
@@ -319,7 +298,7 @@ fn run_given(
     left: &mut u16,
     levels: u8,
     here: Context,
-) -> Filled
+) -> Result<usize, Refusal>
     requires { (Able m.now work.old out.old fill × (StandsAs m.now depth Statement p × NamesKnown m.now p)) × GivenFrom m.now p first }
     ensures { Executes m.now work.old work.new out.old out.new fill left.old left.new (context_of here) result (λ k. run k (declaration k levels) (statement_at m.now depth p)) }
 {
@@ -345,7 +324,7 @@ fn gather(
     levels: u8,
     here: Context,
     table: &mut [u8],
-) -> Filled
+) -> Result<usize, Refusal>
     requires { (Able m.now work.old out.old fill × (StandsAs m.now depth Statement p × NamesKnown m.now p)) × FreshFor m.now table.old p }
     ensures { Executes m.now work.old work.new out.old out.new fill left.old left.new (context_of here) result (λ k. run k (declaration k levels) (statement_at m.now depth p)) }
 {
@@ -370,30 +349,25 @@ fn gather_type(
     levels: u8,
     here: Context,
     table: &mut [u8],
-) -> Filled
+) -> Result<usize, Refusal>
     requires { (Able m.now work.old out.old fill × (StandsAs m.now depth Statement p × NamesKnown m.now p)) × ((byte m.now p ≡ 0x27) × FreshFor m.now table.old p) }
     ensures { Executes m.now work.old work.new out.old out.new fill left.old left.new (context_of here) result (λ k. run k (declaration k levels) (statement_at m.now depth p)) }
 {
-    let scope = here.scope;
-    let t = attributes::evaluate_titled(m, depth, p, work, out, fill, scope, table);
-    match t {
-        Title::Refused(refusal) => Filled::Refused(refusal),
-        Title::Value(x) => declare_type(m, p, table, x, work, out, fill, left, levels, here),
-    }
+    let x = attributes::evaluate_titled(m, depth, p, work, out, fill, here.scope, table)?;
+    declare_type(m, p, table, x, work, out, fill, left, levels, here)
 }
 
 // Where the body of a type runs, with `levels` levels left for what it declares: in a scope of its own, on the base and the path of its declarer.
 fn body_context(here: Context, levels: u8) -> Context
     ensures { context_of result ≡ in_body levels (context_of here) }
 {
-    let number = 1026 + levels as u16;
-    let path = here.path;
+    let scope = Scope {
+        number: 1026 + levels as u16,
+        base_is_node: here.scope.base_is_node,
+    };
     Context {
-        scope: Scope {
-            number,
-            base_is_node: here.scope.base_is_node,
-        },
-        path,
+        scope,
+        path: here.path,
     }
 }
 
@@ -410,12 +384,12 @@ fn declare_type(
     left: &mut u16,
     levels: u8,
     here: Context,
-) -> Filled
+) -> Result<usize, Refusal>
     requires { Able m.now work.old out.old fill × (((p ≤ 65535) × (end_of m.now p ≤ 65535)) × (two m.now (p + 3) < 1024)) }
     ensures { (gs : List Given) → Gives table.now gs → Alike m.now gs (fields_in m.now (end_of m.now (p + 5)) (end_of m.now p)) → Executes m.now work.old work.new out.old out.new fill left.old left.new (context_of here) result (λ k. declaration k levels (of_type p (two m.now (p + 3)) x gs)) }
 {
     if levels < 1 {
-        return Filled::Refused(Refusal::at(Reason::LevelLimit, p));
+        return Err(Refusal::at(Reason::LevelLimit, p));
     }
     let below = levels - 1;
     let given = Span {
@@ -423,11 +397,8 @@ fn declare_type(
         end: wire::end_of(m, p),
     };
     let inside = body_context(here, below);
-    let s = declarations::start_type(m, p, given, table, x, work, inside);
-    match s {
-        Started::Refused(refusal) => Filled::Refused(refusal),
-        Started::Body(block) => run_body(m, block, work, out, fill, left, below, inside),
-    }
+    let block = declarations::start_type(m, p, given, table, x, work, inside)?;
+    run_body(m, block, work, out, fill, left, below, inside)
 }
 
 // The body of a type, whose block is at p, and whose scope is freed after it.
@@ -441,18 +412,13 @@ fn run_body(
     left: &mut u16,
     levels: u8,
     here: Context,
-) -> Filled
+) -> Result<usize, Refusal>
     requires { Able m.now work.old out.old fill × (StandsAs m.now 31 Block p × NamesKnown m.now p) }
     ensures { Executes m.now work.old work.new out.old out.new fill left.old left.new (context_of here) result (body_run levels (block_at m.now 31 p)) }
 {
-    let r = run_block(m, 31, p, work, out, fill, left, levels, here);
-    match r {
-        Filled::Refused(refusal) => Filled::Refused(refusal),
-        Filled::Done(filled) => {
-            cells::free_scope(work, here.scope.number);
-            Filled::Done(filled)
-        }
-    }
+    let filled = run_block(m, 31, p, work, out, fill, left, levels, here)?;
+    cells::free_scope(work, here.scope.number);
+    Ok(filled)
 }
 
 // ---- Classes
@@ -470,27 +436,21 @@ fn gather_class(
     levels: u8,
     here: Context,
     table: &mut [u8],
-) -> Filled
+) -> Result<usize, Refusal>
     requires { (Able m.now work.old out.old fill × (StandsAs m.now depth Statement p × NamesKnown m.now p)) × ((byte m.now p ≡ 0x28) × FreshFor m.now table.old p) }
     ensures { Executes m.now work.old work.new out.old out.new fill left.old left.new (context_of here) result (λ k. run k (declaration k levels) (statement_at m.now depth p)) }
 {
     let first = p + 5;
     let end = wire::end_of(m, p);
     let given = Span { first, end };
-    let scope = here.scope;
-    let g = evaluate_attributes(m, depth - 1, given, work, out, fill, scope, table);
-    match g {
-        Gathered::Refused(refusal) => Filled::Refused(refusal),
-        Gathered::Done => {
-            let request = Request {
-                place: p,
-                name: wire::two_at(m, p + 3),
-                again: true,
-                given,
-            };
-            declare_class(m, request, table, work, out, fill, left, levels, here)
-        }
-    }
+    evaluate_attributes(m, depth - 1, given, work, out, fill, here.scope, table)?;
+    let request = Request {
+        place: p,
+        name: wire::two_at(m, p + 3),
+        again: true,
+        given,
+    };
+    declare_class(m, request, table, work, out, fill, left, levels, here)
 }
 
 // The 29 at p: "Include of a declared class does nothing past its step."
@@ -504,13 +464,13 @@ fn run_include(
     left: &mut u16,
     levels: u8,
     here: Context,
-) -> Filled
+) -> Result<usize, Refusal>
     requires { Able m.now work.old out.old fill × ((p + 5 ≤ 65535) × (two m.now (p + 3) < 1024)) }
     ensures { Executes m.now work.old work.new out.old out.new fill left.old left.new (context_of here) result (λ k. run k (declaration k levels) (include p (two m.now (p + 3)))) }
 {
     let name = wire::two_at(m, p + 3);
     if memory::is_declared(work, name) {
-        return Filled::Done(fill);
+        return Ok(fill);
     }
     let request = Request {
         place: p,
@@ -533,22 +493,15 @@ fn declare_class(
     left: &mut u16,
     levels: u8,
     here: Context,
-) -> Filled
+) -> Result<usize, Refusal>
     requires { Able m.now work.old out.old fill × (((request.place ≤ 65535) × (request.given.end ≤ 65535)) × (request.name < 1024)) }
     ensures { (gs : List Given) → Gives table.now gs → Alike m.now gs (fields_in m.now request.given.first request.given.end) → (request.again ≡ false → gs ≡ []) → Executes m.now work.old work.new out.old out.new fill left.old left.new (context_of here) result (λ k. declaration k levels (asked request.again request.place request.name gs)) }
 {
     if levels == 0 {
-        return Filled::Refused(Refusal::at(Reason::LevelLimit, request.place));
+        return Err(Refusal::at(Reason::LevelLimit, request.place));
     }
-    let c = declarations::check_class(m, request, table, work);
-    let d = match c {
-        Class::Refused(refusal) => return Filled::Refused(refusal),
-        Class::At(d) => d,
-    };
-    let r = declare_parent(m, d, work, out, fill, left, levels - 1, here);
-    let Filled::Done(filled) = r else {
-        return r;
-    };
+    let d = declarations::check_class(m, request, table, work)?;
+    let filled = declare_parent(m, d, work, out, fill, left, levels - 1, here)?;
     if memory::is_declared(work, request.name) {
         return declared_meanwhile(request.again, request.place, filled);
     }
@@ -556,14 +509,14 @@ fn declare_class(
 }
 
 // The second look: "an include or a parent's declaration does nothing more and 28 is refused".
-fn declared_meanwhile(again: bool, p: usize, fill: usize) -> Filled
+fn declared_meanwhile(again: bool, p: usize, fill: usize) -> Result<usize, Refusal>
     requires { p ≤ 65535 }
-    ensures { result ≡ pick again (Refused (refusal_at DeclaredAgain p)) (Done fill) }
+    ensures { result ≡ pick again (Err (refusal_at DeclaredAgain p)) (Ok fill) }
 {
     if again {
-        Filled::Refused(Refusal::at(Reason::DeclaredAgain, p))
+        Err(Refusal::at(Reason::DeclaredAgain, p))
     } else {
-        Filled::Done(fill)
+        Ok(fill)
     }
 }
 
@@ -578,21 +531,21 @@ fn declare_parent(
     left: &mut u16,
     levels: u8,
     here: Context,
-) -> Filled
+) -> Result<usize, Refusal>
     requires { Able m.now work.old out.old fill × ClassStands m.now d }
     ensures { Executes m.now work.old work.new out.old out.new fill left.old left.new (context_of here) result (λ k. parent_first k (declaration k levels) (parent_at m.now (d + 5))) }
 {
     let q = d + 5;
     if wire::byte_at(m, q) != 0x35 {
-        return Filled::Done(fill);
+        return Ok(fill);
     }
     let name = wire::two_at(m, q + 3);
     if memory::is_declared(work, name) {
-        return Filled::Done(fill);
+        return Ok(fill);
     }
     let remaining = *left;
     if remaining == 0 {
-        return Filled::Refused(Refusal::at(Reason::StepLimit, q));
+        return Err(Refusal::at(Reason::StepLimit, q));
     }
     *left = remaining - 1;
     let request = Request {
@@ -616,16 +569,10 @@ fn enter_class(
     left: &mut u16,
     levels: u8,
     here: Context,
-) -> Filled
+) -> Result<usize, Refusal>
     requires { Able m.now work.old out.old fill × ClassStands m.now d }
     ensures { Enters m.now table.now work.old work.new out.old out.new fill left.old left.new levels d (context_of here) result }
 {
-    let s = declarations::start_class(m, d, table, work, here);
-    match s {
-        StartedClass::Refused(refusal) => Filled::Refused(refusal),
-        StartedClass::Body {
-            block,
-            here: inside,
-        } => run_block(m, 31, block, work, out, fill, left, levels, inside),
-    }
+    let body = declarations::start_class(m, d, table, work, here)?;
+    run_block(m, 31, body.block, work, out, fill, left, levels, body.here)
 }

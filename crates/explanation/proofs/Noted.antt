@@ -1,7 +1,7 @@
 -- What a note says is what the definition answers, and where the note names a part there is a constant to be told. Assumes nothing.
-use Prim.Native.Nat.{ℕ, zero, suc, ◌+◌, ◌≤◌, ◌<◌}
+use Prim.Native.Nat.{ℕ, zero, suc, ◌≤◌, ◌<◌}
 use mathlib.Core.Path.{◌≡◌, refl, sym, ap, ◌∙◌, subst}
-use mathlib.Core.Bool.{Bool, true, false, ◌&&◌, true≢false}
+use mathlib.Core.Bool.{Bool, true, false, ◌&&◌}
 use mathlib.Core.List.{List, [], ◌∷◌}
 use mathlib.Core.Option.{Option, none, some}
 use native.Mathlib.Omega.{arith}
@@ -12,11 +12,9 @@ use Rattle.labels.specs.Sets.{has}
 use Rattle.values.specs.declared.Reason.TheVariants.{NoSuchAttribute}
 use Rattle.values.specs.declared.SetPart.{SetPart}
 use Rattle.values.specs.declared.SetPart.TheVariants.{Title, Path, Trail, Marks, Value}
-use Rattle.values.specs.declared.Explanation.{Explanation}
-use Rattle.values.specs.declared.Explanation.TheVariants.{Among, NotAmong, Refused}
 use Rattle.values.specs.Numbers.{part_number}
 use Rattle.wire.specs.Bytes.{pick}
-use Rattle.rules.specs.Outcome.{Outcome, refused, done, ◌>>=◌, or_refuse}
+use Rattle.rules.specs.Outcome.{Outcome, done, ◌>>=◌, or_refuse}
 use Rattle.rules.specs.Read.{manifest_of}
 use Rattle.rules.specs.State.{Attribute, SetParts, Entry, State}
 use Rattle.rules.specs.Evaluate.{first_with, is_entry, is_attribute}
@@ -30,16 +28,15 @@ use Rattle.rules.proofs.SetParts.{SameLabels, PartsMakeSet, final_parts}
 use Rattle.rules.proofs.LabelsMet.{label_met}
 use Rattle.rules.proofs.Outcome.{all_get}
 use Rattle.rules.specs.Check.{string_places}
-use Rattle.syntax.specs.declared.Found.{Found as Strings}
-use Rattle.syntax.specs.declared.Found.TheVariants.{At, Nothing}
 use Rattle.syntax.specs.Strings.{string_texts, found_of}
 use Rattle.definitions.proofs.Marking.{found_back, found_nothing, found_below}
 use Rattle.provenance.specs.Parts.{held_part}
 use Rattle.provenance.specs.Notes.{Question, nothing_asked, is_asked, held_in, note_of, note_for}
 use Rattle.explanation.specs.declared.Numbers.{Numbers}
-use Rattle.explanation.specs.declared.Numbers.TheVariants.{Known, Unknown}
 use Rattle.explanation.specs.Questions.{numbers_from, numbers_of, Small, question_for}
 use Rattle.explanation.specs.Explained.{part_noted, note_answer}
+use Rattle.std.specs.Prelude.{Option as CodeOption, Some, None}
+use Rattle.values.specs.Answers.{Explanation, among_none, among_part}
 
 -- ---- The entry asked about
 
@@ -50,17 +47,21 @@ next_same a b = go (eqb a b) refl
     go true e = eq-eqb (suc a) (suc b) (ap suc (eqb-true a b e))
     go false e = ne_eqb (suc a) (suc b) (λ h. eqb-false a b e (let g : suc a ≡ suc b = h in omega arith))
 
+-- the numbers of a type, a title and a name
+abbrev asking : (t n a : ℕ) → CodeOption Numbers
+asking t n a = Some (record { kind = t; title = n; name = a })
+
 -- the note of what is found
 note_found : Question → Option Entry → ℕ
 note_found q none = 0
 note_found q (some e) = note_of q e
 
-note_first : (t n a l : ℕ) (es : List Entry) → note_for (question_for (Known t n a) l) es ≡ note_found (question_for (Known t n a) l) (first_with (is_entry t n) es)
+note_first : (t n a l : ℕ) (es : List Entry) → note_for (question_for (asking t n a) l) es ≡ note_found (question_for (asking t n a) l) (first_with (is_entry t n) es)
 unfolding note_for is_asked first_with is_entry note_found question_for
 note_first t n a l [] = refl
 note_first t n a l (e ∷ es) = rw (next_same e.type t, note_for) (go (eqb e.type t && eqb e.title n) (first_with (is_entry t n) es) (note_first t n a l es))
   where
-    go : (b : Bool) (o : Option Entry) {r : ℕ} → r ≡ note_found (question_for (Known t n a) l) o → (elim b [ true ↦ note_of (question_for (Known t n a) l) e | false ↦ r ]) ≡ note_found (question_for (Known t n a) l) (elim b [ true ↦ some e | false ↦ o ])
+    go : (b : Bool) (o : Option Entry) {r : ℕ} → r ≡ note_found (question_for (asking t n a) l) o → (elim b [ true ↦ note_of (question_for (asking t n a) l) e | false ↦ r ]) ≡ note_found (question_for (asking t n a) l) (elim b [ true ↦ some e | false ↦ o ])
     go true o h = refl
     go false o h = h
 
@@ -80,7 +81,7 @@ part_back Trail = refl
 part_back Marks = refl
 part_back Value = refl
 
-part_answer : (p : SetPart) (place : ℕ) → note_answer (part_number p) place ≡ Among p place
+part_answer : (p : SetPart) (place : ℕ) → note_answer (part_number p) place ≡ among_part p place
 unfolding note_answer part_number part_noted
 part_answer Title place = refl
 part_answer Path place = refl
@@ -101,26 +102,26 @@ part_last (suc (suc (suc (suc (suc n))))) a b c d = refl
 -- ---- The numbers of the strings asked about
 
 -- the ways of `numbers_of`
-module _ (x y z : Option ℕ) {k : Strings} (first : k ≡ found_of x) where
-  pub no_type : k ≡ Nothing → Unknown ≡ numbers_from x y z
+module _ (x y z : Option ℕ) {k : CodeOption ℕ} (first : k ≡ found_of x) where
+  pub no_type : k ≡ None → None ≡ numbers_from x y z
   unfolding numbers_from
   no_type is = rw (found_nothing x (sym first ∙ is)) refl
 
-  module _ {t : Strings} {n : ℕ} (type : k ≡ At n) (second : t ≡ found_of y) where
-    pub no_title : t ≡ Nothing → Unknown ≡ numbers_from x y z
+  module _ {t : CodeOption ℕ} {n : ℕ} (type : k ≡ Some n) (second : t ≡ found_of y) where
+    pub no_title : t ≡ None → None ≡ numbers_from x y z
     unfolding numbers_from
     no_title is = rw (found_back x (sym first ∙ type), found_nothing y (sym second ∙ is)) refl
 
-    module _ {a : Strings} {i : ℕ} (title : t ≡ At i) (third : a ≡ found_of z) where
-      pub no_name : a ≡ Nothing → Unknown ≡ numbers_from x y z
+    module _ {a : CodeOption ℕ} {i : ℕ} (title : t ≡ Some i) (third : a ≡ found_of z) where
+      pub no_name : a ≡ None → None ≡ numbers_from x y z
       unfolding numbers_from
       no_name is = rw (found_back x (sym first ∙ type), found_back y (sym second ∙ title), found_nothing z (sym third ∙ is)) refl
 
-      pub all_known : {j : ℕ} → a ≡ At j → Known n i j ≡ numbers_from x y z
+      pub all_known : {j : ℕ} → a ≡ Some j → asking n i j ≡ numbers_from x y z
       unfolding numbers_from
       all_known is = rw (found_back x (sym first ∙ type), found_back y (sym second ∙ title), found_back z (sym third ∙ is)) refl
 
-pub numbers_small : (m type title attribute : List ℕ) {r : Numbers} → r ≡ numbers_of (string_texts m) type title attribute → length (string_places m) ≤ 1024 → Small r
+pub numbers_small : (m type title attribute : List ℕ) {r : CodeOption Numbers} → r ≡ numbers_of (string_texts m) type title attribute → length (string_places m) ≤ 1024 → Small r
 unfolding numbers_of numbers_from
 numbers_small m type title attribute {r} e few = subst Small (sym e) (go (string_number type (string_texts m) 0) refl (string_number title (string_texts m) 0) (string_number attribute (string_texts m) 0))
   where
@@ -137,7 +138,7 @@ module _ (parts : SetParts) (a : Attribute) (label place : ℕ) (union : has (se
   unfolding held_part answer_for note_answer
   held_answer = rw union (go (has a.content.labels label))
     where
-      go : (b : Bool) → note_answer (pick b (part_number (first_part parts label)) 6) place ≡ elim b [ true ↦ Among (first_part parts label) place | false ↦ NotAmong ]
+      go : (b : Bool) → note_answer (pick b (part_number (first_part parts label)) 6) place ≡ elim b [ true ↦ among_part (first_part parts label) place | false ↦ among_none ]
       go true = part_answer (first_part parts label) place
       go false = refl
 
@@ -158,10 +159,10 @@ module _ (label place : ℕ) where
 
   entry_answer : (t n a : ℕ) (o : Option Entry) → Perhaps PartsMakeSet o
       → explanation_of ((or_refuse o NoSuchAttribute 0 >>= λ e. or_refuse (first_with (is_attribute a) e.attributes) NoSuchAttribute 0 >>= λ at. done (record { attribute = at; parts = e.parts a })) >>= λ (f : Found). done (answer_for label place f))
-      ≡ note_answer (note_found (question_for (Known t n a) label) o) place
+      ≡ note_answer (note_found (question_for (asking t n a) label) o) place
   unfolding explanation_of or_refuse ◌>>=◌ note_found note_of question_for note_answer
   entry_answer t n a none not_there = refl
-  entry_answer t n a (some e) (there made) = attribute_answer (question_for (Known t n a) label) (e.parts a) (first_with (is_attribute a) e.attributes) refl (made.same a)
+  entry_answer t n a (some e) (there made) = attribute_answer (question_for (asking t n a) label) (e.parts a) (first_with (is_attribute a) e.attributes) refl (made.same a)
 
   numbers_answer : (entries : List Entry) → Each PartsMakeSet entries → (x y z : Option ℕ)
       → explanation_of ((or_refuse x NoSuchAttribute 0 >>= λ t. or_refuse y NoSuchAttribute 0 >>= λ n. or_refuse z NoSuchAttribute 0 >>= λ a. or_refuse (first_with (is_entry t n) entries) NoSuchAttribute 0 >>= λ e. or_refuse (first_with (is_attribute a) e.attributes) NoSuchAttribute 0 >>= λ at. done (record { attribute = at; parts = e.parts a })) >>= λ (f : Found). done (answer_for label place f))
@@ -187,7 +188,7 @@ module _ (types : Types) (m device type title attribute : List ℕ) (label memor
   -- THE SECOND LAW: where the note names a part, the compile comes to a constant with the label
   module _ (bytes : IsBytes m) (small : label < 256) where
     comes_by : (t n a : ℕ) {e : Entry} (o : Option Attribute) → first_with (is_entry t n) st.entries ≡ some e → first_with (is_attribute a) e.attributes ≡ o → Perhaps (λ (at : Attribute). SameLabels (set_of (e.parts a)) at.content.labels) o
-        → (held_in (question_for (Known t n a) label) (e.parts a) o ≡ 0 → ⊥) → (held_in (question_for (Known t n a) label) (e.parts a) o ≡ 6 → ⊥) → comes_to_one types m device (labelled_below label (length m)) ≡ true
+        → (held_in (question_for (asking t n a) label) (e.parts a) o ≡ 0 → ⊥) → (held_in (question_for (asking t n a) label) (e.parts a) o ≡ 6 → ⊥) → comes_to_one types m device (labelled_below label (length m)) ≡ true
     unfolding held_in held_part question_for
     comes_by t n a none f g not_there some-note some-part = absurd (some-note refl)
     comes_by t n a {e} (some at) f g (there union) some-note some-part = label_met types m device label bytes small memory ended t n a f g (sym (union label) ∙ go (has (set_of (e.parts a)) label) refl)
@@ -197,7 +198,7 @@ module _ (types : Types) (m device type title attribute : List ℕ) (label memor
         go false is = absurd (some-part (ap (λ (b : Bool). pick b (part_number (first_part (e.parts a) label)) 6) is))
 
     entry_comes : (t n a : ℕ) (o : Option Entry) → first_with (is_entry t n) st.entries ≡ o → Perhaps PartsMakeSet o
-        → (note_found (question_for (Known t n a) label) o ≡ 0 → ⊥) → (note_found (question_for (Known t n a) label) o ≡ 6 → ⊥) → comes_to_one types m device (labelled_below label (length m)) ≡ true
+        → (note_found (question_for (asking t n a) label) o ≡ 0 → ⊥) → (note_found (question_for (asking t n a) label) o ≡ 6 → ⊥) → comes_to_one types m device (labelled_below label (length m)) ≡ true
     unfolding note_found note_of question_for
     entry_comes t n a none f not_there some-note some-part = absurd (some-note refl)
     entry_comes t n a (some e) f (there parts) some-note some-part = comes_by t n a (first_with (is_attribute a) e.attributes) f refl (parts.same a) some-note some-part

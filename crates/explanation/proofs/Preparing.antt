@@ -1,11 +1,11 @@
 -- The memory before a run that is asked something, or in which constants are struck out: words are stored in it after all else is prepared. Assumes nothing.
-use Prim.Native.Nat.{ℕ, suc, ◌+◌, ◌*◌, ◌%◌, ◌≤◌, ◌<◌}
+use Prim.Native.Nat.{ℕ, suc, ◌+◌, ◌%◌, ◌≤◌, ◌<◌}
 use mathlib.Core.Path.{◌≡◌, refl, sym, ap, ◌∙◌, subst}
 use mathlib.Core.Bool.{Bool}
 use mathlib.Core.List.{List, []}
 use native.Mathlib.Omega.{arith}
 use lib.ListN.{length}
-use Rattle.wire.specs.Bytes.{byte, two}
+use Rattle.wire.specs.Bytes.{byte}
 use Rattle.rules.specs.Tree.{Constant}
 use Rattle.rules.specs.State.{Entry}
 use Rattle.rules.specs.Evaluate.{find_type, find_class}
@@ -25,7 +25,7 @@ use Rattle.provenance.specs.Notes.{nothing_asked, asked_of, note_for, Noted}
 use Rattle.definitions.specs.Prepared.{Prepares, Blank}
 use Rattle.compiler.proofs.Items.{blank_noted}
 use Rattle.explanation.specs.declared.Numbers.{Numbers}
-use Rattle.explanation.specs.declared.Numbers.TheVariants.{Known, Unknown}
+use Rattle.std.specs.Prelude.{Option, Some, None}
 use Rattle.explanation.specs.Questions.{question_for}
 
 -- ---- Words stored one after the other
@@ -100,11 +100,11 @@ module _ {types : Types} {m w w₁ w₂ : List ℕ} {label end : ℕ} (ready : P
 -- ---- The ways of `prepare_asking`
 
 module _ {types : Types} {m w : List ℕ} (ready : Prepares types m w none_struck_out × Blank w) where
-  pub nothing_asked_lem : {numbers : Numbers} (label : ℕ) → numbers ≡ Unknown → Prepares types m w none_struck_out × Noted w (question_for numbers label) []
+  pub nothing_asked_lem : {numbers : Option Numbers} (label : ℕ) → numbers ≡ None → Prepares types m w none_struck_out × Noted w (question_for numbers label) []
   unfolding question_for
   nothing_asked_lem label is = rw is (ready.0, blank_noted ready.1)
 
-  module _ {next title name label : ℕ} {w₁ w₂ w₃ w₄ : List ℕ} (size₁ : length w₁ ≡ length w) (one : WordSet w w₁ asked_type next) (size₂ : length w₂ ≡ length w₁) (two : WordSet w₁ w₂ asked_title title) (size₃ : length w₃ ≡ length w₂) (three : WordSet w₂ w₃ asked_name name) (size₄ : length w₄ ≡ length w₃) (four : WordSet w₃ w₄ asked_label label) where
+  module _ (q : Numbers) {next label : ℕ} {w₁ w₂ w₃ w₄ : List ℕ} (size₁ : length w₁ ≡ length w) (one : WordSet w w₁ asked_type next) (size₂ : length w₂ ≡ length w₁) (two : WordSet w₁ w₂ asked_title q.title) (size₃ : length w₃ ≡ length w₂) (three : WordSet w₂ w₃ asked_name q.name) (size₄ : length w₄ ≡ length w₃) (four : WordSet w₃ w₄ asked_label label) where
     asked_stored : WordsStored w w₄
     asked_stored = then_stored (one_stored (omega arith) size₁ one) (then_stored (one_stored (omega arith) size₂ two) (then_stored (one_stored (omega arith) size₃ three) (one_stored (omega arith) size₄ four)))
 
@@ -112,10 +112,10 @@ module _ {types : Types} {m w : List ℕ} (ready : Prepares types m w none_struc
     others_stay : (i : ℕ) → i < 15 → (i ≡ asked_type → ⊥) → (i ≡ asked_title → ⊥) → (i ≡ asked_name → ⊥) → (i ≡ asked_label → ⊥) → word_of w₄ i ≡ word_of w i
     others_stay i l a b c d = four.others i l d ∙ three.others i l c ∙ two.others i l b ∙ one.others i l a
 
-    pub question_asked : {numbers : Numbers} {kind : ℕ} → numbers ≡ Known kind title name → next ≡ kind + 1 → label < 256 → Prepares types m w₄ none_struck_out × Noted w₄ (question_for numbers label) []
+    pub question_asked : {numbers : Option Numbers} → numbers ≡ Some q → next ≡ q.kind + 1 → label < 256 → Prepares types m w₄ none_struck_out × Noted w₄ (question_for numbers label) []
     unfolding question_for asked_of note_for none_struck_out known_with
-    question_asked {kind = kind} is follows small =
-        let number : next ≡ suc kind = omega arith in
+    question_asked is follows small =
+        let number : next ≡ suc q.kind = omega arith in
         let byte : label % 256 ≡ label = omega arith in
         rw is (
           prepared_stored none_struck_out asked_stored (λ v. ready.0.known.struck v ∙ sym (struck_same w w₄ (λ i l. others_stay i (omega arith) (λ e. omega arith) (λ e. omega arith) (λ e. omega arith) (λ e. omega arith)) v)) ready.0,

@@ -1,6 +1,6 @@
 -- The ways of the functions that ask whether a compile comes to constants, and of the search by halves. Assumes nothing.
-use Prim.Native.Nat.{ℕ, suc, ◌+◌, ◌≤◌, ◌<◌}
-use mathlib.Core.Path.{◌≡◌, refl, sym, ap, ◌∙◌}
+use Prim.Native.Nat.{ℕ, suc, ◌+◌, ◌≤◌}
+use mathlib.Core.Path.{◌≡◌, refl, sym, ◌∙◌}
 use mathlib.Core.Bool.{Bool, true, false, true≢false}
 use mathlib.Core.List.{List}
 use native.Mathlib.Omega.{arith}
@@ -8,24 +8,23 @@ use borrow.Author.Tests.{ltb-true, ltb-false}
 use lib.Dec.{ltb}
 use lib.ListN.{length}
 use Rattle.values.specs.declared.Refusal.{Refusal}
-use Rattle.rules.specs.Outcome.{Outcome, refused, done}
+use Rattle.rules.specs.Outcome.{Outcome}
 use Rattle.rules.specs.Tree.{Constant}
 use Rattle.rules.specs.State.{State}
 use Rattle.rules.specs.Read.{manifest_of}
 use Rattle.rules.specs.Types.{Types}
-use Rattle.rules.specs.Compile.{none_struck_out, run_manifest}
+use Rattle.rules.specs.Compile.{run_manifest}
 use Rattle.rules.specs.Why.{without_limits, is_refused, comes_to_one, lowest_place}
 use Rattle.rules.proofs.Strikes.{labelled_below, comes_below, below_grows, lowest_found}
 use Rattle.provenance.specs.Notes.{Question}
-use Rattle.resources.specs.declared.Filled.{Filled}
-use Rattle.resources.specs.declared.Filled.TheVariants.{Done, Refused}
 use Rattle.compiler.specs.Running.{RunEnds, RunsManifest, refused_so, done_so}
 use Rattle.explanation.specs.Explained.{AskEnds}
 use Rattle.explanation.specs.Explained as explained
+use Rattle.std.specs.Prelude.{Result, is_err}
 
 -- ---- A run
 
-module _ {types : Types} {s : Constant → Bool} {ask : Question} {m device w out out' : List ℕ} {left left' : ℕ} {a : Filled} (runs : RunsManifest types s ask m device w out out' left left' a) (unlimited : left ≡ 65535) (room : length out ≡ 65535) where
+module _ {types : Types} {s : Constant → Bool} {ask : Question} {m device w out out' : List ℕ} {left left' : ℕ} {a : Result ℕ Refusal} (runs : RunsManifest types s ask m device w out out' left left' a) (unlimited : left ≡ 65535) (room : length out ≡ 65535) where
   abbrev outcome : Outcome State
   outcome = run_manifest s types (manifest_of m) device without_limits without_limits
 
@@ -36,22 +35,17 @@ module _ {types : Types} {s : Constant → Bool} {ask : Question} {m device w ou
   pub ask_ends : AskEnds w ask outcome a
   ask_ends = go ends_here
     where
-      go : {o : Outcome State} {b : Filled} → RunEnds w out' left' ask o b → AskEnds w ask o b
+      go : {o : Outcome State} {b : Result ℕ Refusal} → RunEnds w out' left' ask o b → AskEnds w ask o b
       go (refused_so e) = explained.refused_so e
       go (done_so st e steps written within note) = explained.noted_so st e note
 
-  pub comes : {why : Refusal} → a ≡ Refused why → true ≡ comes_to_one types m device s
+  -- the compile comes to a constant that is struck out where the run is refused
+  pub comes_so : is_err a ≡ comes_to_one types m device s
   unfolding comes_to_one is_refused
-  comes {why} is = go (rw is at ends_here)
+  comes_so = go ends_here
     where
-      go : {o : Outcome State} → RunEnds w out' left' ask o (Refused why) → true ≡ is_refused o
+      go : {o : Outcome State} {b : Result ℕ Refusal} → RunEnds w out' left' ask o b → is_err b ≡ is_refused o
       go (refused_so e) = rw e refl
-
-  pub comes_not : {f : ℕ} → a ≡ Done f → false ≡ comes_to_one types m device s
-  unfolding comes_to_one is_refused
-  comes_not {f} is = go (rw is at ends_here)
-    where
-      go : {o : Outcome State} → RunEnds w out' left' ask o (Done f) → false ≡ is_refused o
       go (done_so st e steps written within note) = rw e refl
 
 -- ---- The search

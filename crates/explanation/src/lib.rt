@@ -8,8 +8,6 @@ ghost use Rattle.rules.specs.Read.{manifest_of};
 ghost use Rattle.rules.specs.Types.{the_eight, lent, check_types};
 ghost use Rattle.rules.specs.Compile.{none_struck_out, run_manifest};
 ghost use Rattle.rules.specs.Why.{comes_to_one, lowest_place, without_limits, why};
-ghost use Rattle.rules.specs.declared.Verdict.TheVariants.{Sound};
-ghost use Rattle.values.specs.declared.Explanation.TheVariants.{Refused};
 ghost use Rattle.syntax.specs.Before.{before};
 ghost use Rattle.syntax.specs.Strings.{string_texts};
 ghost use Rattle.type_list.specs.Listed.{chosen};
@@ -18,73 +16,63 @@ ghost use Rattle.definitions.specs.Prepared.{Prepares};
 ghost use Rattle.explanation.specs.Questions.{numbers_of, Small, question_for};
 ghost use Rattle.rules.proofs.Strikes.{labelled_below};
 ghost use Rattle.explanation.specs.Explained.{Checked, AskEnds, part_noted, Answers, Explains};
+ghost use Rattle.values.specs.Answers.{refused_for};
+ghost use Rattle.rules.specs.Verdicts.{no_fault};
 
-use resources::Filled;
-use rules::Verdict;
-use syntax::Found;
 use syntax::strings::string_number;
-use values::{Explanation, Reason, Refusal, SetPart};
+use values::{Among, Explanation, Reason, Refusal, SetPart};
 
 // How many bytes a compile given no limits may write.
 const ROOM: usize = 65535;
 
-// The numbers of the strings that a question names, if the table has them all.
+// The numbers of the strings that a question names.
 #[derive(Clone, Copy)]
-pub enum Numbers {
-    Known { kind: u16, title: u16, name: u16 },
-    Unknown,
+pub struct Numbers {
+    pub kind: u16,
+    pub title: u16,
+    pub name: u16,
 }
 
 // ---- The question
 
-fn numbers_of(m: &[u8], kind: &[u8], title: &[u8], attribute: &[u8]) -> Numbers
+// These numbers, if the table has all three strings.
+fn numbers_of(m: &[u8], kind: &[u8], title: &[u8], attribute: &[u8]) -> Option<Numbers>
     ensures { result ≡ numbers_of (string_texts m.now) kind.now title.now attribute.now }
 {
-    let k = string_number(m, kind);
-    let Found::At(kind_number) = k else {
-        return Numbers::Unknown;
-    };
-    let t = string_number(m, title);
-    let Found::At(title_number) = t else {
-        return Numbers::Unknown;
-    };
-    let a = string_number(m, attribute);
-    let Found::At(name) = a else {
-        return Numbers::Unknown;
-    };
-    Numbers::Known {
+    let kind_number = string_number(m, kind)?;
+    let title_number = string_number(m, title)?;
+    let name = string_number(m, attribute)?;
+    Some(Numbers {
         kind: kind_number,
         title: title_number,
         name,
-    }
+    })
 }
 
 // The memory before a run that notes the part of the attribute asked about.
-fn prepare_asking(types: &[u8], m: &[u8], numbers: Numbers, label: u8, work: &mut [u8])
+fn prepare_asking(types: &[u8], m: &[u8], numbers: Option<Numbers>, label: u8, work: &mut [u8])
     requires { (Checked types.now m.now × (65536 ≤ length work.old)) × Small numbers }
     ensures { Prepares (chosen types.now) m.now work.new none_struck_out × Noted work.new (question_for numbers label) [] }
 {
     definitions::prepare(types, m, work);
-    match numbers {
-        Numbers::Unknown => {}
-        Numbers::Known { kind, title, name } => {
-            memory::set_word(work, memory::ASKED_TYPE, kind + 1);
-            memory::set_word(work, memory::ASKED_TITLE, title);
-            memory::set_word(work, memory::ASKED_NAME, name);
-            memory::set_word(work, memory::ASKED_LABEL, label as u16);
-        }
-    }
+    let Some(asked) = numbers else {
+        return;
+    };
+    memory::set_word(work, memory::ASKED_TYPE, asked.kind + 1);
+    memory::set_word(work, memory::ASKED_TITLE, asked.title);
+    memory::set_word(work, memory::ASKED_NAME, asked.name);
+    memory::set_word(work, memory::ASKED_LABEL, label as u16);
 }
 
 fn run_asking(
     types: &[u8],
     m: &[u8],
     device: &[u8],
-    numbers: Numbers,
+    numbers: Option<Numbers>,
     label: u8,
     out: &mut [u8],
     work: &mut [u8],
-) -> Filled
+) -> Result<usize, Refusal>
     requires { (Checked types.now m.now × ((65536 ≤ length work.old) × (length out.old ≡ 65535))) × Small numbers }
     ensures { AskEnds work.new (question_for numbers label) (run_manifest none_struck_out (chosen types.now) (manifest_of m.now) device.now without_limits without_limits) result }
 {
@@ -121,10 +109,7 @@ fn comes_below(
     prepare_struck(types, m, label, end, work);
     let mut left: u16 = 65535;
     let r = compiler::run_prepared(m, device, out, work, &mut left);
-    match r {
-        Filled::Refused(_) => true,
-        Filled::Done(_) => false,
-    }
+    r.is_err()
 }
 
 // By halves: the compile comes to none of these constants before `low`, and to one before `high`.
@@ -154,20 +139,12 @@ fn lowest_place(
 
 // ---- The answer
 
-fn refused(refusal: Refusal) -> Explanation
-    ensures { result ≡ Refused refusal.reason refusal.place }
-{
-    let reason = refusal.reason;
-    let place = refusal.place;
-    Explanation::Refused { reason, place }
-}
-
 // A refusal before the run: the memory is cleared.
 fn refuse(refusal: Refusal, work: &mut [u8]) -> Explanation
-    ensures { (result ≡ Refused refusal.reason refusal.place) × (work.new ≡ zeros (length work.old)) }
+    ensures { (result ≡ refused_for refusal.reason refusal.place) × (work.new ≡ zeros (length work.old)) }
 {
     memory::clear(work);
-    refused(refusal)
+    Err(refusal)
 }
 
 // The part with a number that was noted.
@@ -197,14 +174,14 @@ fn answer_noted(
 {
     let note = memory::word(work, memory::NOTE);
     if note == provenance::NO_ATTRIBUTE as u16 {
-        return refused(Refusal::at(Reason::NoSuchAttribute, 0));
+        return Err(Refusal::at(Reason::NoSuchAttribute, 0));
     }
     if note == provenance::NO_PART as u16 {
-        return Explanation::NotAmong;
+        return Ok(None);
     }
     let part = part_of(note);
     let place = lowest_place(types, m, device, label, out, work);
-    Explanation::Among { part, place }
+    Ok(Some(Among { part, place }))
 }
 
 // A sound manifest.
@@ -218,16 +195,13 @@ fn explain_sound(
     label: u8,
     work: &mut [u8],
 ) -> Explanation
-    requires { (65536 ≤ length work.old) × ((check_types (chosen types.now) ≡ Sound) × (before m.now ≡ Sound)) }
+    requires { (65536 ≤ length work.old) × ((check_types (chosen types.now) ≡ no_fault) × (before m.now ≡ no_fault)) }
     ensures { result ≡ (why (chosen types.now) m.now device.now kind.now title.now attribute.now label (length work.old)).answer }
 {
     let mut out = [0u8; ROOM];
     let numbers = numbers_of(m, kind, title, attribute);
-    let r = run_asking(types, m, device, numbers, label, &mut out, work);
-    match r {
-        Filled::Refused(refusal) => refused(refusal),
-        Filled::Done(_) => answer_noted(types, m, device, label, &mut out, work),
-    }
+    run_asking(types, m, device, numbers, label, &mut out, work)?;
+    answer_noted(types, m, device, label, &mut out, work)
 }
 
 // Memory that is long enough, and types without fault: an empty list means the eight.
@@ -241,13 +215,12 @@ fn explain_chosen(
     label: u8,
     work: &mut [u8],
 ) -> Explanation
-    requires { (65536 ≤ length work.old) × (check_types (chosen types.now) ≡ Sound) }
+    requires { (65536 ≤ length work.old) × (check_types (chosen types.now) ≡ no_fault) }
     ensures { Explains (chosen types.now) manifest.now device.now kind.now title.now attribute.now label work.old work.new result }
 {
-    let v = syntax::check_all(manifest);
-    match v {
-        Verdict::Fault { reason, place } => refuse(Refusal::at(reason, place), work),
-        Verdict::Sound => {
+    match syntax::check_all(manifest) {
+        Err(fault) => refuse(Refusal::at(fault.reason, fault.place), work),
+        Ok(()) => {
             let explanation = explain_sound(
                 types, manifest, device, kind, title, attribute, label, work,
             );
@@ -292,11 +265,8 @@ pub fn explain_with_types(
     if work.len() < 65536 {
         return refuse(Refusal::at(Reason::MemoryTooShort, 0), work);
     }
-    let v = type_list::check_types(types);
-    match v {
-        Verdict::Fault { reason, place } => refuse(Refusal::at(reason, place), work),
-        Verdict::Sound => {
-            explain_chosen(types, manifest, device, kind, title, attribute, label, work)
-        }
+    match type_list::check_types(types) {
+        Err(fault) => refuse(Refusal::at(fault.reason, fault.place), work),
+        Ok(()) => { explain_chosen(types, manifest, device, kind, title, attribute, label, work) }
     }
 }

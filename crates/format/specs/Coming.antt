@@ -1,5 +1,5 @@
 -- Which fields may come next, where the parts that are not done are a list. It is what the definition says of them (proofs/Undone.antt).
-use Rattle.std.specs.Prelude.{ℕ, Bool, true, ◌&&◌, List, [], ◌∷◌}
+use Rattle.std.specs.Prelude.{ℕ, Bool, true, ◌&&◌, List, [], ◌∷◌, Option as CodeOption, Some, None}
 use Rattle.std.proofs.Math.Option.{Option, none, some}
 use Rattle.rules.specs.Format.{take, part_may_end}
 use Rattle.rules.specs.declared.Part.{Part}
@@ -8,8 +8,6 @@ use Rattle.rules.specs.declared.Took.TheVariants.{Takes, Passes, Refuses}
 use Rattle.format.specs.Numbers.{push, parts_from}
 use Rattle.format.specs.declared.order.Taking.{Taking}
 use Rattle.format.specs.declared.order.Taking.TheVariants.{Parts as Taken, Passes as Passed, Refuses as Refused}
-use Rattle.format.specs.declared.order.Then.{Then}
-use Rattle.format.specs.declared.order.Then.TheVariants.{Parts as Go, Wrong}
 
 -- the first part takes the field, or leaves it to the other parts, or refuses it
 abbrev pub onward : Took → (others : List Part) → (without : Option (List Part)) → Option (List Part)
@@ -33,6 +31,6 @@ taken_from (Taken n) o = some (parts_from n)
 taken_from Passed o = o
 taken_from Refused o = none
 
-abbrev pub then_from : Then → Option (List Part)
-then_from (Go n) = some (parts_from n)
-then_from Wrong = none
+abbrev pub then_from : CodeOption ℕ → Option (List Part)
+then_from (Some n) = some (parts_from n)
+then_from None = none

@@ -15,13 +15,6 @@ pub enum Taking {
     Refuses,
 }
 
-// The parts that may come after a field, if it may stand here.
-#[derive(Clone, Copy)]
-pub enum Then {
-    Parts(u64),
-    Wrong,
-}
-
 const DEVICES: u64 = MANY + DEVICE;
 
 // How many fields the first part takes: `ONE`, `UP_TO`, `MANY` or `NAMES`.
@@ -73,20 +66,20 @@ fn takes(parts: u64, tag: u8, line: u64) -> Taking
 }
 
 // What may come after a field with this tag and line, where these parts may come.
-pub fn follows(parts: u64, tag: u8, line: u64) -> Then
+pub fn follows(parts: u64, tag: u8, line: u64) -> Option<u64>
     requires { line ≡ line_number tag }
     ensures { then_from result ≡ comes (parts_from parts) tag }
 {
     let mut left = parts;
     while left != 0 {
         match takes(left, tag, line) {
-            Taking::Parts(then) => return Then::Parts(then),
-            Taking::Refuses => return Then::Wrong,
+            Taking::Parts(then) => return Some(then),
+            Taking::Refuses => return None,
             Taking::Passes => {}
         }
         left = left / SECOND;
     }
-    Then::Wrong
+    None
 }
 
 // Whether a body may end where these parts may still come.

@@ -42,22 +42,6 @@ split (x ∷ xs) = go (eqb x 10) (split xs)
         let next : suc (length (before_feed xs)) + 1 ≡ suc (length (before_feed xs) + 1) = omega arith in
         record { within = omega arith; front = ap (λ (l : List ℕ). x ∷ l) s.front; back = ap (λ (k : ℕ). drop k (x ∷ xs)) next ∙ s.back; is = further (length (before_feed xs)) (length xs) (has_feed xs) s.is }
 
--- the search for it, in the words of the loop
-module _ (xs : List ℕ) (i : ℕ) {whole : ℕ} where
-  pub feed_here : i < length xs → get_or xs i 0 ≡ 10 → i + length (before_feed (drop i xs)) ≡ whole → i ≡ whole
-  unfolding before_feed
-  feed_here l e inv = let none_before : before_feed (drop i xs) ≡ [] = ap before_feed (drop-cons xs i 0 l) ∙ when_true _ _ _ (eq-eqb _ _ e) in omega (arith, ap length none_before)
-
-  pub feed_later : i < length xs → (get_or xs i 0 ≡ 10 → ⊥) → i + length (before_feed (drop i xs)) ≡ whole → i + 1 + length (before_feed (drop (i + 1) xs)) ≡ whole
-  unfolding before_feed
-  feed_later l n inv =
-      let one_before : before_feed (drop i xs) ≡ get_or xs i 0 ∷ before_feed (drop (suc i) xs) = ap before_feed (drop-cons xs i 0 l) ∙ when_false _ _ _ (ne_eqb _ _ n) in
-      rw (add-one i) (omega (arith, ap length one_before))
-
-  pub feed_nowhere : length xs ≤ i → i + length (before_feed (drop i xs)) ≡ whole → i ≡ whole
-  unfolding before_feed
-  feed_nowhere l inv = omega (arith, ap (λ (ys : List ℕ). length (before_feed ys)) (drop_of_length-le xs l))
-
 -- ---- The line feed in an input of two pieces
 
 pub record MetBefore (xs ys : List ℕ) : Type 0 where

@@ -9,8 +9,6 @@ use lib.Dec.{eqb, ltb, leb}
 use lib.ListN.{length, take, length-take}
 use lib.Seq.{take_all}
 use Rattle.values.specs.declared.Reason.TheVariants.{MemoryTooShort, ManifestLength}
-use Rattle.rules.specs.declared.Verdict.{Verdict}
-use Rattle.rules.specs.declared.Verdict.TheVariants.{Sound, Fault}
 use Rattle.rules.specs.Outcome.{Outcome, refused, done, ◌>>=◌, refuse_if}
 use Rattle.rules.specs.State.{State}
 use Rattle.rules.specs.Tree.{Devices, named, by_default, Item}
@@ -26,6 +24,8 @@ use Rattle.syntax.proofs.StringsRead.{Short, numbered_short, short_strings, stri
 use Rattle.syntax.proofs.Whole.{too_long, before_the_run}
 use Rattle.input.specs.Reading.{Reading, kept_line, kept_rest, reading_of}
 use Rattle.input.proofs.Feeding.{kept_line_lem, kept_rest_lem}
+use Rattle.std.specs.Prelude.{Ok, Err}
+use Rattle.rules.specs.Verdicts.{Verdict, no_fault}
 
 -- ---- The device name: no string of a sound manifest has more than 255 bytes
 
@@ -51,14 +51,14 @@ module _ (ss : List (List ℕ)) (short : Each Short ss) (device : List ℕ) wher
       λ i. chosen (λ ds. same_names ds i)
 
 module _ (m device : List ℕ) (limit output memory : ℕ) where
-  same_run : check m ≡ Sound → run_manifest none_struck_out the_eight (manifest_of m) (take 256 device) limit output ≡ run_manifest none_struck_out the_eight (manifest_of m) device limit output
+  same_run : check m ≡ no_fault → run_manifest none_struck_out the_eight (manifest_of m) (take 256 device) limit output ≡ run_manifest none_struck_out the_eight (manifest_of m) device limit output
   unfolding run_manifest
   same_run w = rw (same_items (manifest_of m).strings (rw (strings_read m w) (short_strings m w)) device (manifest_of m).items)
 
   checked_run : (v : Verdict) → check m ≡ v → (checked v >>= λ _. run_manifest none_struck_out the_eight (manifest_of m) (take 256 device) limit output) ≡ (checked v >>= λ _. run_manifest none_struck_out the_eight (manifest_of m) device limit output)
   unfolding checked ◌>>=◌
-  checked_run Sound w = same_run w
-  checked_run (Fault r p) w = refl
+  checked_run (Ok tt) w = same_run w
+  checked_run (Err f) w = refl
 
   -- 256 bytes of the device name are enough for any manifest
   pub same_compiled : compiled the_eight m (take 256 device) limit output memory ≡ compiled the_eight m device limit output memory

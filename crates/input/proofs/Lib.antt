@@ -1,2 +1,4 @@
 pub mod Feeding
 pub mod Kept
+pub mod Places
+pub mod Digits

@@ -4,7 +4,10 @@
 ghost use Rattle.std.specs.Prelude.{◌≡◌, List, [], ℕ, ◌+◌, min, length, drop};
 ghost use Rattle.wire.specs.Runs.{over};
 ghost use Rattle.rules.specs.Schedule.{before_feed};
+ghost use Rattle.input.specs.Places.{place_of};
 ghost use Rattle.input.specs.Reading.{reading, reading_of, is_full, Fed};
+
+pub mod numbers; // numbers.rt: decimal numbers in a text
 
 // How far the input is read: whether the line feed was met, and how many bytes of each part are kept.
 #[derive(Clone, Copy)]
@@ -25,18 +28,19 @@ pub fn start() -> Progress
     }
 }
 
+// Where a byte stands first; the length if it is not there.
+pub fn place_of(bytes: &[u8], wanted: u8) -> usize
+    ensures { result ≡ place_of wanted bytes.now }
+{
+    let place = bytes.iter().position(|byte| *byte == wanted);
+    place.unwrap_or(bytes.len())
+}
+
 // Where the line feed stands; the piece's length if there is none.
 pub fn feed_place(piece: &[u8]) -> usize
     ensures { result ≡ length (before_feed piece.now) }
 {
-    let mut i: usize = 0;
-    while i < piece.len() {
-        if piece[i] == 10 {
-            return i;
-        }
-        i += 1;
-    }
-    i
+    place_of(piece, b'\n')
 }
 
 // What follows the first `count` bytes.

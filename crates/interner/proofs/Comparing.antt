@@ -11,27 +11,27 @@ use Rattle.rules.specs.Check.{ascends}
 use Rattle.rules.proofs.Lists.{both_left, both_right}
 use Rattle.notation.specs.Lexing.{in_word}
 use Rattle.interner.specs.Strings.{rest_of, from_code, Stepped, alike, order_of}
-use Rattle.interner.specs.declared.Order.{Order}
-use Rattle.interner.specs.declared.Order.TheVariants.{Before, Same, After}
 use Rattle.interner.proofs.Reading.{letter_on}
+use Rattle.std.specs.declared.cmp.Ordering.TheVariants.{Less, Equal, Greater}
+use Rattle.std.specs.declared.cmp.Ordering.{Ordering}
 
 -- two strings by the codes of their first bytes and what follows
 module _ (x y : List ℕ) where
   -- the lower code comes first
-  pub lower_first : (a b : ℕ) → a < b → order_of (from_code a x) (from_code b y) ≡ Before
+  pub lower_first : (a b : ℕ) → a < b → order_of (from_code a x) (from_code b y) ≡ Less
   unfolding order_of ascends from_code
   lower_first a zero l = absurd (omega arith)
   lower_first zero (suc b) l = refl
   lower_first (suc a) (suc b) l = rw (lt-ltb a b (omega arith))
 
-  pub higher_last : (a b : ℕ) → b < a → order_of (from_code a x) (from_code b y) ≡ After
+  pub higher_last : (a b : ℕ) → b < a → order_of (from_code a x) (from_code b y) ≡ Greater
   unfolding order_of ascends from_code
   higher_last zero b l = absurd (omega arith)
   higher_last (suc a) zero l = refl
   higher_last (suc a) (suc b) l = rw (lt-ltb b a (omega arith), le-ltb a b (omega arith))
 
   -- both end
-  pub both_ended : order_of (from_code 0 x) (from_code 0 y) ≡ Same
+  pub both_ended : order_of (from_code 0 x) (from_code 0 y) ≡ Equal
   unfolding order_of ascends from_code
   both_ended = refl
 
@@ -42,17 +42,17 @@ module _ (x y : List ℕ) where
   same_first (suc a) l = rw (le-ltb a a (omega arith))
 
 -- two strings of the text, each with a step in it, whose order is that of the whole strings
-module _ {t : List ℕ} {f g p q a b p' q' : ℕ} {whole : Order} (one : Stepped t f p a p') (other : Stepped t g q b q') (inv : order_of (rest_of t f p) (rest_of t g q) ≡ whole) where
+module _ {t : List ℕ} {f g p q a b p' q' : ℕ} {whole : Ordering} (one : Stepped t f p a p') (other : Stepped t g q b q') (inv : order_of (rest_of t f p) (rest_of t g q) ≡ whole) where
   by_codes : order_of (from_code a (rest_of t f p')) (from_code b (rest_of t g q')) ≡ whole
   by_codes = rw (one.string, other.string) at inv
 
-  pub comes_first : a < b → Before ≡ whole
+  pub comes_first : a < b → Less ≡ whole
   comes_first l = sym (lower_first (rest_of t f p') (rest_of t g q') a b l) ∙ by_codes
 
-  pub comes_last : b < a → After ≡ whole
+  pub comes_last : b < a → Greater ≡ whole
   comes_last l = sym (higher_last (rest_of t f p') (rest_of t g q') a b l) ∙ by_codes
 
-  pub ends_same : b ≤ a → a ≡ 0 → Same ≡ whole
+  pub ends_same : b ≤ a → a ≡ 0 → Equal ≡ whole
   ends_same l e =
       let z : b ≡ 0 = omega arith in
       sym (both_ended (rest_of t f p') (rest_of t g q')) ∙ (rw (e, z) at by_codes)
@@ -111,7 +111,7 @@ module _ (t : List ℕ) (p q : ℕ) where
       bytes_same e = rw (lt-ltb p (length t) l, lt-ltb q (length t) k, eq-eqb (get_or t p 0) (get_or t q 0) e)
 
 -- a letter that both go on with decides nothing
-pub alike_on : (f g : ℕ) {t : List ℕ} {p q : ℕ} {whole : Order} → in_word f ≡ false → in_word g ≡ false → Alike t p q → order_of (rest_of t f p) (rest_of t g q) ≡ whole → order_of (rest_of t f (p + 1)) (rest_of t g (q + 1)) ≡ whole
+pub alike_on : (f g : ℕ) {t : List ℕ} {p q : ℕ} {whole : Ordering} → in_word f ≡ false → in_word g ≡ false → Alike t p q → order_of (rest_of t f p) (rest_of t g q) ≡ whole → order_of (rest_of t f (p + 1)) (rest_of t g (q + 1)) ≡ whole
 unfolding from_code
 alike_on f g {t} {p} {q} no-f no-g h inv =
     let one : rest_of t f p ≡ get_or t p 0 ∷ rest_of t f (p + 1) = letter_on t f p no-f h.one h.in_word_lem in

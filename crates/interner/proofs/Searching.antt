@@ -1,6 +1,6 @@
 -- One law for each way through a search among strings that rise.
-use Prim.Native.Nat.{ℕ, zero, suc, ◌+◌, ◌*◌, ◌-◌, ◌<◌, ◌≤◌}
-use mathlib.Core.Path.{◌≡◌, refl, sym, ap, ◌∙◌}
+use Prim.Native.Nat.{ℕ, zero, suc, ◌+◌, ◌*◌, ◌<◌, ◌≤◌}
+use mathlib.Core.Path.{◌≡◌, refl, sym, ◌∙◌}
 use mathlib.Core.Bool.{Bool, true, false}
 use mathlib.Core.List.{List}
 use native.Mathlib.Omega.{arith}
@@ -14,8 +14,8 @@ use Rattle.notation.specs.Quoted.{string_from}
 use Rattle.notation.proofs.WrittenNames.{Rising, next_string}
 use Rattle.interner.specs.Strings.{order_of}
 use Rattle.interner.specs.Table.{listed, entry_string, strings, Searched}
-use Rattle.interner.specs.declared.Order.TheVariants.{Before, Same, After}
 use Rattle.interner.proofs.Told.{told_before, told_after, told_same}
+use Rattle.std.specs.declared.cmp.Ordering.TheVariants.{Less, Equal, Greater}
 
 -- ---- Strings that rise
 
@@ -66,7 +66,7 @@ module _ (t table : List ℕ) {count : ℕ} (at : ℕ) {low high : ℕ} (place m
   entry_is = rw is
 
   -- it stands in the middle
-  pub found_here : Same ≡ order_of (string_from t place) (string_from t at) → Searched t table count at true middle
+  pub found_here : Equal ≡ order_of (string_from t place) (string_from t at) → Searched t table count at true middle
   found_here h = record {
     within = omega (arith, n.within);
     standing = λ e. record { within = omega (arith, n.within); same = sym entry_is ∙ told_same (string_from t place) (string_from t at) h };
@@ -74,7 +74,7 @@ module _ (t table : List ℕ) {count : ℕ} (at : ℕ) {low high : ℕ} (place m
   }
 
   -- it is behind the middle
-  pub narrow_up : Before ≡ order_of (string_from t place) (string_from t at) → Narrowed (string_from t at) (entry_string t table) count (middle + 1) high
+  pub narrow_up : Less ≡ order_of (string_from t place) (string_from t at) → Narrowed (string_from t at) (entry_string t table) count (middle + 1) high
   narrow_up h = record { ordered = omega arith; within = n.within; behind = λ j l. go j l (eqb j middle) refl; before = n.before }
     where
       here : ascends (entry_string t table middle) (string_from t at) ≡ true
@@ -87,7 +87,7 @@ module _ (t table : List ℕ) {count : ℕ} (at : ℕ) {low high : ℕ} (place m
           before_both (entry_string t table j) (entry_string t table middle) (string_from t at) (rises t table count up j middle (omega (arith, other)) (omega (arith, n.within))) here
 
   -- it is before the middle
-  pub narrow_down : After ≡ order_of (string_from t place) (string_from t at) → Narrowed (string_from t at) (entry_string t table) count low middle
+  pub narrow_down : Greater ≡ order_of (string_from t place) (string_from t at) → Narrowed (string_from t at) (entry_string t table) count low middle
   narrow_down h = record { ordered = above; within = omega (arith, n.within); behind = n.behind; before = λ j l k. go j l k (eqb j middle) refl }
     where
       here : ascends (string_from t at) (entry_string t table middle) ≡ true

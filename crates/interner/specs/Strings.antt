@@ -4,8 +4,8 @@ use Rattle.rules.specs.Bytes.{pick}
 use Rattle.rules.specs.Check.{ascends}
 use Rattle.notation.specs.Lexing.{in_word}
 use Rattle.notation.specs.Quoted.{unquoted, word_from}
-use Rattle.interner.specs.declared.Order.{Order}
-use Rattle.interner.specs.declared.Order.TheVariants.{Before, Same, After}
+use Rattle.std.specs.declared.cmp.Ordering.TheVariants.{Less, Equal, Greater}
+use Rattle.std.specs.declared.cmp.Ordering.{Ordering}
 
 -- what is left at p of a string in quotes; of a word, which has the quote 0
 unfoldable pub rest_of : List ℕ → (quote p : ℕ) → List ℕ
@@ -28,5 +28,5 @@ unfoldable pub alike : List ℕ → (p q : ℕ) → Bool
 alike t p q = ltb p (length t) && (ltb q (length t) && (eqb (get_or t p 0) (get_or t q 0) && in_word (get_or t p 0)))
 
 -- which of two strings comes first
-unfoldable pub order_of : List ℕ → List ℕ → Order
-order_of s t = pick (ascends s t) Before (pick (ascends t s) After Same)
+unfoldable pub order_of : List ℕ → List ℕ → Ordering
+order_of s t = pick (ascends s t) Less (pick (ascends t s) Greater Equal)

@@ -9,16 +9,9 @@ ghost use Rattle.interner.specs.Strings.{rest_of, Stepped, alike, order_of};
 ghost use Rattle.interner.specs.Table.{Searchable, Searched, Moved, Ready, Kept};
 
 use lexer::bytes::{in_word, is_quote};
+use std::cmp::Ordering;
 
 pub mod fields; // fields.rt: the table as a field of a manifest
-
-// Which of two strings comes first.
-#[derive(Clone, Copy)]
-pub enum Order {
-    Before,
-    Same,
-    After,
-}
 
 // Where a string goes on: its closing quote, or 0 for a word, and the place of its next byte.
 #[derive(Clone, Copy)]
@@ -133,7 +126,7 @@ fn go_on_alike(text: &[u8], p: usize, q: usize) -> bool
 }
 
 // What is left at `a` and at `b` of two strings, each with its closing quote, or 0 for a word.
-fn compare_rests(text: &[u8], one: u8, other: u8, a: usize, b: usize) -> Order
+fn compare_rests(text: &[u8], one: u8, other: u8, a: usize, b: usize) -> Ordering
     ensures { result ≡ order_of (rest_of text.now one a) (rest_of text.now other b) }
 {
     let mut p = a;
@@ -142,13 +135,13 @@ fn compare_rests(text: &[u8], one: u8, other: u8, a: usize, b: usize) -> Order
         let x = next(text, one, p);
         let y = next(text, other, q);
         if x.code < y.code {
-            return Order::Before;
+            return Ordering::Less;
         }
         if y.code < x.code {
-            return Order::After;
+            return Ordering::Greater;
         }
         if x.code == 0 {
-            return Order::Same;
+            return Ordering::Equal;
         }
         p = x.at;
         q = y.at;
@@ -156,7 +149,7 @@ fn compare_rests(text: &[u8], one: u8, other: u8, a: usize, b: usize) -> Order
 }
 
 // The same. Letters that both go on with are passed over first, by a shorter test than a step in each takes: no letter ends a string or has another meaning.
-fn compare_behind_letters(text: &[u8], one: u8, other: u8, a: usize, b: usize) -> Order
+fn compare_behind_letters(text: &[u8], one: u8, other: u8, a: usize, b: usize) -> Ordering
     requires { (in_word one ≡ false) × (in_word other ≡ false) }
     ensures { result ≡ order_of (rest_of text.now one a) (rest_of text.now other b) }
 {
@@ -170,7 +163,7 @@ fn compare_behind_letters(text: &[u8], one: u8, other: u8, a: usize, b: usize) -
 }
 
 // The strings that begin at `a` and at `b`.
-pub fn compare(text: &[u8], a: usize, b: usize) -> Order
+pub fn compare(text: &[u8], a: usize, b: usize) -> Ordering
     ensures { result ≡ order_of (string_from text.now a) (string_from text.now b) }
 {
     let first = start(text, a);
@@ -198,14 +191,14 @@ pub fn search(text: &[u8], table: &[u8], count: usize, at: usize) -> Found
         let middle = (low + high) / 2;
         let place = wire::two_in(table, 2 * middle) as usize;
         match compare(text, place, at) {
-            Order::Before => low = middle + 1,
-            Order::Same => {
+            Ordering::Less => low = middle + 1,
+            Ordering::Equal => {
                 return Found {
                     index: middle,
                     there: true,
                 };
             }
-            Order::After => high = middle,
+            Ordering::Greater => high = middle,
         }
     }
     Found {

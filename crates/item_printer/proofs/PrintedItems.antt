@@ -19,7 +19,7 @@ use Rattle.places.proofs.Tags.{IsItemTag, node_tag, type_definition_tag, class_d
 use Rattle.places.proofs.Items.{statement_item, parameter_opens, BlockEnds, TypeDefinitionAt, type_definition_opens, parent_given, parent_none, ClassDefinitionAt, class_definition_opens, default_devices, named_devices, NodeAt, node_opens}
 use Rattle.notation.specs.Tokens
 use Rattle.notation.specs.Tokens.{Lexeme}
-use Rattle.notation.specs.Print.{Rest, at, the, constant_lexeme, constants_of_default, line_for, separated, printed_entries, printed_statement, printed_block, printed_parameter, printed_parameters, printed_parent, printed_device, printed_devices, in_braces, constants_of_item, printed_item, printed_items}
+use Rattle.notation.specs.Print.{Rest, at, the, constant_lexeme, constants_of_default, line_for, separated, printed_entries, printed_statement, printed_parameter, printed_parameters, printed_parent, printed_device, printed_devices, in_braces, constants_of_item, printed_item, printed_items}
 use Rattle.token_writer.specs.declared.Pen.{Pen}
 use Rattle.statement_printer.specs.Passing.{Going, Passes}
 use Rattle.statement_printer.specs.Labels.{first_label}
@@ -56,12 +56,6 @@ block_found {m} {to = to} {k = k} found same s b = found k to s (subst (BlockEnd
 -- ---- Parts that have no places of their own
 
 module _ (S : ℕ → List ℕ) where
-  -- a block in braces
-  pub braces_pass : (x : Block) {a b c d : List ℕ} {pen q r pen' : Pen} → Passes a b pen q (λ rest. the pen.line 7 ∷ rest pen.line) → Passes b c q r (printed_block S x q.line) → Passes c d r pen' (λ rest. the r.line 8 ∷ rest r.line) → Passes a d pen pen' (in_braces S x pen.line)
-  braces_pass x begin inside close = record {
-    goes = λ o w k g. close.goes o w k (inside.goes o w (λ u. the u 8 ∷ k u) (begin.goes o w (λ u. printed_block S x u (λ y. the y 8 ∷ k y)) g));
-  }
-
   -- a device's name, behind a comma if one is wanted
   pub device_passes : {x : ℕ} (later : Bool) {n : ℕ} {a b c : List ℕ} {pen u pen' : Pen} → n ≡ x → Passes a b pen u (λ rest. separated later pen.line (rest pen.line)) → Passes b c u pen' (λ rest. at pen.line (Tokens.text (S n)) ∷ rest pen.line) → EntryPasses (printed_device S) x later a c pen pen'
   unfolding printed_entries

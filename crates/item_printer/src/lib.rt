@@ -5,18 +5,23 @@ ghost use Rattle.std.specs.Prelude.{◌≡◌, false, ℕ, ◌+◌, ◌≤◌, l
 ghost use Rattle.wire.specs.Bytes.{two, fields_in};
 ghost use Rattle.rules.specs.Compile.{string_at};
 ghost use Rattle.rules.specs.declared.Kind.{Kind};
-ghost use Rattle.rules.specs.declared.Kind.TheVariants.{Parameter, Device, Block, Item};
-ghost use Rattle.places.specs.At.{parameter_at, parameters_at, parent_at, after_parent_at, names_at, block_at, item_at, items_at, StandsAs, Siblings};
+ghost use Rattle.rules.specs.declared.Kind.TheVariants.{Parameter, Device, Item};
+ghost use Rattle.places.specs.At.{parameter_at, parameters_at, parent_at, after_parent_at, names_at, item_at, items_at, StandsAs, Siblings};
 ghost use Rattle.places.specs.Parts.{BlockEnds};
 ghost use Rattle.syntax.specs.Strings.{string_texts};
-ghost use Rattle.notation.specs.Print.{printed_entries, printed_parameter, printed_parameters, printed_parent, printed_device, in_braces, printed_item, printed_items};
+ghost use Rattle.notation.specs.Print.{printed_entries, printed_parameter, printed_parameters, printed_parent, printed_device, printed_item, printed_items};
 ghost use Rattle.statement_printer.specs.Passing.{Source, Passes};
 ghost use Rattle.statement_printer.specs.Forms.{EntryPasses};
 ghost use Rattle.item_printer.specs.Here.{ItemHere};
 
+use notation::kinds::{
+    CLASS_WORD, DEFAULT_WORD, DEFINE_WORD, EQUALS, INHERITS_WORD, LEFT_ROUND, NODE_WORD,
+    RIGHT_ROUND,
+};
+use printable::Manifest;
 use statement_printer::constants::{first_label, write_constant};
 use statement_printer::signs::separate;
-use statement_printer::statements::{block, statement};
+use statement_printer::statements::{in_braces, statement};
 use statement_printer::tokens::{write_mark, write_text, write_variable, write_word};
 use token_writer::Pen;
 use wire::{byte_at, end_of, two_at};
@@ -24,71 +29,45 @@ use wire::{byte_at, end_of, two_at};
 // ---- Parameters
 
 // The parameter at q, with a comma before it unless it is the first.
-fn parameter(
-    m: &[u8],
-    table: &[u8],
-    strings: u16,
-    q: usize,
-    later: bool,
-    out: &mut [u8],
-    pen: Pen,
-) -> Pen
-    requires { (Source m.now table.now strings) × (StandsAs m.now 31 Parameter q) }
-    ensures { EntryPasses (printed_parameter (string_at (string_texts m.now))) (parameter_at m.now q) later out.old out.new pen result }
+fn parameter(m: Manifest<'_>, q: usize, later: bool, out: &mut [u8], pen: Pen) -> Pen
+    requires { (Source m.bytes.now m.table.now m.strings) × (StandsAs m.bytes.now 31 Parameter q) }
+    ensures { EntryPasses (printed_parameter (string_at (string_texts m.entry.bytes.now))) (parameter_at m.entry.bytes.now q) later out.old out.new pen result }
 {
     let begun = separate(out, pen, later);
-    let end = end_of(m, q);
-    let line = first_label(m, q + 5, end, pen.line);
-    let name = write_variable(m, table, strings, out, begun, line, two_at(m, q + 3));
+    let end = end_of(m.bytes, q);
+    let line = first_label(m.bytes, q + 5, end, pen.line);
+    let name = write_variable(m, out, begun, line, two_at(m.bytes, q + 3));
     if end <= q + 5 {
         return name;
     }
-    let sign = write_mark(out, name, name.line, 23);
-    write_constant(m, table, strings, q + 5, out, sign)
+    let sign = write_mark(out, name, name.line, EQUALS);
+    write_constant(m, q + 5, out, sign)
 }
 
-fn parameters_in_order(
-    m: &[u8],
-    table: &[u8],
-    strings: u16,
-    first: usize,
-    end: usize,
-    out: &mut [u8],
-    pen: Pen,
-) -> Pen
-    requires { (Source m.now table.now strings) × (Siblings m.now 31 Parameter first end) × (end ≤ 65535) }
-    ensures { Passes out.old out.new pen result (printed_entries (printed_parameter (string_at (string_texts m.now))) (parameters_at m.now (fields_in m.now first end)) false pen.line) }
+fn parameters_in_order(m: Manifest<'_>, first: usize, end: usize, out: &mut [u8], pen: Pen) -> Pen
+    requires { (Source m.bytes.now m.table.now m.strings) × (Siblings m.bytes.now 31 Parameter first end) × (end ≤ 65535) }
+    ensures { Passes out.old out.new pen result (printed_entries (printed_parameter (string_at (string_texts m.entry.bytes.now))) (parameters_at m.entry.bytes.now (fields_in m.entry.bytes.now first end)) false pen.line) }
 {
-    let mut q = first;
     let mut at = pen;
     let mut later = false;
-    while q < end {
-        at = parameter(m, table, strings, q, later, out, at);
+    for q in wire::fields_in(m.bytes, first, end) {
+        at = parameter(m, q, later, out, at);
         later = true;
-        q = end_of(m, q);
     }
     at
 }
 
 // The parameters from `first` to `end`, in brackets if there are any.
-fn parameters(
-    m: &[u8],
-    table: &[u8],
-    strings: u16,
-    first: usize,
-    end: usize,
-    out: &mut [u8],
-    pen: Pen,
-) -> Pen
-    requires { (Source m.now table.now strings) × (Siblings m.now 31 Parameter first end) × (end ≤ 65535) }
-    ensures { Passes out.old out.new pen result (printed_parameters (string_at (string_texts m.now)) (parameters_at m.now (fields_in m.now first end)) pen.line) }
+fn parameters(m: Manifest<'_>, first: usize, end: usize, out: &mut [u8], pen: Pen) -> Pen
+    requires { (Source m.bytes.now m.table.now m.strings) × (Siblings m.bytes.now 31 Parameter first end) × (end ≤ 65535) }
+    ensures { Passes out.old out.new pen result (printed_parameters (string_at (string_texts m.entry.bytes.now)) (parameters_at m.entry.bytes.now (fields_in m.entry.bytes.now first end)) pen.line) }
 {
     if end <= first {
         return pen;
     }
-    let open = write_mark(out, pen, pen.line, 9);
-    let all = parameters_in_order(m, table, strings, first, end, out, open);
-    write_mark(out, all, all.line, 10)
+    let open = write_mark(out, pen, pen.line, LEFT_ROUND);
+    let all = parameters_in_order(m, first, end, out, open);
+    write_mark(out, all, all.line, RIGHT_ROUND)
 }
 
 // ---- Blocks
@@ -107,91 +86,55 @@ fn last_field(m: &[u8], from: usize, end: usize) -> usize
     q
 }
 
-// The block at p, in braces.
-fn in_braces(m: &[u8], table: &[u8], strings: u16, p: usize, out: &mut [u8], pen: Pen) -> Pen
-    requires { (Source m.now table.now strings) × (StandsAs m.now 31 Block p) }
-    ensures { Passes out.old out.new pen result (in_braces (string_at (string_texts m.now)) (block_at m.now 31 p) pen.line) }
-{
-    let open = write_mark(out, pen, pen.line, 7);
-    let inside = block(m, table, strings, 31, p, out, open);
-    write_mark(out, inside, inside.line, 8)
-}
-
 // ---- Nodes
 
 // The device's name at q, with a comma before it unless it is the first.
-fn device(
-    m: &[u8],
-    table: &[u8],
-    strings: u16,
-    q: usize,
-    later: bool,
-    out: &mut [u8],
-    pen: Pen,
-) -> Pen
-    requires { (Source m.now table.now strings) × (q ≤ 65535) }
-    ensures { EntryPasses (printed_device (string_at (string_texts m.now))) (two m.now (q + 3)) later out.old out.new pen result }
+fn device(m: Manifest<'_>, q: usize, later: bool, out: &mut [u8], pen: Pen) -> Pen
+    requires { (Source m.bytes.now m.table.now m.strings) × (q ≤ 65535) }
+    ensures { EntryPasses (printed_device (string_at (string_texts m.entry.bytes.now))) (two m.entry.bytes.now (q + 3)) later out.old out.new pen result }
 {
     let begun = separate(out, pen, later);
-    write_text(m, table, strings, out, begun, pen.line, two_at(m, q + 3))
+    write_text(m, out, begun, pen.line, two_at(m.bytes, q + 3))
 }
 
-fn devices(
-    m: &[u8],
-    table: &[u8],
-    strings: u16,
-    first: usize,
-    end: usize,
-    out: &mut [u8],
-    pen: Pen,
-) -> Pen
-    requires { (Source m.now table.now strings) × (Siblings m.now 31 Device first end) × (end ≤ 65535) }
-    ensures { Passes out.old out.new pen result (printed_entries (printed_device (string_at (string_texts m.now))) (names_at m.now (fields_in m.now first end)) false pen.line) }
+fn devices(m: Manifest<'_>, first: usize, end: usize, out: &mut [u8], pen: Pen) -> Pen
+    requires { (Source m.bytes.now m.table.now m.strings) × (Siblings m.bytes.now 31 Device first end) × (end ≤ 65535) }
+    ensures { Passes out.old out.new pen result (printed_entries (printed_device (string_at (string_texts m.entry.bytes.now))) (names_at m.entry.bytes.now (fields_in m.entry.bytes.now first end)) false pen.line) }
 {
-    let mut q = first;
     let mut at = pen;
     let mut later = false;
-    while q < end {
-        at = device(m, table, strings, q, later, out, at);
+    for q in wire::fields_in(m.bytes, first, end) {
+        at = device(m, q, later, out, at);
         later = true;
-        q = end_of(m, q);
     }
     at
 }
 
-fn node(m: &[u8], table: &[u8], strings: u16, p: usize, line: u8, out: &mut [u8], pen: Pen) -> Pen
-    requires { ItemHere m.now table.now strings p 0x30 }
-    ensures { Passes out.old out.new pen result (printed_item (string_at (string_texts m.now)) (item_at m.now p) line) }
+fn node(m: Manifest<'_>, p: usize, line: u8, out: &mut [u8], pen: Pen) -> Pen
+    requires { ItemHere m.bytes.now m.table.now m.strings p 0x30 }
+    ensures { Passes out.old out.new pen result (printed_item (string_at (string_texts m.entry.bytes.now)) (item_at m.entry.bytes.now p) line) }
 {
-    let word = write_mark(out, pen, line, 34);
-    if byte_at(m, p + 3) == 0x1b {
-        let every = write_mark(out, word, word.line, 28);
-        return in_braces(m, table, strings, end_of(m, p + 3), out, every);
+    let word = write_mark(out, pen, line, NODE_WORD);
+    if byte_at(m.bytes, p + 3) == 0x1b {
+        let every = write_mark(out, word, word.line, DEFAULT_WORD);
+        return in_braces(m, 31, end_of(m.bytes, p + 3), out, every);
     }
-    let body = last_field(m, p + 3, end_of(m, p));
-    let names = devices(m, table, strings, p + 3, body, out, word);
-    in_braces(m, table, strings, body, out, names)
+    let body = last_field(m.bytes, p + 3, end_of(m.bytes, p));
+    let names = devices(m, p + 3, body, out, word);
+    in_braces(m, 31, body, out, names)
 }
 
 // ---- Definitions
 
-fn type_definition(
-    m: &[u8],
-    table: &[u8],
-    strings: u16,
-    p: usize,
-    line: u8,
-    out: &mut [u8],
-    pen: Pen,
-) -> Pen
-    requires { ItemHere m.now table.now strings p 0x32 }
-    ensures { Passes out.old out.new pen result (printed_item (string_at (string_texts m.now)) (item_at m.now p) line) }
+fn type_definition(m: Manifest<'_>, p: usize, line: u8, out: &mut [u8], pen: Pen) -> Pen
+    requires { ItemHere m.bytes.now m.table.now m.strings p 0x32 }
+    ensures { Passes out.old out.new pen result (printed_item (string_at (string_texts m.entry.bytes.now)) (item_at m.entry.bytes.now p) line) }
 {
-    let word = write_mark(out, pen, line, 35);
-    let name = write_word(m, table, strings, out, word, word.line, two_at(m, p + 3));
-    let body = last_field(m, p + 5, end_of(m, p));
-    let given = parameters(m, table, strings, p + 5, body, out, name);
-    in_braces(m, table, strings, body, out, given)
+    let word = write_mark(out, pen, line, DEFINE_WORD);
+    let name = write_word(m, out, word, word.line, two_at(m.bytes, p + 3));
+    let body = last_field(m.bytes, p + 5, end_of(m.bytes, p));
+    let given = parameters(m, p + 5, body, out, name);
+    in_braces(m, 31, body, out, given)
 }
 
 // Where the parameters of a class begin, if what follows its name is at q.
@@ -206,65 +149,54 @@ fn after_parent(m: &[u8], q: usize) -> usize
 }
 
 // The parent of a class, if it has one.
-fn parent(m: &[u8], table: &[u8], strings: u16, q: usize, out: &mut [u8], pen: Pen) -> Pen
-    requires { (Source m.now table.now strings) × (q ≤ 65535) }
-    ensures { Passes out.old out.new pen result (printed_parent (string_at (string_texts m.now)) (parent_at m.now q) pen.line) }
+fn parent(m: Manifest<'_>, q: usize, out: &mut [u8], pen: Pen) -> Pen
+    requires { (Source m.bytes.now m.table.now m.strings) × (q ≤ 65535) }
+    ensures { Passes out.old out.new pen result (printed_parent (string_at (string_texts m.entry.bytes.now)) (parent_at m.entry.bytes.now q) pen.line) }
 {
-    if byte_at(m, q) != 0x35 {
+    if byte_at(m.bytes, q) != 0x35 {
         return pen;
     }
-    let word = write_mark(out, pen, pen.line, 36);
-    write_word(m, table, strings, out, word, word.line, two_at(m, q + 3))
+    let word = write_mark(out, pen, pen.line, INHERITS_WORD);
+    write_word(m, out, word, word.line, two_at(m.bytes, q + 3))
 }
 
-fn class_definition(
-    m: &[u8],
-    table: &[u8],
-    strings: u16,
-    p: usize,
-    line: u8,
-    out: &mut [u8],
-    pen: Pen,
-) -> Pen
-    requires { ItemHere m.now table.now strings p 0x34 }
-    ensures { Passes out.old out.new pen result (printed_item (string_at (string_texts m.now)) (item_at m.now p) line) }
+fn class_definition(m: Manifest<'_>, p: usize, line: u8, out: &mut [u8], pen: Pen) -> Pen
+    requires { ItemHere m.bytes.now m.table.now m.strings p 0x34 }
+    ensures { Passes out.old out.new pen result (printed_item (string_at (string_texts m.entry.bytes.now)) (item_at m.entry.bytes.now p) line) }
 {
-    let word = write_mark(out, pen, line, 32);
-    let name = write_word(m, table, strings, out, word, word.line, two_at(m, p + 3));
-    let first = after_parent(m, p + 5);
-    let body = last_field(m, first, end_of(m, p));
-    let given = parameters(m, table, strings, first, body, out, name);
-    let above = parent(m, table, strings, p + 5, out, given);
-    in_braces(m, table, strings, body, out, above)
+    let word = write_mark(out, pen, line, CLASS_WORD);
+    let name = write_word(m, out, word, word.line, two_at(m.bytes, p + 3));
+    let first = after_parent(m.bytes, p + 5);
+    let body = last_field(m.bytes, first, end_of(m.bytes, p));
+    let given = parameters(m, first, body, out, name);
+    let above = parent(m, p + 5, out, given);
+    in_braces(m, 31, body, out, above)
 }
 
 // ---- Items
 
 // The item at p, which begins on the line given.
-fn item(m: &[u8], table: &[u8], strings: u16, p: usize, line: u8, out: &mut [u8], pen: Pen) -> Pen
-    requires { (Source m.now table.now strings) × (StandsAs m.now 32 Item p) }
-    ensures { Passes out.old out.new pen result (printed_item (string_at (string_texts m.now)) (item_at m.now p) line) }
+fn item(m: Manifest<'_>, p: usize, line: u8, out: &mut [u8], pen: Pen) -> Pen
+    requires { (Source m.bytes.now m.table.now m.strings) × (StandsAs m.bytes.now 32 Item p) }
+    ensures { Passes out.old out.new pen result (printed_item (string_at (string_texts m.entry.bytes.now)) (item_at m.entry.bytes.now p) line) }
 {
-    match byte_at(m, p) {
-        0x30 => node(m, table, strings, p, line, out, pen),
-        0x32 => type_definition(m, table, strings, p, line, out, pen),
-        0x34 => class_definition(m, table, strings, p, line, out, pen),
-        _ => statement(m, table, strings, 32, p, line, out, pen),
+    match byte_at(m.bytes, p) {
+        0x30 => node(m, p, line, out, pen),
+        0x32 => type_definition(m, p, line, out, pen),
+        0x34 => class_definition(m, p, line, out, pen),
+        _ => statement(m, 32, p, line, out, pen),
     }
 }
 
 // The items from `first` on, each on the line of its first constant.
-pub fn items(m: &[u8], table: &[u8], strings: u16, first: usize, out: &mut [u8], pen: Pen) -> Pen
-    requires { (Source m.now table.now strings) × (Siblings m.now 32 Item first (length m.now)) }
-    ensures { Passes out.old out.new pen result (printed_items (string_at (string_texts m.now)) (items_at m.now (fields_in m.now first (length m.now))) pen.line) }
+pub fn items(m: Manifest<'_>, first: usize, out: &mut [u8], pen: Pen) -> Pen
+    requires { (Source m.bytes.now m.table.now m.strings) × (Siblings m.bytes.now 32 Item first (length m.bytes.now)) }
+    ensures { Passes out.old out.new pen result (printed_items (string_at (string_texts m.entry.bytes.now)) (items_at m.entry.bytes.now (fields_in m.entry.bytes.now first (length m.entry.bytes.now))) pen.line) }
 {
-    let mut p = first;
     let mut at = pen;
-    while p < m.len() {
-        let next = end_of(m, p);
-        let line = first_label(m, p, next, at.line);
-        at = item(m, table, strings, p, line, out, at);
-        p = next;
+    for p in wire::fields_in(m.bytes, first, m.bytes.len()) {
+        let line = first_label(m.bytes, p, end_of(m.bytes, p), at.line);
+        at = item(m, p, line, out, at);
     }
     at
 }

@@ -8,11 +8,11 @@ use lib.Count.{ones, count_trailing_zeros}
 use lib.Dec.{eqb}
 use lib.Pow.{shr_le}
 use Rattle.labels.specs.declared.Labels.{Labels}
-use Rattle.labels.specs.declared.NextLabel.TheVariants.{At, Nothing}
 use Rattle.labels.specs.Sets.{word_of, has, Words64}
 use Rattle.labels.specs.Search.{tally, count_below, count_of, first_of, next_from}
 use Rattle.labels.proofs.Digits.{digit, digit_shift, digit_high, sum_below, sum_same, ones_digits, trailing_low, trailing_set}
 use Rattle.labels.proofs.Laws.{has_digit, word_small}
+use Rattle.std.specs.Prelude.{Some, None}
 
 -- ---- the count
 
@@ -59,13 +59,13 @@ first_skip s (suc k) m n none =
     let here : has s n ≡ false = ap (has s) (sym (add-zero n)) ∙ none 0 (omega arith) in
     let later : (j : ℕ) → j < k → has s (suc n + j) ≡ false = λ j h. ap (has s) (suc-add n j ∙ sym (add-suc n j)) ∙ none (suc j) (omega arith) in
     ap (λ (i : ℕ). first_of s i n) (suc-add k m)
-    ∙ ap (λ (x : Bool). elim x [ true ↦ At n | false ↦ first_of s (k + m) (suc n) ]) here
+    ∙ ap (λ (x : Bool). elim x [ true ↦ Some n | false ↦ first_of s (k + m) (suc n) ]) here
     ∙ first_skip s k m (suc n) later
     ∙ ap (first_of s m) (suc-add n k ∙ sym (add-suc n k))
 
-first_here : (s : Labels) (k n : ℕ) → has s n ≡ true → first_of s (suc k) n ≡ At n
+first_here : (s : Labels) (k n : ℕ) → has s n ≡ true → first_of s (suc k) n ≡ Some n
 unfolding first_of
-first_here s k n here = ap (λ (x : Bool). elim x [ true ↦ At n | false ↦ first_of s k (suc n) ]) here
+first_here s k n here = ap (λ (x : Bool). elim x [ true ↦ Some n | false ↦ first_of s k (suc n) ]) here
 
 -- what is left of n's word v from n on
 abbrev rest_of : ℕ → ℕ → ℕ
@@ -106,7 +106,7 @@ module _ (s : Labels) (n v : ℕ) (e : v ≡ word_of s n) (h : n < 256) where
         let none : digit v (n % 64 + zeros) ≡ 0 = digit_high 64 v (n % 64 + zeros) v_small l in
         omega arith)
 
-    pub next_found : At (n + zeros) ≡ next_from s n
+    pub next_found : Some (n + zeros) ≡ next_from s n
     unfolding next_from
     next_found =
         let m : ℕ = 255 - (n + zeros) in
@@ -116,6 +116,6 @@ module _ (s : Labels) (n v : ℕ) (e : v ≡ word_of s n) (h : n < 256) where
         let here : has s (n + zeros) ≡ true = rest_digit zeros next_small ∙ ap (λ (x : ℕ). eqb x 1) zeros_set in
         sym (ap (λ (i : ℕ). first_of s i n) f ∙ first_skip s zeros (suc m) n none ∙ first_here s m (n + zeros) here)
 
-pub next_end : (s : Labels) (n : ℕ) → 256 ≤ n → Nothing ≡ next_from s n
+pub next_end : (s : Labels) (n : ℕ) → 256 ≤ n → None ≡ next_from s n
 unfolding next_from first_of
 next_end s n h = let e : 0 ≡ 256 - n = omega arith in ap (λ (k : ℕ). first_of s k n) e

@@ -16,13 +16,6 @@ pub struct Labels {
     pub w3: u64,
 }
 
-// What a search for the next label finds.
-#[derive(Clone, Copy)]
-pub enum NextLabel {
-    At(u8),
-    Nothing,
-}
-
 impl Labels {
     // `no_labels` of the definitions.
     pub const EMPTY: Labels = Labels {
@@ -111,18 +104,18 @@ impl Labels {
     }
 
     // The least label of the set at or above `from`: each turn looks at the rest of one word.
-    pub fn next(self, from: u16) -> NextLabel
+    pub fn next(self, from: u16) -> Option<u8>
         ensures { result ≡ next_from self from }
     {
         let mut at = from;
         while at < 256 {
             let rest = self.word(at as u8) >> (at % 64);
             if rest != 0 {
-                return NextLabel::At((at + u64::trailing_zeros(rest) as u16) as u8);
+                return Some((at + u64::trailing_zeros(rest) as u16) as u8);
             }
             at = at / 64 * 64 + 64;
         }
-        NextLabel::Nothing
+        None
     }
 
     // The set in the 32 bytes from `at` on. A byte past the end reads as 0.

@@ -1,57 +1,25 @@
--- One law for each way through `word_of`, `text_word` and `explanation_word`, and what a word tells. Assumes nothing.
+-- What a call leaves, told with a word, and what a word tells. Assumes nothing.
 use Prim.Native.Nat.{ℕ, ◌+◌, ◌*◌, ◌≤◌, ◌<◌}
 use mathlib.Core.Path.{◌≡◌, sym, ap, ◌∙◌}
 use mathlib.Core.List.{List}
 use native.Mathlib.Omega.{arith}
 use Rattle.values.specs.declared.Reason.{Reason}
-use Rattle.values.specs.declared.Answer.{Answer}
-use Rattle.values.specs.declared.Answer.TheVariants.{Catalog, Refused}
 use Rattle.values.specs.declared.SetPart.{SetPart}
 use Rattle.values.specs.declared.SetPart.TheVariants.{Title, Path, Trail, Marks, Value}
-use Rattle.values.specs.declared.Explanation.{Explanation}
-use Rattle.values.specs.declared.Explanation.TheVariants.{Among, NotAmong, Refused as RefusedQuestion}
 use Rattle.values.specs.Numbers.{number_of, part_number, accepted, refused, said}
 use Rattle.rules.specs.Why.{Told}
 use Rattle.values.proofs.Reasons.{number_range}
-use Rattle.notation.specs.declared.Answer.{Answer as TextAnswer}
-use Rattle.notation.specs.declared.Answer.TheVariants.{Written, Refused as RefusedText}
 use Rattle.notation.specs.Convert.{Effect, accepted as written, refusal, said as said_of_text}
 use Rattle.library.specs.Called.{word_of, text_word, Tells, explanation_word, Answers}
-
-pub word_accepted : {a : Answer} {n s : ℕ} → a ≡ Catalog n s → s * 65536 + n ≡ word_of (said a)
-unfolding word_of said
-word_accepted e = sym (ap (λ (a : Answer). word_of (said a)) e)
-
-pub word_refused : {a : Answer} {r : Reason} {p k : ℕ} → a ≡ Refused r p → k ≡ number_of r * 4294967296 + p → k ≡ word_of (said a)
-unfolding word_of said
-word_refused e h = h ∙ sym (ap (λ (a : Answer). word_of (said a)) e)
-
--- the same of the text tools
-pub word_written : {a : TextAnswer} {n : ℕ} → a ≡ Written n → n ≡ text_word (said_of_text a)
-unfolding text_word said_of_text
-word_written e = sym (ap (λ (a : TextAnswer). text_word (said_of_text a)) e)
-
-pub word_text_refused : {a : TextAnswer} {r : Reason} {p k : ℕ} → a ≡ RefusedText r p → k ≡ number_of r * 4294967296 + p → k ≡ text_word (said_of_text a)
-unfolding text_word said_of_text
-word_text_refused e h = h ∙ sym (ap (λ (a : TextAnswer). text_word (said_of_text a)) e)
+use Rattle.std.specs.Prelude.{Ok}
+use Rattle.values.specs.Answers.{Answer, Explanation, among_none, among_part, catalog_with, refused_for}
+use Rattle.notation.specs.Answers.{Answer as TextAnswer}
 
 -- what a call leaves, told with a word
 pub tells : {wanted : Effect} {answer : TextAnswer} {out work : List ℕ} {word : ℕ} → record { answer = answer; output_after = out; memory_after = work } ≡ wanted → word ≡ text_word (said_of_text answer) → Tells wanted out work word
 tells e told = record { told = told ∙ ap (λ (w : Effect). text_word (said_of_text w.answer)) e; output = ap (λ (w : Effect). w.output_after) e; memory = ap (λ (w : Effect). w.memory_after) e }
 
 -- the same of the why tool
-pub word_among : {x : Explanation} {part : SetPart} {k place : ℕ} → x ≡ Among part place → k ≡ part_number part → k * 65536 + place ≡ explanation_word x
-unfolding explanation_word
-word_among {place = place} e h = ap (λ (k : ℕ). k * 65536 + place) h ∙ sym (ap explanation_word e)
-
-pub word_not_among : {x : Explanation} → x ≡ NotAmong → 0 ≡ explanation_word x
-unfolding explanation_word
-word_not_among e = sym (ap explanation_word e)
-
-pub word_why_refused : {x : Explanation} {r : Reason} {p k : ℕ} → x ≡ RefusedQuestion r p → k ≡ number_of r * 4294967296 + p → k ≡ explanation_word x
-unfolding explanation_word
-word_why_refused e h = h ∙ sym (ap explanation_word e)
-
 pub answers : {wanted : Told} {answer : Explanation} {work : List ℕ} {word : ℕ} → record { answer = answer; memory_after = work } ≡ wanted → word ≡ explanation_word answer → Answers wanted work word
 answers e told = record { answer = told ∙ ap (λ (w : Told). explanation_word w.answer) e; memory = ap (λ (w : Told). w.memory_after) e }
 
@@ -74,7 +42,7 @@ pub text_refused_above : (r : Reason) (p : ℕ) → 4294967296 ≤ text_word (re
 unfolding text_word
 text_refused_above r p = omega (arith, number_range r)
 
-pub among_between : (part : SetPart) (place : ℕ) → place < 65536 → (65536 ≤ explanation_word (Among part place)) × (explanation_word (Among part place) < 4294967296)
+pub among_between : (part : SetPart) (place : ℕ) → place < 65536 → (65536 ≤ explanation_word (among_part part place)) × (explanation_word (among_part part place) < 4294967296)
 unfolding explanation_word part_number
 among_between Title place h = (omega arith, omega arith)
 among_between Path place h = (omega arith, omega arith)
@@ -82,6 +50,6 @@ among_between Trail place h = (omega arith, omega arith)
 among_between Marks place h = (omega arith, omega arith)
 among_between Value place h = (omega arith, omega arith)
 
-pub why_refused_above : (r : Reason) (p : ℕ) → 4294967296 ≤ explanation_word (RefusedQuestion r p)
+pub why_refused_above : (r : Reason) (p : ℕ) → 4294967296 ≤ explanation_word (refused_for r p)
 unfolding explanation_word
 why_refused_above r p = omega (arith, number_range r)

@@ -1,14 +1,12 @@
 -- What a call from C or Rust tells: an answer in one word.
-use Rattle.std.specs.Prelude.{ℕ, ◌+◌, ◌*◌, ◌≡◌, List}
-use Rattle.values.specs.declared.Answer.{Answer}
-use Rattle.values.specs.declared.Explanation.{Explanation}
-use Rattle.values.specs.declared.Explanation.TheVariants.{Among, NotAmong, Refused}
+use Rattle.std.specs.Prelude.{ℕ, ◌+◌, ◌*◌, ◌≡◌, List, Ok, Err, Some, None}
 use Rattle.values.specs.Numbers.{Said, accepted, refused, said, number_of, part_number}
 use Rattle.rules.specs.Why.{Told}
 use Rattle.rules.specs.Types.{Types}
 use Rattle.compiler.specs.Compiled.{Compiles}
 use Rattle.notation.specs.Convert.{Effect, accepted as written, refusal, said as said_of_text}
 use Rattle.notation.specs.Convert as texts
+use Rattle.values.specs.Answers.{Answer, Explanation}
 
 -- accepted: the steps in the bits from 16 on, the catalog's length in the lowest 16; refused: the number in the bits from 32 on, the place
 -- in the lowest 16. A word below 2^32 is of the first sort, since a refusal's number is at least 1.
@@ -40,9 +38,9 @@ pub record Tells (effect : Effect) (output_after memory_after : List ℕ) (word 
 -- the part's number in the bits from 16 on, the place in the lowest 16; 0 for a label that is not among them; refused: as above. A word below 2^32 is no
 -- refusal, and one below 2^16 is 0, since a part's number is at least 1.
 unfoldable pub explanation_word : Explanation → ℕ
-explanation_word (Among part place) = part_number part * 65536 + place
-explanation_word NotAmong = 0
-explanation_word (Refused reason place) = number_of reason * 4294967296 + place
+explanation_word (Ok (Some a)) = part_number a.part * 65536 + a.place
+explanation_word (Ok None) = 0
+explanation_word (Err f) = number_of f.reason * 4294967296 + f.place
 
 -- the word is that of the answer, and the memory lent is as it is after it
 pub record Answers (told : Told) (memory_after : List ℕ) (word : ℕ) : Type 0 where

@@ -9,24 +9,25 @@ ghost use Rattle.rules.specs.Types.{the_eight, lent};
 ghost use Rattle.rules.specs.Why.{why};
 ghost use Rattle.library.specs.Called.{word_of, Calls, text_word, Tells, explanation_word, Answers};
 
-use values::{Answer, Explanation, Reason};
+use values::{Answer, Explanation, Refusal};
 
 // A refusal in one word.
-fn refusal_word(reason: Reason, place: u16) -> u64
-    ensures { result ≡ number_of reason * 4294967296 + place }
+fn refusal_word(refusal: Refusal) -> u64
+    ensures { result ≡ number_of refusal.reason * 4294967296 + refusal.place }
 {
-    values::number_of(reason) as u64 * 4294967296 + place as u64
+    values::number_of(refusal.reason) as u64 * 4294967296 + refusal.place as u64
 }
 
 // ---- The compiler
 
 // An answer in one word.
+#[tactic(auto, unfolding(crate::specs::Called::word_of, values::specs::Numbers::said))]
 fn word_of(answer: Answer) -> u64
     ensures { result ≡ word_of (said answer) }
 {
     match answer {
-        Answer::Catalog { length, steps } => steps as u64 * 65536 + length as u64,
-        Answer::Refused { reason, place } => refusal_word(reason, place),
+        Ok(made) => made.steps as u64 * 65536 + made.length as u64,
+        Err(refusal) => refusal_word(refusal),
     }
 }
 
@@ -62,13 +63,11 @@ pub fn rigbanut_compile_with_types(
 
 // ---- The text tools: what they answer is the length written, or as above number * 2^32 + place; and so are output and memory
 
+#[tactic(auto, unfolding(crate::specs::Called::text_word, notation::specs::Convert::said))]
 fn text_word(answer: notation::Answer) -> u64
     ensures { result ≡ text_word (said_of_text answer) }
 {
-    match answer {
-        notation::Answer::Written { length } => length as u64,
-        notation::Answer::Refused { reason, place } => refusal_word(reason, place),
-    }
+    answer.map_or_else(refusal_word, u64::from)
 }
 
 // The manifest of a text.
@@ -115,15 +114,14 @@ pub fn rigbanut_print_with_types(
 // ---- The why tool
 
 // An explanation in one word.
+#[tactic(auto, unfolding(crate::specs::Called::explanation_word))]
 fn explanation_word(explanation: Explanation) -> u64
     ensures { result ≡ explanation_word explanation }
 {
     match explanation {
-        Explanation::Among { part, place } => {
-            values::part_number(part) as u64 * 65536 + place as u64
-        }
-        Explanation::NotAmong => 0,
-        Explanation::Refused { reason, place } => refusal_word(reason, place),
+        Ok(Some(among)) => values::part_number(among.part) as u64 * 65536 + among.place as u64,
+        Ok(None) => 0,
+        Err(refusal) => refusal_word(refusal),
     }
 }
 

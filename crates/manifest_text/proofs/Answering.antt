@@ -1,4 +1,9 @@
 -- The answer of a call is written as a whole, and what is kept of an input has the answers of the whole input. Assumes nothing.
+use Rattle.std.specs.Prelude.{None, Some, Result, OnOk}
+use Rattle.std.proofs.lemmas.Result.{on_ok_weaker}
+use Rattle.standard_streams.specs.declared.NotSent.{NotSent}
+use Rattle.manifest_text.specs.declared.Command.TheVariants.{Convert, Place, Print}
+use Rattle.manifest_text.specs.Commands.{BuiltIn, Asked}
 use Prim.Native.Nat.{ℕ, ◌≤◌, ◌<◌}
 use mathlib.Core.Path.{◌≡◌, refl, sym, ap, ◌∙◌}
 use mathlib.Core.Bool.{Bool, true, false, or-true}
@@ -19,8 +24,6 @@ use Rattle.values.specs.Decimal.{decimal}
 use Rattle.values.proofs.Digits.{decimal_short}
 use Rattle.rules.specs.Outcome.{Outcome, refused, done, ◌>>=◌, refuse_if}
 use Rattle.rules.specs.Schedule.{refusal_line, before_feed, after_feed}
-use Rattle.notation.specs.declared.Answer.{Answer}
-use Rattle.notation.specs.declared.Answer.TheVariants.{Written, Refused}
 use Rattle.notation.specs.Convert.{answer_of, output_of, effect_of, converted, convert}
 use Rattle.notation.specs.Printer.{printed_text, print}
 use Rattle.input.specs.declared.Progress.{Progress}
@@ -28,13 +31,12 @@ use Rattle.input.specs.Reading.{reading, reading_of, kept_line, kept_rest}
 use Rattle.input.proofs.Feeding.{kept_line_lem, kept_rest_lem}
 use Rattle.standard_streams.specs.Sending.{Left}
 use Rattle.text_places.specs.Places.{PlaceGiven}
-use Rattle.manifest_text.specs.declared.BuiltIn.{BuiltIn}
-use Rattle.manifest_text.specs.declared.BuiltIn.TheVariants.{Eight, Listed}
-use Rattle.manifest_text.specs.declared.Command.{Command}
-use Rattle.manifest_text.specs.declared.Command.TheVariants.{Convert, Print, Place, Unknown}
 use Rattle.manifest_text.specs.Commands.{command_in, types_in}
 use Rattle.manifest_text.specs.Answers.{types_given, bytes_given, numbered_text, written_text, answer_text, effect_text, Answers, AnAnswer}
 use Rattle.manifest_text.proofs.FirstLine.{list_size, list_low, same_types_in, same_command}
+use Rattle.std.specs.Prelude.{Ok}
+use Rattle.notation.specs.Answers.{Answer}
+use Rattle.values.specs.Answers.{refused_for}
 
 -- ---- The answer of a call is what is left to write
 
@@ -42,19 +44,23 @@ pub all_left : {whole text : List ℕ} {sent : ℕ} → whole ≡ text → sent 
 all_left e none = record { rest = rw none e; few = omega arith }
 
 -- what holds of an answer, and what follows from it
-pub then_so : {types : BuiltIn} {command : Command} {given : List ℕ} {Is Then : List ℕ → Type 0} → AnAnswer types command given Is → ((a : List ℕ) → Is a → Then a) → AnAnswer types command given Then
+pub then_so : {types : BuiltIn} {command : Asked} {given : List ℕ} {Is Then : List ℕ → Type 0} → AnAnswer types command given Is → ((a : List ℕ) → Is a → Then a) → AnAnswer types command given Then
 then_so x f = record { answer = x.answer; right = x.right; so = f x.answer x.so }
 
+-- after the last of its bytes
+pub then_all : {types : BuiltIn} {command : Asked} {given : List ℕ} {Is : List ℕ → Type 0} (r : Result Unit NotSent) (sent n : ℕ) → AnAnswer types command given Is → OnOk r (sent ≡ n) → ((a : List ℕ) → Is a → n ≡ length a) → OnOk r (AnAnswer types command given (λ a. sent ≡ length a))
+then_all r sent n x written all = on_ok_weaker r (λ e. then_so x (λ a is. e ∙ all a is)) written
+
 -- the same types, command and bytes have the same answers
-pub same_so : {types types' : BuiltIn} {command command' : Command} {given given' : List ℕ} {Is : List ℕ → Type 0} → types ≡ types' → command ≡ command' → given ≡ given' → AnAnswer types command given Is → AnAnswer types' command' given' Is
+pub same_so : {types types' : BuiltIn} {command command' : Asked} {given given' : List ℕ} {Is : List ℕ → Type 0} → types ≡ types' → command ≡ command' → given ≡ given' → AnAnswer types command given Is → AnAnswer types' command' given' Is
 same_so d e f x = record { answer = x.answer; right = rw (← d, ← e, ← f) x.right; so = x.so }
 
 module _ {whole : List ℕ} {sent : ℕ} {answer : Answer} (output : List ℕ) (l : Left whole sent (answer_text answer output)) where
-  pub result_left : {n : ℕ} {bytes : List ℕ} → answer ≡ Written n → bytes ≡ take n output → Left whole sent (written_text bytes)
+  pub result_left : {n : ℕ} {bytes : List ℕ} → answer ≡ Ok n → bytes ≡ take n output → Left whole sent (written_text bytes)
   unfolding answer_text
   result_left is e = rw e (rw is at l)
 
-  pub refusal_left : {r : Reason} {p : ℕ} → answer ≡ Refused r p → Left whole sent (refusal_line (number_of r) p)
+  pub refusal_left : {r : Reason} {p : ℕ} → answer ≡ refused_for r p → Left whole sent (refusal_line (number_of r) p)
   unfolding answer_text
   refusal_left is = rw is at l
 
@@ -76,11 +82,11 @@ module _ (word : List ℕ) (number : ℕ) (bytes : List ℕ) where
 -- ---- What a call is given
 
 module _ {B : Type 0} (f : Types → List ℕ → B) {types : BuiltIn} (given : List ℕ) where
-  pub with_eight : types ≡ Eight → f the_eight given ≡ f (types_given types given) (bytes_given types given)
+  pub with_eight : types ≡ None → f the_eight given ≡ f (types_given types given) (bytes_given types given)
   unfolding types_given bytes_given
   with_eight e = rw e refl
 
-  pub with_list : {size : ℕ} {list bytes : List ℕ} → types ≡ Listed size → list ≡ take size given → bytes ≡ drop size given → f (lent list) bytes ≡ f (types_given types given) (bytes_given types given)
+  pub with_list : {size : ℕ} {list bytes : List ℕ} → types ≡ Some size → list ≡ take size given → bytes ≡ drop size given → f (lent list) bytes ≡ f (types_given types given) (bytes_given types given)
   unfolding types_given bytes_given
   with_list e l b = rw (e, l, b) refl
 
@@ -110,14 +116,14 @@ module _ (types : BuiltIn) (given : List ℕ) (low : list_size types ≤ 100000)
   same_types = go types low
     where
       go : (b : BuiltIn) → list_size b ≤ 100000 → types_given b (take 196608 given) ≡ types_given b given
-      go Eight few = refl
-      go (Listed n) few = ap lent (take-take n 196608 given (omega arith))
+      go None few = refl
+      go (Some n) few = ap lent (take-take n 196608 given (omega arith))
 
   -- and so much of what follows it that it is too long where it is cut
   cut_long : (b : BuiltIn) (g : List ℕ) → list_size b ≤ 100000 → 196608 ≤ length g → 65535 < length (bytes_given b g)
   unfolding bytes_given list_size
-  cut_long Eight g few long = omega arith
-  cut_long (Listed n) g few long = omega (arith, length-drop n g)
+  cut_long None g few long = omega arith
+  cut_long (Some n) g few long = omega (arith, length-drop n g)
 
   same_call : {B : Type 0} (f : Types → List ℕ → B) (v : Types → B) → ((t : Types) (l : List ℕ) → 65535 < length l → f t l ≡ v t) → f (types_given types (take 196608 given)) (bytes_given types (take 196608 given)) ≡ f (types_given types given) (bytes_given types given)
   same_call f v long = go (leb (length given) 196608) refl
@@ -139,12 +145,12 @@ module _ (types : BuiltIn) (given : List ℕ) (low : list_size types ≤ 100000)
           let long : 65535 < length (bytes_given types given) = cut_long types given low (omega arith) in
           record { low = h.low; right = λ sound. record { low = h.low; right = λ short. absurd (omega arith) } }
 
-  same_answer : (command : Command) (answer : List ℕ) → Answers types command (take 196608 given) answer → Answers types command given answer
+  same_answer : (command : Asked) (answer : List ℕ) → Answers types command (take 196608 given) answer → Answers types command given answer
   unfolding Answers convert print
-  same_answer Convert answer h = h ∙ ap (λ (o : Outcome (List ℕ)). effect_text (effect_of 65535 65536 o)) (same_call (λ t l. converted t l 65535 65536) (λ t. length_refused t OutsideNotation) long_text)
-  same_answer Print answer h = h ∙ ap (λ (o : Outcome (List ℕ)). effect_text (effect_of 65535 65536 o)) (same_call (λ t l. printed_text t l 65535 65536) (λ t. length_refused t ManifestLength) long_manifest)
-  same_answer (Place field) answer h = record { place = h.place; told = same_told field h.told; line = h.line }
-  same_answer Unknown answer h = h
+  same_answer (Some Convert) answer h = h ∙ ap (λ (o : Outcome (List ℕ)). effect_text (effect_of 65535 65536 o)) (same_call (λ t l. converted t l 65535 65536) (λ t. length_refused t OutsideNotation) long_text)
+  same_answer (Some Print) answer h = h ∙ ap (λ (o : Outcome (List ℕ)). effect_text (effect_of 65535 65536 o)) (same_call (λ t l. printed_text t l 65535 65536) (λ t. length_refused t ManifestLength) long_manifest)
+  same_answer (Some (Place field)) answer h = record { place = h.place; told = same_told field h.told; line = h.line }
+  same_answer None answer h = h
 
 -- what buffers of 256 and 196,608 bytes keep of an input has the answers of the input
 pub read_answer : (d m input : List ℕ) (p : Progress) (line given : List ℕ) {Is : List ℕ → Type 0} → length d ≡ 256 → length m ≡ 196608 → reading p line given ≡ reading_of d m input → AnAnswer (types_in (take p.line line)) (command_in (take p.line line)) (take p.rest given) Is → AnAnswer (types_in (before_feed input)) (command_in (before_feed input)) (after_feed input) Is

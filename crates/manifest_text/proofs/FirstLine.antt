@@ -1,4 +1,7 @@
 -- The first line: its digits one after the other, and 256 bytes of it are enough. Assumes nothing.
+use Rattle.std.specs.Prelude.{None, Some}
+use Rattle.manifest_text.specs.declared.Command.TheVariants.{Place}
+use Rattle.manifest_text.specs.Commands.{BuiltIn, Asked}
 use Prim.Native.Nat.{ℕ, ◌+◌, ◌≤◌, ◌<◌}
 use mathlib.Core.Path.{◌≡◌, refl, sym, ap, ◌∙◌}
 use mathlib.Core.Bool.{Bool, true, false}
@@ -12,9 +15,6 @@ use lib.Seq.{take_all, take-take, drop-cons}
 use Rattle.rules.specs.Bytes.{pick, byte}
 use Rattle.rules.specs.Compile.{same_bytes}
 use Rattle.syntax.proofs.Texts.{other_length}
-use Rattle.manifest_text.specs.declared.BuiltIn.{BuiltIn}
-use Rattle.manifest_text.specs.declared.BuiltIn.TheVariants.{Eight, Listed}
-use Rattle.manifest_text.specs.declared.Command.TheVariants.{Place, Unknown}
 use Rattle.manifest_text.specs.Commands.{with_digit, spelled, offset_of, place_asked, command_of, names_types, command_behind, command_in, types_in}
 
 -- ---- Digits
@@ -41,28 +41,28 @@ module _ (line : List ℕ) where
   unfolding offset_of
   whole_offset some few e = rw (le-ltb (length line) 7 some, le-ltb 11 (length line) few) e
 
-  pub none_asked : {n : ℕ} → n ≡ offset_of line → 99999 < n → Unknown ≡ place_asked line
+  pub none_asked : {n : ℕ} → n ≡ offset_of line → 99999 < n → None ≡ place_asked line
   unfolding place_asked
   none_asked {n} e h = rw (← e, lt-ltb 99999 n h) refl
 
-  pub one_asked : {n : ℕ} → n ≡ offset_of line → n ≤ 99999 → Place n ≡ place_asked line
+  pub one_asked : {n : ℕ} → n ≡ offset_of line → n ≤ 99999 → Some (Place n) ≡ place_asked line
   unfolding place_asked
   one_asked {n} e h = rw (← e, le-ltb 99999 n h) refl
 
 -- ---- The third word
 
-pub third_word : (line : List ℕ) {w : List ℕ} {b : Bool} → same_bytes (99 ∷ 111 ∷ 110 ∷ 118 ∷ 101 ∷ 114 ∷ 116 ∷ []) line ≡ false → same_bytes (112 ∷ 114 ∷ 105 ∷ 110 ∷ 116 ∷ []) line ≡ false → w ≡ take 6 line → same_bytes (112 ∷ 108 ∷ 97 ∷ 99 ∷ 101 ∷ 32 ∷ []) w ≡ b → pick b (place_asked line) Unknown ≡ command_of line
+pub third_word : (line : List ℕ) {w : List ℕ} {b : Bool} → same_bytes (99 ∷ 111 ∷ 110 ∷ 118 ∷ 101 ∷ 114 ∷ 116 ∷ []) line ≡ false → same_bytes (112 ∷ 114 ∷ 105 ∷ 110 ∷ 116 ∷ []) line ≡ false → w ≡ take 6 line → same_bytes (112 ∷ 108 ∷ 97 ∷ 99 ∷ 101 ∷ 32 ∷ []) w ≡ b → pick b (place_asked line) None ≡ command_of line
 unfolding command_of
 third_word line first second six third = rw (first, second, ← six, third) refl
 
 -- ---- Behind a list of types
 
 module _ (line : List ℕ) where
-  pub nothing_behind : {n : ℕ} → n ≡ offset_of (take 11 line) → 99999 < n → Unknown ≡ command_behind line
+  pub nothing_behind : {n : ℕ} → n ≡ offset_of (take 11 line) → 99999 < n → None ≡ command_behind line
   unfolding command_behind
   nothing_behind {n} e h = rw (← e, lt-ltb 99999 n h) refl
 
-  pub then_behind : {n : ℕ} {space : Bool} → n ≡ offset_of (take 11 line) → n ≤ 99999 → same_bytes (32 ∷ []) (take 1 (drop 11 line)) ≡ space → pick space (command_of (drop 12 line)) Unknown ≡ command_behind line
+  pub then_behind : {n : ℕ} {space : Bool} → n ≡ offset_of (take 11 line) → n ≤ 99999 → same_bytes (32 ∷ []) (take 1 (drop 11 line)) ≡ space → pick space (command_of (drop 12 line)) None ≡ command_behind line
   unfolding command_behind
   then_behind {n} e h is = rw (← e, le-ltb 99999 n h, is) refl
 
@@ -70,7 +70,7 @@ module _ (line : List ℕ) where
   unfolding command_in
   command_is e = rw e refl
 
-  pub types_are : {types : Bool} → names_types line ≡ types → pick types (Listed (offset_of (take 11 line))) Eight ≡ types_in line
+  pub types_are : {types : Bool} → names_types line ≡ types → pick types (Some (offset_of (take 11 line))) None ≡ types_in line
   unfolding types_in
   types_are e = rw e refl
 
@@ -86,18 +86,18 @@ same_beyond n f long l = go (leb (length l) n) refl
         let over : n < length l = leb-false _ _ e in
         long (take (1 + n) l) (omega (arith, length-take (1 + n) l)) ∙ sym (long l over)
 
-either_way : (b : Bool) → pick b Unknown Unknown ≡ Unknown
+either_way : (b : Bool) → ◌≡◌ {A = Asked} (pick b None None) None
 either_way true = refl
 either_way false = refl
 
 -- no command is longer than eleven bytes
-long_line : (line : List ℕ) → 11 < length line → command_of line ≡ Unknown
+long_line : (line : List ℕ) → 11 < length line → command_of line ≡ None
 unfolding command_of place_asked
 long_line line long =
     rw (← other_length (99 ∷ 111 ∷ 110 ∷ 118 ∷ 101 ∷ 114 ∷ 116 ∷ []) line (λ q. omega arith), ← other_length (112 ∷ 114 ∷ 105 ∷ 110 ∷ 116 ∷ []) line (λ q. omega arith), ← long_offset line (omega arith) (omega arith)) (either_way (same_bytes (112 ∷ 108 ∷ 97 ∷ 99 ∷ 101 ∷ 32 ∷ []) (take 6 line)))
 
 -- nor one with a list longer than twenty-three
-long_command : (line : List ℕ) → 255 < length line → command_in line ≡ Unknown
+long_command : (line : List ℕ) → 255 < length line → command_in line ≡ None
 unfolding command_in command_behind
 long_command line long =
     rw (long_line line (omega arith), long_line (drop 12 line) (omega (arith, length-drop 12 line)), either_way (same_bytes (32 ∷ []) (take 1 (drop 11 line))), either_way (ltb 99999 (offset_of (take 11 line)))) (either_way (names_types line))
@@ -112,8 +112,8 @@ same_types_in line = rw (take-take 6 256 line (lit≤ tt), take-take 11 256 line
 -- ---- The list's length
 
 unfoldable pub list_size : BuiltIn → ℕ
-list_size Eight = 0
-list_size (Listed size) = size
+list_size None = 0
+list_size (Some size) = size
 
 digit_low : (n c : ℕ) → with_digit n c ≤ 100000
 unfolding with_digit

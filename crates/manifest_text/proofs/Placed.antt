@@ -1,4 +1,7 @@
 -- THE LAW of places: of a text that is converted, a field's place is told, and no other. Assumes nothing.
+use Rattle.std.specs.Prelude.{Some}
+use Rattle.manifest_text.specs.declared.Command.TheVariants.{Place}
+use Rattle.manifest_text.specs.Commands.{BuiltIn}
 use Prim.Native.Nat.{ℕ, ◌≤◌}
 use mathlib.Core.Path.{◌≡◌, ap, ◌∙◌}
 use mathlib.Core.List.{List, []}
@@ -14,8 +17,6 @@ use Rattle.notation.proofs.ConvertedSound.{converted_steps}
 use Rattle.notation.proofs.ConvertedExactly.{converted_meant}
 use Rattle.text_places.specs.Marks.{Begins}
 use Rattle.text_places.specs.Places.{short_manifest}
-use Rattle.manifest_text.specs.declared.BuiltIn.{BuiltIn}
-use Rattle.manifest_text.specs.declared.Command.TheVariants.{Place}
 use Rattle.manifest_text.specs.Answers.{types_given, bytes_given, place_line, Answers}
 
 -- the manifest m is that of some items of the text, and for each of its fields that begins at the offset the answer has the place that it came with
@@ -25,7 +26,7 @@ pub record Placed (types : Types) (given m : List ℕ) (offset : ℕ) (answer : 
   pub same : manifest_bytes (tokens given) items ≡ m
   pub told : (place : ℕ) → Begins (manifest_fields (table_behind (tokens given) []) items) offset place → answer ≡ place_line place
 
-pub converted_placed : (types : BuiltIn) (given m : List ℕ) (offset : ℕ) (answer : List ℕ) → converted (types_given types given) (bytes_given types given) 65535 65536 ≡ done m → Answers types (Place offset) given answer → Placed (types_given types given) (bytes_given types given) m offset answer
+pub converted_placed : (types : BuiltIn) (given m : List ℕ) (offset : ℕ) (answer : List ℕ) → converted (types_given types given) (bytes_given types given) 65535 65536 ≡ done m → Answers types (Some (Place offset)) given answer → Placed (types_given types given) (bytes_given types given) m offset answer
 unfolding Answers
 converted_placed types given m offset answer e x =
     let t = types_given types given in

@@ -1,28 +1,27 @@
 -- What the program writes for an input.
-use Rattle.std.specs.Prelude.{ℕ, ◌≡◌, Bool, true, List, [], ◌∷◌, ◌++◌, length, take, drop}
+use Rattle.std.specs.Prelude.{None, Some}
+use Rattle.manifest_text.specs.declared.Command.TheVariants.{Convert, Place, Print}
+use Rattle.manifest_text.specs.Commands.{BuiltIn, Asked}
+use Rattle.std.specs.Prelude.{ℕ, ◌≡◌, Result, OnOk, List, [], ◌∷◌, ◌++◌, length, take, drop, Ok, Err}
 use Rattle.rules.specs.Types.{Types, the_eight, lent}
 use Rattle.values.specs.Numbers.{number_of}
 use Rattle.rules.specs.Schedule.{decimal, refusal_line, before_feed, after_feed}
-use Rattle.notation.specs.declared.Answer.{Answer}
-use Rattle.notation.specs.declared.Answer.TheVariants.{Written, Refused}
 use Rattle.notation.specs.Convert.{Effect, convert}
 use Rattle.notation.specs.Printer.{print}
 use Rattle.text_places.specs.Places.{PlaceGiven}
-use Rattle.manifest_text.specs.declared.BuiltIn.{BuiltIn}
-use Rattle.manifest_text.specs.declared.BuiltIn.TheVariants.{Eight, Listed}
-use Rattle.manifest_text.specs.declared.Command.{Command}
-use Rattle.manifest_text.specs.declared.Command.TheVariants.{Convert, Print, Place, Unknown}
 use Rattle.manifest_text.specs.Commands.{types_in, command_in}
+use Rattle.notation.specs.Answers.{Answer}
+use Rattle.standard_streams.specs.declared.NotSent.{NotSent}
 
 -- ---- What is given: a list of types or none, then the text or the manifest
 
 unfoldable pub types_given : BuiltIn → (given : List ℕ) → Types
-types_given Eight given = the_eight
-types_given (Listed size) given = lent (take size given)
+types_given None given = the_eight
+types_given (Some size) given = lent (take size given)
 
 unfoldable pub bytes_given : BuiltIn → (given : List ℕ) → List ℕ
-bytes_given Eight given = given
-bytes_given (Listed size) given = drop size given
+bytes_given None given = given
+bytes_given (Some size) given = drop size given
 
 -- ---- Results and refusals
 
@@ -36,8 +35,8 @@ written_text bytes = numbered_text (119 ∷ 114 ∷ 105 ∷ 116 ∷ 116 ∷ 101 
 
 -- for what a call answered, and left in its output
 unfoldable pub answer_text : Answer → (output : List ℕ) → List ℕ
-answer_text (Written n) output = written_text (take n output)
-answer_text (Refused r p) output = refusal_line (number_of r) p
+answer_text (Ok n) output = written_text (take n output)
+answer_text (Err f) output = refusal_line (number_of f.reason) f.place
 
 unfoldable pub effect_text : Effect → List ℕ
 effect_text e = answer_text e.answer e.output_after
@@ -58,22 +57,22 @@ pub record PlaceAnswer (types : Types) (text : List ℕ) (field : ℕ) (answer :
 -- ---- Answers
 
 -- whether this is an answer. 65,535 bytes of output and 65,536 of memory are lent; for an unknown first line nothing is written
-unfoldable pub Answers : BuiltIn → Command → (given answer : List ℕ) → Type 0
-Answers types Convert given answer = answer ≡ effect_text (convert (types_given types given) (bytes_given types given) 65535 65536)
-Answers types Print given answer = answer ≡ effect_text (print (types_given types given) (bytes_given types given) 65535 65536)
-Answers types (Place field) given answer = PlaceAnswer (types_given types given) (bytes_given types given) field answer
-Answers types Unknown given answer = answer ≡ []
+unfoldable pub Answers : BuiltIn → Asked → (given answer : List ℕ) → Type 0
+Answers types (Some Convert) given answer = answer ≡ effect_text (convert (types_given types given) (bytes_given types given) 65535 65536)
+Answers types (Some Print) given answer = answer ≡ effect_text (print (types_given types given) (bytes_given types given) 65535 65536)
+Answers types (Some (Place field)) given answer = PlaceAnswer (types_given types given) (bytes_given types given) field answer
+Answers types None given answer = answer ≡ []
 
 -- an answer of which something is so
-pub record AnAnswer (types : BuiltIn) (command : Command) (given : List ℕ) (Is : List ℕ → Type 0) : Type 0 where
+pub record AnAnswer (types : BuiltIn) (command : Asked) (given : List ℕ) (Is : List ℕ → Type 0) : Type 0 where
   pub answer : List ℕ
   pub right : Answers types command given answer
   pub so : Is answer
 
 -- what is told is that all was sent
-abbrev pub AllSent : BuiltIn → Command → (given : List ℕ) → (sent : ℕ) → (told : Bool) → Type 0
-AllSent types command given sent told = told ≡ true → AnAnswer types command given (λ a. sent ≡ length a)
+abbrev pub AllSent : BuiltIn → Asked → (given : List ℕ) → (sent : ℕ) → (told : Result Unit NotSent) → Type 0
+AllSent types command given sent told = OnOk told (AnAnswer types command given (λ a. sent ≡ length a))
 
 -- the same of an input: the first line, a line feed, then what is given
-abbrev pub InputSent : (input : List ℕ) → (sent : ℕ) → (told : Bool) → Type 0
+abbrev pub InputSent : (input : List ℕ) → (sent : ℕ) → (told : Result Unit NotSent) → Type 0
 InputSent input sent told = AllSent (types_in (before_feed input)) (command_in (before_feed input)) (after_feed input) sent told

@@ -5,7 +5,7 @@
 // bytes are then a list of types, which replaces the eight, and the others follow it.
 #![tactic(auto)]
 
-ghost use Rattle.std.specs.Prelude.{◌≡◌, true, List, ℕ, ◌+◌, ◌≤◌, length};
+ghost use Rattle.std.specs.Prelude.{◌≡◌, List, ℕ, ◌+◌, ◌≤◌, length, OnOk};
 ghost use Rattle.values.specs.Numbers.{number_of};
 ghost use Rattle.rules.specs.Schedule.{refusal_line};
 ghost use Rattle.notation.specs.Convert.{convert};
@@ -20,19 +20,11 @@ ghost use Rattle.manifest_text.specs.Answers.{types_given, bytes_given, numbered
 
 use input::{Progress, past};
 use notation::Answer;
-use schedule::Written;
 use schedule::pieces::{finish, put_number, put_text};
-use standard_streams::{Taken, first, read_all, send};
+use standard_streams::{NotSent, first, read_all, send};
 use syntax::strings::same_bytes;
 use text_places::places::field_place;
-use values::Reason;
-
-// Which types are built in: the eight, or those of the list that the first bytes behind the first line are.
-#[derive(Clone, Copy)]
-pub enum BuiltIn {
-    Eight,
-    Listed { size: usize },
-}
+use values::Refusal;
 
 // What the first line asks for.
 #[derive(Clone, Copy)]
@@ -40,7 +32,6 @@ pub enum Command {
     Convert,
     Print,
     Place { field: usize },
-    Unknown,
 }
 
 // ---- The first line
@@ -80,29 +71,30 @@ fn offset_of(line: &[u8]) -> usize
     n
 }
 
-fn place_asked(line: &[u8]) -> Command
+fn place_asked(line: &[u8]) -> Option<Command>
     ensures { result ≡ place_asked line.now }
 {
     let field = offset_of(line);
     if 99999 < field {
-        return Command::Unknown;
+        return None;
     }
-    Command::Place { field: field }
+    Some(Command::Place { field })
 }
 
-fn command_of(line: &[u8]) -> Command
+// The command, if the line is one.
+fn command_of(line: &[u8]) -> Option<Command>
     ensures { result ≡ command_of line.now }
 {
     if same_bytes(b"convert", line) {
-        return Command::Convert;
+        return Some(Command::Convert);
     }
     if same_bytes(b"print", line) {
-        return Command::Print;
+        return Some(Command::Print);
     }
     if same_bytes(b"place ", first(line, 6)) {
         return place_asked(line);
     }
-    Command::Unknown
+    None
 }
 
 // ---- A list of types, which the first line may name before the command
@@ -114,19 +106,19 @@ fn names_types(line: &[u8]) -> bool
 }
 
 // The command behind `types `, five digits and a space.
-fn command_behind(line: &[u8]) -> Command
+fn command_behind(line: &[u8]) -> Option<Command>
     ensures { result ≡ command_behind line.now }
 {
     if 99999 < offset_of(first(line, 11)) {
-        return Command::Unknown;
+        return None;
     }
     if same_bytes(b" ", first(past(line, 11), 1)) {
         return command_of(past(line, 12));
     }
-    Command::Unknown
+    None
 }
 
-fn command_in(line: &[u8]) -> Command
+fn command_in(line: &[u8]) -> Option<Command>
     ensures { result ≡ command_in line.now }
 {
     if names_types(line) {
@@ -135,55 +127,50 @@ fn command_in(line: &[u8]) -> Command
     command_of(line)
 }
 
-fn types_in(line: &[u8]) -> BuiltIn
+// How long the list of types is, if one replaces the eight: the first bytes behind the first line are the list then.
+fn types_in(line: &[u8]) -> Option<usize>
     ensures { result ≡ types_in line.now }
 {
     if names_types(line) {
-        let size = offset_of(first(line, 11));
-        return BuiltIn::Listed { size };
+        return Some(offset_of(first(line, 11)));
     }
-    BuiltIn::Eight
+    None
 }
 
 // ---- The calls, with 65,535 bytes of output and 65,536 of memory
 
-fn convert_given(types: BuiltIn, given: &[u8], out: &mut [u8; 65535]) -> Answer
+fn convert_given(types: Option<usize>, given: &[u8], out: &mut [u8; 65535]) -> Answer
     ensures { (result ≡ (convert (types_given types given.now) (bytes_given types given.now) 65535 65536).answer) × (out.new ≡ (convert (types_given types given.now) (bytes_given types given.now) 65535 65536).output_after) }
 {
     let mut work = [0u8; 65536];
     match types {
-        BuiltIn::Eight => converter::convert(given, out, &mut work),
-        BuiltIn::Listed { size } => {
+        None => converter::convert(given, out, &mut work),
+        Some(size) => {
             converter::convert_with_types(first(given, size), past(given, size), out, &mut work)
         }
     }
 }
 
-fn print_given(types: BuiltIn, given: &[u8], out: &mut [u8; 65535]) -> Answer
+fn print_given(types: Option<usize>, given: &[u8], out: &mut [u8; 65535]) -> Answer
     ensures { (result ≡ (print (types_given types given.now) (bytes_given types given.now) 65535 65536).answer) × (out.new ≡ (print (types_given types given.now) (bytes_given types given.now) 65535 65536).output_after) }
 {
     let mut work = [0u8; 65536];
     match types {
-        BuiltIn::Eight => printer::print(given, out, &mut work),
-        BuiltIn::Listed { size } => {
+        None => printer::print(given, out, &mut work),
+        Some(size) => {
             printer::print_with_types(first(given, size), past(given, size), out, &mut work)
         }
     }
 }
 
 // The place in a text of the field at an offset of its tagged form. The log is long enough for every text that is converted.
-fn place_given(types: BuiltIn, given: &[u8], field: usize) -> usize
+fn place_given(types: Option<usize>, given: &[u8], field: usize) -> usize
     ensures { PlaceGiven (types_given types given.now) (bytes_given types given.now) field 262144 result }
 {
     let mut log = [0u8; 262144];
     match types {
-        BuiltIn::Eight => field_place(b"", given, field, &mut log),
-        BuiltIn::Listed { size } => field_place(
-            first(given, size),
-            past(given, size),
-            field,
-            &mut log,
-        ),
+        None => field_place(b"", given, field, &mut log),
+        Some(size) => field_place(first(given, size), past(given, size), field, &mut log),
     }
 }
 
@@ -193,13 +180,13 @@ fn place_given(types: BuiltIn, given: &[u8], field: usize) -> usize
 fn write(
     rt: &(impl Print + Eprint),
     text: &[u8],
-    types: BuiltIn,
-    command: Command,
+    types: Option<usize>,
+    command: Option<Command>,
     given: &[u8],
     sent: &mut u64,
-) -> bool
+) -> Result<(), NotSent>
     requires { AnAnswer types command given.now (λ a. ComesNext a sent.old text.now) }
-    ensures { result ≡ true → sent.new ≡ sent.old + length text.now }
+    ensures { OnOk result (sent.new ≡ sent.old + length text.now) }
 {
     send(rt, text, sent)
 }
@@ -207,24 +194,28 @@ fn write(
 // The whole answer, in its buffer.
 fn write_all(
     rt: &(impl Print + Eprint),
-    written: Written,
+    written: Option<usize>,
     text: &[u8],
-    types: BuiltIn,
-    command: Command,
+    types: Option<usize>,
+    command: Option<Command>,
     given: &[u8],
     sent: &mut u64,
-) -> bool
+) -> Result<(), NotSent>
     requires { AnAnswer types command given.now (λ a. LastLine a sent.old written text.now) }
     ensures { AllSent types command given.now sent.new result }
 {
-    match written {
-        Written::Length(length) => write(rt, first(text, length), types, command, given, sent),
-        Written::TooLong => true, // never, as is proved
-    }
+    write(
+        rt,
+        first(text, written.unwrap()),
+        types,
+        command,
+        given,
+        sent,
+    )
 }
 
 // A word, a number, a line feed, and bytes.
-fn numbered_text(word: &[u8], number: u64, bytes: &[u8], text: &mut [u8]) -> Written
+fn numbered_text(word: &[u8], number: u64, bytes: &[u8], text: &mut [u8]) -> Option<usize>
     ensures { stored result text.new ≡ fitted (numbered_text word.now number bytes.now) (length text.old) }
 {
     let digits = put_text(text, 0, word);
@@ -239,11 +230,11 @@ fn write_numbered(
     word: &[u8],
     number: u64,
     bytes: &[u8],
-    types: BuiltIn,
-    command: Command,
+    types: Option<usize>,
+    command: Option<Command>,
     given: &[u8],
     sent: &mut u64,
-) -> bool
+) -> Result<(), NotSent>
     requires { (AnAnswer types command given.now (λ a. Left a sent.old (numbered_text word.now number bytes.now))) × (length word.now ≤ 8) × (length bytes.now ≤ 65535) }
     ensures { AllSent types command given.now sent.new result }
 {
@@ -254,18 +245,17 @@ fn write_numbered(
 
 fn write_refusal(
     rt: &(impl Print + Eprint),
-    reason: Reason,
-    place: u16,
-    types: BuiltIn,
-    command: Command,
+    refusal: Refusal,
+    types: Option<usize>,
+    command: Option<Command>,
     given: &[u8],
     sent: &mut u64,
-) -> bool
-    requires { AnAnswer types command given.now (λ a. Left a sent.old (refusal_line (number_of reason) place)) }
+) -> Result<(), NotSent>
+    requires { AnAnswer types command given.now (λ a. Left a sent.old (refusal_line (number_of refusal.reason) refusal.place)) }
     ensures { AllSent types command given.now sent.new result }
 {
     let mut line = [0u8; 2048];
-    let written = schedule::refusal_line(reason, place, &mut line);
+    let written = schedule::refusal_line(refusal.reason, refusal.place, &mut line);
     write_all(rt, written, &line, types, command, given, sent)
 }
 
@@ -274,16 +264,16 @@ fn write_answer(
     rt: &(impl Print + Eprint),
     answer: Answer,
     out: &[u8; 65535],
-    types: BuiltIn,
-    command: Command,
+    types: Option<usize>,
+    command: Option<Command>,
     given: &[u8],
     sent: &mut u64,
-) -> bool
+) -> Result<(), NotSent>
     requires { AnAnswer types command given.now (λ a. Left a sent.old (answer_text answer out.now)) }
     ensures { AllSent types command given.now sent.new result }
 {
     match answer {
-        Answer::Written { length } => {
+        Ok(length) => {
             let bytes = first(out, length as usize);
             write_numbered(
                 rt,
@@ -296,9 +286,7 @@ fn write_answer(
                 sent,
             )
         }
-        Answer::Refused { reason, place } => write_refusal(
-            rt, reason, place, types, command, given, sent,
-        ),
+        Err(refusal) => write_refusal(rt, refusal, types, command, given, sent),
     }
 }
 
@@ -310,28 +298,28 @@ fn unknown_line(rt: &impl Eprint) {
     );
 }
 
-// Answers a command: true if all of the answer is written.
+// Answers a command: `Ok` if all of the answer is written.
 fn answer(
     rt: &(impl Print + Eprint),
-    types: BuiltIn,
-    command: Command,
+    types: Option<usize>,
+    command: Option<Command>,
     given: &[u8],
     sent: &mut u64,
-) -> bool
+) -> Result<(), NotSent>
     requires { sent.old ≡ 0 }
     ensures { AllSent types command given.now sent.new result }
 {
     let mut out = [0u8; 65535];
     match command {
-        Command::Convert => {
+        Some(Command::Convert) => {
             let converted = convert_given(types, given, &mut out);
             write_answer(rt, converted, &out, types, command, given, sent)
         }
-        Command::Print => {
+        Some(Command::Print) => {
             let printed = print_given(types, given, &mut out);
             write_answer(rt, printed, &out, types, command, given, sent)
         }
-        Command::Place { field } => {
+        Some(Command::Place { field }) => {
             let place = place_given(types, given, field);
             write_numbered(
                 rt,
@@ -344,9 +332,9 @@ fn answer(
                 sent,
             )
         }
-        Command::Unknown => {
+        None => {
             unknown_line(rt);
-            true
+            Ok(())
         }
     }
 }
@@ -358,7 +346,7 @@ fn answer_read(
     line: &[u8],
     given: &[u8],
     sent: &mut u64,
-) -> bool
+) -> Result<(), NotSent>
     requires { sent.old ≡ 0 }
     ensures { (d m input : List ℕ) → length d ≡ 256 → length m ≡ 196608 → reading at line.now given.now ≡ reading_of d m input → InputSent input sent.new result }
 {
@@ -371,9 +359,9 @@ fn answer_read(
 fn main(rt: HostRuntime) {
     let mut line = [0u8; 256];
     let mut given = [0u8; 196608];
-    let taken = read_all(&rt, &mut line, &mut given);
-    if let Taken::All(at) = taken {
-        let mut sent: u64 = 0;
-        answer_read(&rt, at, &line, &given, &mut sent);
-    }
+    let Ok(at) = read_all(&rt, &mut line, &mut given) else {
+        return;
+    };
+    let mut sent: u64 = 0;
+    let _ = answer_read(&rt, at, &line, &given, &mut sent);
 }

@@ -11,14 +11,15 @@ use borrow.Author.Tests.{eqb-true, ne_eqb}
 use Rattle.wire.specs.Bytes.{pick, byte, two}
 use Rattle.wire.specs.Numbers.{high_bytes}
 use Rattle.wire.specs.Runs.{over}
-use Rattle.rules.specs.State.{Base, top_base, node_base, base_scope, DeclaredClass, parent_of_class, parent_of, Entry, is_declared, mark_declared, one_if}
+use Rattle.rules.specs.State.{Base, top_base, node_base, base_scope, DeclaredClass, parent_of_class, parent_of, Entry, is_declared, mark_declared}
 use Rattle.cells.specs.Layout.{record_at, put_at, NameRecord, name_at, records_of, name_class, name_parent}
 use Rattle.cells.specs.Scopes.{scope_of}
 use Rattle.cells.specs.Memory.{base_for, class_from, class_in, definition_in, built_in_in, classes_of, definition_of, built_in_of, names_of, state_of, Becomes}
 use Rattle.cells.proofs.Scopes.{scope_cases, top_scope_lem, node_scope_lem}
-use Rattle.memory.specs.declared.Above.TheVariants.{At, Nothing}
 use Rattle.memory.specs.Names.{class_state, placed, scope_above, is_node, at_node}
 use Rattle.memory.proofs.Records.{record_in_lem, by_record, Filed, and_then, class_to, parent_to, class_filed, parent_filed, slots_kept, rest_kept, read_kept, read_put, names_are, state_is}
+use Rattle.std.specs.Int.{from_bool}
+use Rattle.std.specs.Prelude.{Some, None}
 
 class_small : (b : Bool) → class_state b < 256
 unfolding class_state
@@ -96,19 +97,19 @@ base_told c d e = rw e (go d.base)
 
 -- parent_of
 module _ (w : List ℕ) (b : Bool) (a : ℕ) where
-  pub above_top : a ≡ 0 → scope_above Nothing ≡ parent_of (classes_of w) (base_for b) (scope_of a)
+  pub above_top : a ≡ 0 → scope_above None ≡ parent_of (classes_of w) (base_for b) (scope_of a)
   unfolding scope_above parent_of
   above_top e = scope_cases (λ s. none ≡ parent_of (classes_of w) (base_for b) s) a (λ _. refl) (λ p. absurd (omega arith)) (λ p q. absurd (omega arith)) (λ p. absurd (omega arith))
 
-  pub above_node : a ≡ 1 → scope_above (At 0) ≡ parent_of (classes_of w) (base_for b) (scope_of a)
+  pub above_node : a ≡ 1 → scope_above (Some 0) ≡ parent_of (classes_of w) (base_for b) (scope_of a)
   unfolding scope_above parent_of
   above_node e = scope_cases (λ s. some (scope_of 0) ≡ parent_of (classes_of w) (base_for b) s) a (λ p. absurd (omega arith)) (λ _. ap some top_scope_lem) (λ p q. absurd (omega arith)) (λ p. absurd (omega arith))
 
-  pub above_body : {r : ℕ} → 1026 ≤ a → r ≡ one_if b → scope_above (At r) ≡ parent_of (classes_of w) (base_for b) (scope_of a)
-  unfolding scope_above parent_of one_if base_for base_scope
+  pub above_body : {r : ℕ} → 1026 ≤ a → r ≡ from_bool b → scope_above (Some r) ≡ parent_of (classes_of w) (base_for b) (scope_of a)
+  unfolding scope_above parent_of base_for base_scope
   above_body {r} h e = scope_cases (λ s. some (scope_of r) ≡ parent_of (classes_of w) (base_for b) s) a (λ p. absurd (omega arith)) (λ p. absurd (omega arith)) (λ p q. absurd (omega arith)) (λ p. ap some (ap scope_of e ∙ base b))
     where
-      base : (b : Bool) → scope_of (one_if b) ≡ base_scope (base_for b)
+      base : (b : Bool) → scope_of (from_bool b) ≡ base_scope (base_for b)
       base true = node_scope_lem
       base false = top_scope_lem
 
@@ -118,12 +119,12 @@ module _ (w : List ℕ) (b : Bool) (a : ℕ) where
   above_class o h l e =
       scope_cases (λ s. parent_of (classes_of w) (base_for b) s ≡ parent_of_class o) a (λ p. absurd (omega arith)) (λ p. absurd (omega arith)) (λ p q. ap parent_of_class e) (λ p. absurd (omega arith))
 
-  pub above_unknown : {t : ℕ} → (a ≡ 0 → ⊥) → (a ≡ 1 → ⊥) → a < 1026 → t ≡ byte w (record_at (a - 2) + 4) → t ≡ 0 → scope_above Nothing ≡ parent_of (classes_of w) (base_for b) (scope_of a)
+  pub above_unknown : {t : ℕ} → (a ≡ 0 → ⊥) → (a ≡ 1 → ⊥) → a < 1026 → t ≡ byte w (record_at (a - 2) + 4) → t ≡ 0 → scope_above None ≡ parent_of (classes_of w) (base_for b) (scope_of a)
   unfolding scope_above parent_of_class class_from
   above_unknown {t} n0 n1 l e z = sym (above_class none (omega (arith, n0, n1)) l (class_read_lem w (a - 2) (omega arith) ∙ rw (sym e, z) refl))
 
   pub above_known : {t q : ℕ} → (a ≡ 0 → ⊥) → (a ≡ 1 → ⊥) → a < 1026 → t ≡ byte w (record_at (a - 2) + 4) → (t ≡ 0 → ⊥) → q ≡ two w (record_at (a - 2) + 6)
-      → scope_above (At q) ≡ parent_of (classes_of w) (base_for b) (scope_of a)
+      → scope_above (Some q) ≡ parent_of (classes_of w) (base_for b) (scope_of a)
   unfolding scope_above parent_of_class class_from
   above_known {t} {q} n0 n1 l e nz eq =
       sym (above_class (some (placed q (eqb t 2))) (omega (arith, n0, n1)) l (class_read_lem w (a - 2) (omega arith) ∙ rw (sym e, ne_eqb t 0 nz, sym eq) refl))

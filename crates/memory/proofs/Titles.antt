@@ -15,8 +15,8 @@ use Rattle.wire.proofs.Laws.{same_rest, two_same, byte_outside, high_length, sto
 use Rattle.cells.specs.Layout.{words_at, rest_of}
 use Rattle.cells.specs.Memory.{Stays}
 use Rattle.cells.proofs.Others.{others_stored}
-use Rattle.memory.specs.declared.TitleName.TheVariants.{At as TitleAt, Nothing as NoTitle}
 use Rattle.memory.specs.Names.{title_in, title_of, title_found, TitleSet}
+use Rattle.std.specs.Prelude.{Some, None}
 
 rest_first : (w : List ℕ) → two w words_at ≡ two (rest_of w) 0
 unfolding rest_of
@@ -49,15 +49,15 @@ title_small w n = go (two (rest_of w) 0)
 
 -- title
 module _ (w : List ℕ) {t : ℕ} (read : t ≡ two w words_at) where
-  pub title_none : t ≡ 0 → title_found NoTitle ≡ title_of w
+  pub title_none : t ≡ 0 → title_found None ≡ title_of w
   unfolding title_found title_of title_in
   title_none e = rw (sym (rest_first w), sym read, e) refl
 
-  pub title_past : (t ≡ 0 → ⊥) → 1024 < t → title_found NoTitle ≡ title_of w
+  pub title_past : (t ≡ 0 → ⊥) → 1024 < t → title_found None ≡ title_of w
   unfolding title_found title_of title_in
   title_past ne l = rw (sym (rest_first w), sym read, ne_eqb t 0 ne, lt-ltb 1024 t l) refl
 
-  pub title_some : (t ≡ 0 → ⊥) → t ≤ 1024 → title_found (TitleAt (t - 1)) ≡ title_of w
+  pub title_some : (t ≡ 0 → ⊥) → t ≤ 1024 → title_found (Some (t - 1)) ≡ title_of w
   unfolding title_found title_of title_in
   title_some ne l = rw (sym (rest_first w), sym read, ne_eqb t 0 ne, le-ltb 1024 t l) refl
 

@@ -1,5 +1,5 @@
 -- What the functions on names change, and what they tell of a class.
-use Rattle.std.specs.Prelude.{ℕ, ◌+◌, ◌-◌, ◌≤◌, ◌<◌, ◌≡◌, List, [], eqb, ltb, Bool, true, false}
+use Rattle.std.specs.Prelude.{ℕ, ◌+◌, ◌-◌, ◌≤◌, ◌<◌, ◌≡◌, List, [], eqb, ltb, Bool, true, false, Option as CodeOption, Some, None}
 use Rattle.wire.specs.Bytes.{pick, two}
 use Rattle.std.proofs.Math.Option.{Option, none, some}
 use Rattle.rules.specs.State.{Scope, Base, top_base, node_base, DeclaredClass, Entry}
@@ -7,10 +7,6 @@ use Rattle.rules.specs.Compile.{room_in, start}
 use Rattle.cells.specs.Layout.{words_at, summary_at, head_at, index_at, put_at, rest_of}
 use Rattle.cells.specs.Scopes.{scope_of}
 use Rattle.cells.specs.Memory.{base_for, Names, names_of, state_of, Fine}
-use Rattle.memory.specs.declared.Above.{Above}
-use Rattle.memory.specs.declared.Above.TheVariants.{At, Nothing}
-use Rattle.memory.specs.declared.TitleName.{TitleName}
-use Rattle.memory.specs.declared.TitleName.TheVariants.{At as TitleAt, Nothing as NoTitle}
 use Rattle.memory.specs.Words.{word_of}
 
 unfoldable pub with_definition : (name place : ℕ) → Names → Names
@@ -32,9 +28,9 @@ abbrev pub placed : (parent : ℕ) → (base_is_node : Bool) → DeclaredClass
 placed q b = record { parent = scope_of q; base = base_for b }
 
 -- the scope that an answer names by its number
-unfoldable pub scope_above : Above → Option Scope
-scope_above (At q) = some (scope_of q)
-scope_above Nothing = none
+unfoldable pub scope_above : CodeOption ℕ → Option Scope
+scope_above (Some q) = some (scope_of q)
+scope_above None = none
 
 unfoldable pub is_node : Base → Bool
 is_node top_base = false
@@ -55,9 +51,9 @@ title_in t = pick (eqb t 0) none (pick (ltb 1024 t) none (some (t - 1)))
 unfoldable pub title_of : List ℕ → Option ℕ
 title_of w = title_in (two (rest_of w) 0)
 
-unfoldable pub title_found : TitleName → Option ℕ
-title_found (TitleAt n) = some n
-title_found NoTitle = none
+unfoldable pub title_found : CodeOption ℕ → Option ℕ
+title_found (Some n) = some n
+title_found None = none
 
 -- from w to w' the string "title" gets its number, and all else stays
 pub record TitleSet (w w' : List ℕ) (name : ℕ) : Type 0 where

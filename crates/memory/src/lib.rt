@@ -4,7 +4,7 @@
 ghost use Rattle.std.specs.Prelude.{◌≡◌, true, List, ℕ, ◌≤◌, ◌<◌, eqb, length};
 ghost use Rattle.wire.specs.Runs.{zeros};
 ghost use Rattle.labels.specs.Sets.{◌∪◌};
-ghost use Rattle.rules.specs.State.{Entry, one_if, parent_of, is_declared, mark_declared};
+ghost use Rattle.rules.specs.State.{Entry, parent_of, is_declared, mark_declared};
 ghost use Rattle.cells.specs.Layout.{trail_of};
 ghost use Rattle.cells.specs.Scopes.{scope_of};
 ghost use Rattle.cells.specs.Memory.{base_for, classes_of, definition_of, built_in_of, state_of, trailed, Becomes};
@@ -39,20 +39,6 @@ pub const NODE: Scope = Scope {
 pub struct Context {
     pub scope: Scope,
     pub path: Labels,
-}
-
-// The number of the scope above another one.
-#[derive(Clone, Copy)]
-pub enum Above {
-    At(u16),
-    Nothing,
-}
-
-// The number of the string "title".
-#[derive(Clone, Copy)]
-pub enum TitleName {
-    At(u16),
-    Nothing,
 }
 
 // Every byte becomes 0.
@@ -137,18 +123,14 @@ pub fn set_built_in(work: &mut [u8], name: u16, yes: bool)
 
 // ---- The number of the string "title": the first of the words, one more than it, or 0 where there is none
 
-pub fn title(work: &[u8]) -> TitleName
+pub fn title(work: &[u8]) -> Option<u16>
     requires { 65536 ≤ length work.now }
     ensures { title_found result ≡ title_of work.now }
 {
-    let t = wire::two_in(work, TITLE);
-    if t == 0 {
-        return TitleName::Nothing;
+    match wire::two_in(work, TITLE) {
+        t @ 1..=1024 => Some(t - 1),
+        _ => None,
     }
-    if 1024 < t {
-        return TitleName::Nothing;
-    }
-    TitleName::At(t - 1)
 }
 
 pub fn set_title(work: &mut [u8], name: u16)
@@ -243,29 +225,23 @@ pub fn base_of(work: &[u8], name: u16) -> bool
     wire::byte_in(work, NAMES + NAME_SIZE * name as usize + NAME_CLASS) == 2
 }
 
-fn base_scope(base_is_node: bool) -> u16
-    ensures { result ≡ one_if base_is_node }
-{
-    base_is_node as u16
-}
-
 // The parent of a scope, for code whose base is node or top.
-pub fn parent_of(work: &[u8], base_is_node: bool, scope: u16) -> Above
+pub fn parent_of(work: &[u8], base_is_node: bool, scope: u16) -> Option<u16>
     requires { 65536 ≤ length work.now }
     ensures { scope_above result ≡ parent_of (classes_of work.now) (base_for base_is_node) (scope_of scope) }
 {
     if scope == 0 {
-        return Above::Nothing;
+        return None;
     }
     if scope == 1 {
-        return Above::At(0);
+        return Some(0);
     }
     if 1026 <= scope {
-        return Above::At(base_scope(base_is_node));
+        return Some(u16::from(base_is_node));
     }
     let record = NAMES + NAME_SIZE * (scope as usize - 2);
     if wire::byte_in(work, record + NAME_CLASS) == 0 {
-        return Above::Nothing;
+        return None;
     }
-    Above::At(wire::two_in(work, record + NAME_PARENT))
+    Some(wire::two_in(work, record + NAME_PARENT))
 }

@@ -13,7 +13,6 @@ use Rattle.rules.specs.EditRule.{IsBytes}
 use Rattle.rules.specs.Outcome.{done, ◌>>=◌, refuse_if}
 use Rattle.rules.specs.Ranges.{Each, none_left}
 use Rattle.rules.specs.Read.{manifest_of}
-use Rattle.rules.specs.declared.Verdict.TheVariants.{Sound}
 use Rattle.rules.specs.Compile.{checked}
 use Rattle.rules.specs.Types.{Types, check_types}
 use Rattle.notation.specs.Tokens.{Lexeme}
@@ -32,11 +31,12 @@ use Rattle.notation.proofs.TablePart.{not_crowded}
 use Rattle.notation.proofs.LabelsLow.{not_late}
 use Rattle.notation.proofs.NumberedBack.{written_tree}
 use Rattle.notation.proofs.ConvertedLength.{no_longer}
+use Rattle.rules.specs.Verdicts.{no_fault}
 
 -- the tokens xs build the tree ks, which is that of the sound manifest m but for places, and have no string but those of m
 pub record BuildsTreeOf (types : Types) (m : List ℕ) (xs : List Lexeme) (ks : Nodes) : Type 0 where
   pub bytes : IsBytes m
-  pub sound : check m ≡ Sound
+  pub sound : check m ≡ no_fault
   pub short : length m ≤ 65535
   pub good : Each GoodLexeme xs
   pub known : Each (StringsIn (λ s. Among s (manifest_of m).strings)) xs
@@ -67,7 +67,7 @@ module _ (types : Types) {m : List ℕ} {xs : List Lexeme} {ks : Nodes} (b : Bui
   written_named = written_tree types (text_whole types xs ks b.good items_read) late_not ∙ b.same
 
 -- a text of these tokens is converted, where the output has room for the manifest
-pub converted_back : (types : Types) {m : List ℕ} {xs : List Lexeme} {ks : Nodes} → BuildsTreeOf types m xs ks → check_types types ≡ Sound → (given : List ℕ) (output_length memory_length : ℕ) → length m ≤ output_length → 65536 ≤ memory_length → length given ≤ 65535 → tokens given ≡ xs →
+pub converted_back : (types : Types) {m : List ℕ} {xs : List Lexeme} {ks : Nodes} → BuildsTreeOf types m xs ks → check_types types ≡ no_fault → (given : List ℕ) (output_length memory_length : ℕ) → length m ≤ output_length → 65536 ≤ memory_length → length given ≤ 65535 → tokens given ≡ xs →
     (converted types given output_length memory_length ≡ done (manifest_bytes xs ks)) × (named_tree (manifest_bytes xs ks) ≡ named_tree m)
 unfolding converted checked ◌>>=◌ refuse_if refuse_at too_long
 converted_back types {m} {xs} {ks} b listed given output_length memory_length room memory l e =

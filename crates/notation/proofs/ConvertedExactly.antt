@@ -10,7 +10,6 @@ use borrow.Author.Tests.{ltb-false, le-ltb}
 use Rattle.rules.specs.Outcome.{done, ◌>>=◌, refuse_if}
 use Rattle.rules.proofs.Lists.{either_left, either_right}
 use Rattle.rules.specs.Compile.{checked}
-use Rattle.rules.specs.declared.Verdict.TheVariants.{Sound}
 use Rattle.rules.specs.Types.{Types, check_types}
 use Rattle.notation.specs.Lexing.{tokens}
 use Rattle.notation.specs.Building.{Nodes, frame, Build, build, start}
@@ -19,6 +18,7 @@ use Rattle.notation.specs.Convert.{crowded_at, read_text, late_among, refuse_at,
 use Rattle.notation.proofs.Outcomes.{refused_not_done}
 use Rattle.notation.proofs.OneReading.{reading_sound, reading_complete}
 use Rattle.notation.proofs.ConvertedSound.{converted_steps}
+use Rattle.rules.specs.Verdicts.{no_fault}
 
 -- the items of a tree
 abbrev pub parts_of : Build → Nodes
@@ -31,7 +31,7 @@ pub record Meant (types : Types) (given : List ℕ) (output_length memory_length
   pub few_strings : crowded_at (tokens given) [] ≡ none
   pub early_lines : late_among (parts_of tree) ≡ none
   pub memory : 65536 ≤ memory_length
-  pub listed : check_types types ≡ Sound
+  pub listed : check_types types ≡ no_fault
   pub text_length : length given ≤ 65535
   pub same : manifest_bytes (tokens given) (parts_of tree) ≡ m
   pub manifest_length : length m ≤ 65535

@@ -20,7 +20,6 @@ use Rattle.rules.specs.declared.Piece.{Piece as ListedPiece}
 use Rattle.rules.specs.declared.Piece.TheVariants.{Nothing, Label, Integer, Boolean, Operator, Name}
 use Rattle.rules.specs.declared.Rest.{Rest}
 use Rattle.rules.specs.declared.Rest.TheVariants.{Only, Text, Fields as Inner}
-use Rattle.rules.specs.declared.Verdict.TheVariants.{Sound}
 use Rattle.rules.proofs.Listed.{OneOf, one, PartsAre, HeadFor, Listed, all_listed}
 use Rattle.rules.proofs.WriteBack.{written_back}
 use Rattle.notation.specs.Building.{Piece, byte, name, Node, node, Nodes, empty, ◌▸◌}
@@ -33,6 +32,7 @@ use Rattle.notation.proofs.StringTable.{Among}
 use Rattle.notation.proofs.TableStrings.{strings_rise}
 use Rattle.notation.proofs.TablePart.{total, part_weighs}
 use Rattle.notation.proofs.Unplaced.{unplaced, unplaced_all}
+use Rattle.rules.specs.Verdicts.{no_fault}
 
 -- ---- How many bytes a tree takes
 
@@ -181,7 +181,7 @@ manifest_taken ks parts = go parts.in_first (each_of_parts (three (One Table) (M
         record { enough = omega (arith, length-append (write (field p t h js)) (write_all fs), field_length p t h js, strings_within js, within) }
 
 -- a manifest of the same tree, whose table is a part of its own, is no longer
-pub no_longer : (m : List ℕ) → IsBytes m → check m ≡ Sound → (table : List (List ℕ)) → Rising table → Each (λ s. Among s (manifest_of m).strings) table → (ks : Nodes) → unplaced_all ks ≡ named_tree m → length (write_all (manifest_fields table ks)) ≤ length m
+pub no_longer : (m : List ℕ) → IsBytes m → check m ≡ no_fault → (table : List (List ℕ)) → Rising table → Each (λ s. Among s (manifest_of m).strings) table → (ks : Nodes) → unplaced_all ks ≡ named_tree m → length (write_all (manifest_fields table ks)) ≤ length m
 unfolding manifest_fields write_all manifest_of manifest_from named_tree
 no_longer m bytes w table up all ks same =
     let strings : List (List ℕ) = (manifest_of m).strings in

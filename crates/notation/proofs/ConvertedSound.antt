@@ -18,7 +18,6 @@ use Rattle.rules.specs.Ranges.{Each, none_left, also}
 use Rattle.rules.specs.Read.{strings_from}
 use Rattle.rules.specs.declared.Kind.TheVariants.{Text as AText, Item}
 use Rattle.rules.specs.declared.Part.TheVariants.{Over, UpTo, Many}
-use Rattle.rules.specs.declared.Verdict.TheVariants.{Sound}
 use Rattle.rules.proofs.Lists.{either_left, each_map}
 use Rattle.rules.proofs.Listed.{same, HeadIs}
 use Rattle.rules.specs.Compile.{checked}
@@ -40,6 +39,7 @@ use Rattle.notation.proofs.Depth.{tree_depth}
 use Rattle.notation.proofs.StringTable.{Among, StringsIn, table_has, table_each, table_rising, table_size, Numbered, among_numbered}
 use Rattle.notation.proofs.LexedGood.{GoodLexeme, tokens_good}
 use Rattle.notation.proofs.NumberedTree.{AllReady, numbered_after, all_ready, node_ready}
+use Rattle.rules.specs.Verdicts.{no_fault}
 
 -- ---- Strings of tokens
 
@@ -143,7 +143,7 @@ module _ (types : Types) {xs : List Lexeme} {items : Nodes} (r : ReadWhole types
   manifest_known = rw (strings_back table) items_ready.names
 
   -- it passes the check
-  manifest_sound : check (manifest_bytes xs items) ≡ Sound
+  manifest_sound : check (manifest_bytes xs items) ≡ no_fault
   unfolding manifest_bytes
   manifest_sound = written_sound (manifest_fields table items) manifest_complete manifest_rising manifest_known
 
@@ -190,7 +190,7 @@ text_whole types xs items good e = go (reading types xs) refl (crowded_at xs [])
 
 -- what is known of a manifest that converting gives
 pub record Manifest (m : List ℕ) : Type 0 where
-  pub sound : check m ≡ Sound
+  pub sound : check m ≡ no_fault
   pub begun : 1 ≤ length m
   pub short : length m ≤ 65535
   pub bytes : IsBytes m
@@ -198,7 +198,7 @@ pub record Manifest (m : List ℕ) : Type 0 where
 -- a text is converted: it is read whole, no constant is late, and what is written is not too long
 pub record Steps (types : Types) (given m : List ℕ) (output_length memory_length : ℕ) : Type 0 where
   pub memory : ltb memory_length 65536 ≡ false
-  pub listed : check_types types ≡ Sound
+  pub listed : check_types types ≡ no_fault
   pub short : ltb 65535 (length given) ≡ false
   pub items : Nodes
   pub read : text_items types (tokens given) ≡ done items
@@ -240,5 +240,5 @@ converted_manifest types given m output_length memory_length b e =
     subst Manifest s.same all
 
 -- so it passes the check
-pub converted_sound : (types : Types) (given m : List ℕ) (output_length memory_length : ℕ) → IsBytes given → converted types given output_length memory_length ≡ done m → check m ≡ Sound
+pub converted_sound : (types : Types) (given m : List ℕ) (output_length memory_length : ℕ) → IsBytes given → converted types given output_length memory_length ≡ done m → check m ≡ no_fault
 converted_sound types given m output_length memory_length b e = (converted_manifest types given m output_length memory_length b e).sound

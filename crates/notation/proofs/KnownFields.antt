@@ -24,11 +24,11 @@ use Rattle.rules.specs.declared.Piece.TheVariants.{Nothing, Label, Integer, Bool
 use Rattle.rules.specs.declared.Rest.{Rest}
 use Rattle.rules.specs.declared.Rest.TheVariants.{Only, Text, Fields as Inner}
 use Rattle.rules.specs.declared.Form.{Form}
-use Rattle.rules.specs.declared.Verdict.TheVariants.{Sound, Fault}
 use Rattle.rules.proofs.Lists.{both_left, both_right}
 use Rattle.rules.proofs.Within.{fault_not_sound, first_field, SoundBody, inside_sound, check_sound, shape_sound}
 use Rattle.notation.proofs.WrittenNames.{HeadKnown, Known, known, AllKnown, none_known, also_known}
 use Rattle.notation.proofs.TableStrings.{strings_read}
+use Rattle.rules.specs.Verdicts.{fault_at, no_fault}
 
 module _ (m : List ℕ) (n : ℕ) where
   -- ---- Heads cut out
@@ -73,7 +73,7 @@ module _ (m : List ℕ) (n : ℕ) where
     record NamesFrom (q : ℕ) : Type 0 where
       count : ℕ
       enough : e - q ≤ count
-      sound : names_known m n (places_up count m q e) ≡ Sound
+      sound : names_known m n (places_up count m q e) ≡ no_fault
 
     -- those of the field at q are, and those from the next one on
     record FirstNames (q : ℕ) : Type 0 where
@@ -85,17 +85,17 @@ module _ (m : List ℕ) (n : ℕ) where
     unfolding places_up names_known
     first_names q l f = go f.count f.enough f.sound
       where
-        test : (j : ℕ) → e - q ≤ suc j → (b : Bool) → names_right m n q (form_of (byte m q)) ≡ b → pick b (names_known m n (places_up j m (next_in_order m q) e)) (Fault StringOrder q) ≡ Sound → FirstNames q
+        test : (j : ℕ) → e - q ≤ suc j → (b : Bool) → names_right m n q (form_of (byte m q)) ≡ b → pick b (names_known m n (places_up j m (next_in_order m q) e)) (fault_at StringOrder q) ≡ no_fault → FirstNames q
         test j a true h w = record { here = h; later = record { count = j; enough = omega arith; sound = w } }
         test j a false h w = fault_not_sound w
 
-        go : (j : ℕ) → e - q ≤ j → names_known m n (places_up j m q e) ≡ Sound → FirstNames q
+        go : (j : ℕ) → e - q ≤ j → names_known m n (places_up j m q e) ≡ no_fault → FirstNames q
         go zero a w = absurd (omega arith)
         go (suc j) a w = test j a (names_right m n q (form_of (byte m q))) refl (rw (lt-ltb q e l) at w)
 
     -- a sound field at q, read with d levels left, has its names known, and those behind it are
     abbrev KnownAt : ℕ → Type 0
-    KnownAt d = (q : ℕ) → q < e → inside m d q ≡ Sound → end_of m q ≤ e → NamesFrom q → Known n (read_field m d q) × NamesFrom (end_of m q)
+    KnownAt d = (q : ℕ) → q < e → inside m d q ≡ no_fault → end_of m q ≤ e → NamesFrom q → Known n (read_field m d q) × NamesFrom (end_of m q)
 
     -- at the end there is no field
     no_field_known : (f : ℕ → Field) (q t : ℕ) → q ≤ t → t ≤ q → NamesFrom q → AllKnown n (read_each f (fields_in m q t)) × NamesFrom t
@@ -103,12 +103,12 @@ module _ (m : List ℕ) (n : ℕ) where
     no_field_known f q t a b names = (rw (no_fields m q t b) none_known, let same : q ≡ t = omega arith in subst NamesFrom same names)
 
     -- so have the fields from q to t, which are at most k
-    fields_known : (k d p : ℕ) (ps : Parts) (q t : ℕ) → KnownAt d → t - q ≤ k → q ≤ t → t ≤ e → walk m (inside m d) p ps t (fields_in m q t) ≡ Sound → NamesFrom q → AllKnown n (read_each (read_field m d) (fields_in m q t)) × NamesFrom t
+    fields_known : (k d p : ℕ) (ps : Parts) (q t : ℕ) → KnownAt d → t - q ≤ k → q ≤ t → t ≤ e → walk m (inside m d) p ps t (fields_in m q t) ≡ no_fault → NamesFrom q → AllKnown n (read_each (read_field m d) (fields_in m q t)) × NamesFrom t
     unfolding read_each
     fields_known zero d p ps q t each b l h w names = no_field_known (read_field m d) q t l (omega arith) names
     fields_known (suc k) d p ps q t each b l h w names = go (λ x y b l w i. fields_known k d p x y t each b l h w i) (ltb q t) refl
       where
-        go : ((ps : Parts) (q : ℕ) → t - q ≤ k → q ≤ t → walk m (inside m d) p ps t (fields_in m q t) ≡ Sound → NamesFrom q → AllKnown n (read_each (read_field m d) (fields_in m q t)) × NamesFrom t) → (x : Bool) → ltb q t ≡ x → AllKnown n (read_each (read_field m d) (fields_in m q t)) × NamesFrom t
+        go : ((ps : Parts) (q : ℕ) → t - q ≤ k → q ≤ t → walk m (inside m d) p ps t (fields_in m q t) ≡ no_fault → NamesFrom q → AllKnown n (read_each (read_field m d) (fields_in m q t)) × NamesFrom t) → (x : Bool) → ltb q t ≡ x → AllKnown n (read_each (read_field m d) (fields_in m q t)) × NamesFrom t
         go others_known false x = no_field_known (read_field m d) q t l (ltb-false q t x) names
         go others_known true x =
             let before : q < t = ltb-true q t x in
@@ -143,7 +143,7 @@ module _ (m : List ℕ) (n : ℕ) where
 
 -- ---- A sound manifest
 
-module _ (m : List ℕ) (bytes : IsBytes m) (w : check m ≡ Sound) where
+module _ (m : List ℕ) (bytes : IsBytes m) (w : check m ≡ no_fault) where
   -- each name in its items is below the number of its strings
   pub items_known : AllKnown (length (manifest_of m).strings) (others (read_all m))
   unfolding read_all read_each others places_in

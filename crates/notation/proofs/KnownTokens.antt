@@ -17,13 +17,13 @@ use Rattle.rules.specs.Ranges.{Each, none_left, also}
 use Rattle.rules.specs.Read.{manifest_of}
 use Rattle.rules.specs.Tree.{Constant, Expression, constant, variable, top_variable, class_variable, operation, negation, attribute_read, selector, Arms, no_arm, arm, default_arm, AttributeField, Statement, assignment, conditional, choice, built_in_resource, defined_resource, class_with_attributes, include, Block, end, next, Branches, no_branch, branch, default_branch, Parameter, Parent, type_definition, class_definition, Devices, named, by_default, Item, statement, definition}
 use Rattle.rules.specs.Tree
-use Rattle.rules.specs.declared.Verdict.TheVariants.{Sound}
 use Rattle.notation.specs.Tokens.{Token, Lexeme}
 use Rattle.notation.specs.Convert.{strings_of}
 use Rattle.notation.specs.Print.{at, the, Rest, level_of, bracketed, separated, printed_entries, printed_else, value_token, constant_lexeme, printed, printed_arms, printed_attribute, printed_attributes, printed_resource, printed_statement, printed_block, printed_branches, printed_default, printed_parameter, printed_parameters, printed_parent, printed_device, printed_devices, in_braces, printed_item, printed_items}
 use Rattle.notation.proofs.EntriesBack.{EachOf}
 use Rattle.notation.proofs.StringTable.{Among, at_first, later, StringsIn}
 use Rattle.notation.proofs.KnownTree.{KnownName, KnownValue, KnownConstant, KnownExpression, KnownArms, KnownAttribute, KnownStatement, KnownBlock, KnownBranches, KnownDefault, KnownParameter, KnownParent, KnownDevices, KnownItem, tree_known}
+use Rattle.rules.specs.Verdicts.{no_fault}
 
 -- Q holds of the string of each number below n
 module _ (S : ℕ → List ℕ) (Q : List ℕ → Type 0) (n : ℕ) (holds : (i : ℕ) → i < n → Q (S i)) where
@@ -199,7 +199,7 @@ numbered_among (s ∷ table) zero h = at_first
 numbered_among (s ∷ table) (suc i) h = later (numbered_among table i (omega arith))
 
 -- THE LAW: the strings in the tokens of a printed sound manifest are among its strings
-pub tokens_known : (m : List ℕ) → IsBytes m → check m ≡ Sound → Each (StringsIn (λ s. Among s (manifest_of m).strings)) (printed_items (string_at (manifest_of m).strings) (manifest_of m).items 0 (λ v. []))
+pub tokens_known : (m : List ℕ) → IsBytes m → check m ≡ no_fault → Each (StringsIn (λ s. Among s (manifest_of m).strings)) (printed_items (string_at (manifest_of m).strings) (manifest_of m).items 0 (λ v. []))
 tokens_known m bytes w =
     let strings : List (List ℕ) = (manifest_of m).strings in
     items_fine (string_at strings) (λ s. Among s strings) (length strings) (numbered_among strings) (manifest_of m).items (tree_known m bytes w) 0 (λ v. []) (λ v. none_left)

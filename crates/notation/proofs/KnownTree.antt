@@ -19,7 +19,6 @@ use Rattle.rules.specs.Catalog.{high_bytes}
 use Rattle.rules.specs.EditRule.{IsBytes}
 use Rattle.rules.specs.declared.Piece.{Piece}
 use Rattle.rules.specs.declared.Piece.TheVariants.{Name}
-use Rattle.rules.specs.declared.Verdict.TheVariants.{Sound}
 use Rattle.rules.proofs.Lists.{Each, none_left, also, Perhaps, not_there, there}
 use Rattle.rules.proofs.ReadBack.{FitsValue, fits_integer, fits_string, fits_boolean, two_back}
 use Rattle.rules.proofs.Fits.{FitsName, FitsConstant, FitsExpression, fits_constant, fits_variable, fits_top_variable, fits_class_variable, fits_operation, fits_negation, fits_attribute_read, fits_selector, fits_unreadable, FitsArms, fits_no_arm, fits_arm, fits_default_arm, FitsAttributeField, FitsStatement, fits_assignment, fits_conditional, fits_choice, fits_resource, fits_defined, fits_class, fits_include, fits_unreadable_statement, FitsBlock, fits_end, fits_next, FitsBranches, fits_no_branch, fits_branch, fits_default_branch, FitsParameter, FitsParent, fits_type_definition, fits_class_definitions, FitsDevices, fits_named, fits_by_default, FitsItem, fits_statement_item, fits_node, fits_definition_item, manifest_fits}
@@ -28,6 +27,7 @@ use Rattle.notation.proofs.EntriesBack.{EachOf}
 use Rattle.notation.proofs.TypedNamed.{items_back}
 use Rattle.notation.proofs.WrittenNames.{Known, known, AllKnown, none_known, also_known}
 use Rattle.notation.proofs.KnownFields.{items_known}
+use Rattle.rules.specs.Verdicts.{no_fault}
 
 -- ---- Each name in a form is below n
 
@@ -283,7 +283,7 @@ module _ (n : ℕ) where
 -- ---- A sound manifest
 
 -- each name in its tree is below the number of its strings
-pub tree_known : (m : List ℕ) → IsBytes m → check m ≡ Sound → EachOf (KnownItem (length (manifest_of m).strings)) (manifest_of m).items
+pub tree_known : (m : List ℕ) → IsBytes m → check m ≡ no_fault → EachOf (KnownItem (length (manifest_of m).strings)) (manifest_of m).items
 tree_known m bytes w =
     let n : ℕ = length (manifest_of m).strings in
     each_item_known n bytes (manifest_fits m) (rw (items_back m bytes w) (all_unplaced_known n (items_known m bytes w)))

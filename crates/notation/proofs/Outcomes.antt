@@ -7,9 +7,9 @@ use native.Mathlib.Omega.{arith}
 use Rattle.values.specs.declared.Reason.{Reason}
 use Rattle.rules.specs.Compile.{checked}
 use Rattle.rules.specs.Outcome.{Outcome, refused, done, ◌>>=◌, refuse_if}
-use Rattle.rules.specs.declared.Verdict.{Verdict}
-use Rattle.rules.specs.declared.Verdict.TheVariants.{Sound, Fault}
 use Rattle.notation.specs.Convert.{refuse_at}
+use Rattle.std.specs.Prelude.{Ok, Err}
+use Rattle.rules.specs.Verdicts.{Verdict, no_fault}
 
 pub refused_not_done : {A B : Type 0} {r : Reason} {p : ℕ} {a : A} → refused r p ≡ done a → B
 refused_not_done e = absurd (let z : ◌≡◌ {A = ℕ} 0 1 = cc in omega arith)
@@ -39,7 +39,7 @@ not_refused_at none x e = refl
 not_refused_at (some p) x e = refused_not_done e
 
 -- a check that found no fault
-pub checked_sound : (v : Verdict) {z : Unit {0}} → checked v ≡ done z → v ≡ Sound
+pub checked_sound : (v : Verdict) {z : Unit {0}} → checked v ≡ done z → v ≡ no_fault
 unfolding checked
-checked_sound Sound e = refl
-checked_sound (Fault r p) e = refused_not_done e
+checked_sound (Ok tt) e = refl
+checked_sound (Err f) e = refused_not_done e

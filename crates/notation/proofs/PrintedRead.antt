@@ -11,7 +11,6 @@ use Rattle.rules.specs.Read.{manifest_of}
 use Rattle.rules.specs.Compile.{string_at}
 use Rattle.rules.specs.EditRule.{IsBytes}
 use Rattle.rules.specs.Ranges.{Each, none_left}
-use Rattle.rules.specs.declared.Verdict.TheVariants.{Sound}
 use Rattle.rules.proofs.Fits.{manifest_fits}
 use Rattle.rules.proofs.TypedBack.{item_fields}
 use Rattle.rules.proofs.TypedBack
@@ -44,6 +43,7 @@ use Rattle.notation.proofs.LexedGood.{GoodLexeme}
 use Rattle.notation.proofs.KnownTokens.{tokens_known}
 use Rattle.notation.proofs.Trees.{tree_listed}
 use Rattle.notation.proofs.OverUnplaced.{Passed, never_stopped, goes_past, label_after, over_all_unplaced}
+use Rattle.rules.specs.Verdicts.{no_fault}
 
 -- ---- Tokens
 
@@ -71,7 +71,7 @@ pub record ReadBack (types : Types) (m : List ℕ) : Type 0 where
   pub whole : reading types (tokens (text_of (manifest_of m))) ≡ built (build 0 (frame 0 0 [] items) [])
   pub same : unplaced_all items ≡ named_tree m
 
-module _ (types : Types) (m : List ℕ) (bytes : IsBytes m) (sound : check m ≡ Sound) (printable : unprintable_at types m ≡ none) where
+module _ (types : Types) (m : List ℕ) (bytes : IsBytes m) (sound : check m ≡ no_fault) (printable : unprintable_at types m ≡ none) where
   abbrev S : ℕ → List ℕ
   S n = string_at (manifest_of m).strings n
 

@@ -14,7 +14,6 @@ use Rattle.rules.specs.Check.{check}
 use Rattle.rules.specs.Compile.{checked}
 use Rattle.rules.specs.Read.{manifest_of}
 use Rattle.rules.specs.EditRule.{IsBytes}
-use Rattle.rules.specs.declared.Verdict.TheVariants.{Sound}
 use Rattle.rules.proofs.Lists.{either_left, either_right}
 use Rattle.rules.specs.Types.{Types, check_types}
 use Rattle.notation.specs.Lexing.{tokens}
@@ -24,11 +23,12 @@ use Rattle.notation.specs.Named.{named_tree}
 use Rattle.notation.proofs.Outcomes.{both_done_lem, not_refused, not_refused_at, checked_sound}
 use Rattle.notation.proofs.PrintedRead.{text_known, text_good, read_back}
 use Rattle.notation.proofs.ConvertedBack.{converted_back}
+use Rattle.rules.specs.Verdicts.{no_fault}
 
 -- what a manifest passed that was printed
 pub record Printed (types : Types) (m t : List ℕ) : Type 0 where
-  pub listed : check_types types ≡ Sound
-  pub sound : check m ≡ Sound
+  pub listed : check_types types ≡ no_fault
+  pub sound : check m ≡ no_fault
   pub short : length m ≤ 65535
   pub printable : unprintable_at types m ≡ none
   pub same : text_of (manifest_of m) ≡ t

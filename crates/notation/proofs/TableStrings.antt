@@ -23,12 +23,12 @@ use Rattle.rules.specs.declared.Rest.{Rest}
 use Rattle.rules.specs.declared.Rest.TheVariants.{Only, Text as AnyText, Fields as Inner}
 use Rattle.rules.specs.declared.Took.TheVariants.{Takes, Passes}
 use Rattle.rules.specs.declared.Next.TheVariants.{Go, Wrong}
-use Rattle.rules.specs.declared.Verdict.TheVariants.{Sound, Fault}
 use Rattle.values.specs.declared.Reason.TheVariants.{StringOrder}
 use Rattle.rules.proofs.Lists.{Each, none_left, also}
 use Rattle.rules.proofs.Within.{wrong_not_go, fault_not_sound, first_field, inside_sound, level_left, check_sound, shape_sound}
 use Rattle.notation.proofs.Written.{ShortText}
 use Rattle.notation.proofs.WrittenNames.{Rising, no_string, one_string, next_string}
+use Rattle.rules.specs.Verdicts.{fault_at, no_fault}
 
 -- ---- Texts
 
@@ -122,11 +122,11 @@ module _ (m : List ℕ) (bytes : IsBytes m) (d p e : ℕ) where
     short = rw (field_first m q e l) (also few_bytes o.short);
   }
 
-  strings_are : (k n q : ℕ) → e - q ≤ k → walk m (inside m d) p (three (UpTo n AText) Over Over) e (fields_in m q e) ≡ Sound → StringsAre m d n q e
+  strings_are : (k n q : ℕ) → e - q ≤ k → walk m (inside m d) p (three (UpTo n AText) Over Over) e (fields_in m q e) ≡ no_fault → StringsAre m d n q e
   strings_are zero n q b w = no_strings_left n q (omega arith)
   strings_are (suc k) n q b w = go (λ j r c v. strings_are k j r c v) (ltb q e) refl
     where
-      go : ((n q : ℕ) → e - q ≤ k → walk m (inside m d) p (three (UpTo n AText) Over Over) e (fields_in m q e) ≡ Sound → StringsAre m d n q e) → (t : Bool) → ltb q e ≡ t → StringsAre m d n q e
+      go : ((n q : ℕ) → e - q ≤ k → walk m (inside m d) p (three (UpTo n AText) Over Over) e (fields_in m q e) ≡ no_fault → StringsAre m d n q e) → (t : Bool) → ltb q e ≡ t → StringsAre m d n q e
       go others-are false t = no_strings_left n q (ltb-false q e t)
       go others-are true t =
           let l : q < e = ltb-true q e t in
@@ -154,16 +154,16 @@ unfolding allowed
 table_tag t e = eqb-true t 1 e
 
 -- each string against the one before it
-risen_from : (m : List ℕ) (a : ℕ) (ps : List ℕ) → rising_from m a ps ≡ Sound → Rising (text m a ∷ map (text m) ps)
+risen_from : (m : List ℕ) (a : ℕ) (ps : List ℕ) → rising_from m a ps ≡ no_fault → Rising (text m a ∷ map (text m) ps)
 unfolding rising_from
 risen_from m a [] w = one_string
 risen_from m a (b ∷ ps) w = go (ascends (text m a) (text m b)) refl (λ v. risen_from m b ps v) w
   where
-    go : (x : Bool) → ascends (text m a) (text m b) ≡ x → (rising_from m b ps ≡ Sound → Rising (text m b ∷ map (text m) ps)) → pick x (rising_from m b ps) (Fault StringOrder b) ≡ Sound → Rising (text m a ∷ text m b ∷ map (text m) ps)
+    go : (x : Bool) → ascends (text m a) (text m b) ≡ x → (rising_from m b ps ≡ no_fault → Rising (text m b ∷ map (text m) ps)) → pick x (rising_from m b ps) (fault_at StringOrder b) ≡ no_fault → Rising (text m a ∷ text m b ∷ map (text m) ps)
     go true x later w = next_string x (later w)
     go false x later w = fault_not_sound w
 
-risen : (m : List ℕ) (ps : List ℕ) → rising m ps ≡ Sound → Rising (map (text m) ps)
+risen : (m : List ℕ) (ps : List ℕ) → rising m ps ≡ no_fault → Rising (map (text m) ps)
 unfolding rising
 risen m [] w = no_string
 risen m (a ∷ ps) w = risen_from m a ps w
@@ -181,11 +181,11 @@ numbered_short (also h hs) (suc n) = numbered_short hs n
 
 -- ---- A sound manifest
 
-module _ (m : List ℕ) (bytes : IsBytes m) (w : check m ≡ Sound) where
+module _ (m : List ℕ) (bytes : IsBytes m) (w : check m ≡ no_fault) where
   -- it begins with the table, which ends within it
   record TableThere : Type 0 where
     tag : byte m 0 ≡ 1
-    sound : inside m 32 0 ≡ Sound
+    sound : inside m 32 0 ≡ no_fault
     ends : end_of m 0 ≤ length m
 
   table_there : TableThere

@@ -11,7 +11,6 @@ use Rattle.rules.specs.Compile.{string_at}
 use Rattle.rules.specs.EditRule.{IsBytes}
 use Rattle.rules.specs.declared.Kind.TheVariants.{Table, Item}
 use Rattle.rules.specs.declared.Part.TheVariants.{Over, One, Many}
-use Rattle.rules.specs.declared.Verdict.TheVariants.{Sound}
 use Rattle.rules.proofs.Listed.{Listed, all_listed}
 use Rattle.notation.specs.Building.{Nodes, empty, ◌▸◌, height, tallest}
 use Rattle.notation.specs.Named.{named, named_onto, named_tree}
@@ -19,6 +18,7 @@ use Rattle.notation.proofs.Written.{All, no_field, also_field}
 use Rattle.notation.proofs.Expected.{items_onto}
 use Rattle.notation.proofs.ListedParts.{each_of_parts, each_inside}
 use Rattle.notation.proofs.TypedNamed.{tree_named}
+use Rattle.rules.specs.Verdicts.{no_fault}
 
 module _ (strings : List (List ℕ)) where
   -- a field as listed of at most d levels gives a node of at most d
@@ -41,7 +41,7 @@ unfolding others
 all_behind no_field = no_field
 all_behind (also_field p all) = all
 
-module _ (m : List ℕ) (bytes : IsBytes m) (w : check m ≡ Sound) where
+module _ (m : List ℕ) (bytes : IsBytes m) (w : check m ≡ no_fault) where
   pub named_low : tallest (named_tree m) ≤ 32
   unfolding named_tree height
   named_low = fields_low (manifest_of m).strings 32 (field_low (manifest_of m).strings 32) (all_behind (each_of_parts (three (One Table) (Many Item) Over) (all_listed m bytes w))) empty (omega arith)

@@ -13,7 +13,6 @@ use Rattle.rules.specs.Read.{manifest_of}
 use Rattle.rules.specs.Catalog.{high_bytes}
 use Rattle.rules.specs.Compile.{string_at}
 use Rattle.rules.specs.EditRule.{IsBytes}
-use Rattle.rules.specs.declared.Verdict.TheVariants.{Sound}
 use Rattle.rules.proofs.Lists.{Each, none_left, also, Perhaps, not_there, there}
 use Rattle.rules.proofs.ReadBack.{FitsValue, fits_integer, fits_string, fits_boolean, two_back}
 use Rattle.rules.proofs.Fits.{FitsName, FitsConstant, FitsExpression, fits_constant, fits_variable, fits_top_variable, fits_class_variable, fits_operation, fits_negation, fits_attribute_read, fits_selector, fits_unreadable, FitsArms, fits_no_arm, fits_arm, fits_default_arm, FitsAttributeField, FitsStatement, fits_assignment, fits_conditional, fits_choice, fits_resource, fits_defined, fits_class, fits_include, fits_unreadable_statement, FitsBlock, fits_end, fits_next, FitsBranches, fits_no_branch, fits_branch, fits_default_branch, FitsParameter, FitsParent, fits_type_definition, fits_class_definitions, FitsDevices, fits_named, fits_by_default, FitsItem, fits_statement_item, fits_node, fits_definition_item, manifest_fits}
@@ -21,6 +20,7 @@ use Rattle.rules.proofs.TypedBack.{value_field, constant_field, operator_byte, e
 use Rattle.notation.specs.Building.{Piece, byte, name, Node, node, Nodes, empty, ◌▸◌, leaf}
 use Rattle.notation.specs.Named.{named_piece, named_head, named, named_onto, named_tree}
 use Rattle.notation.proofs.Expected.{bare_node, default_node, nodes_onto, value_node, constant_node_of, node_of, arms_onto, attribute_node, statement_node, block_onto, branches_onto, block_node, default_onto, parameter_node, parent_onto, device_node, devices_onto, item_node, items_onto}
+use Rattle.rules.specs.Verdicts.{no_fault}
 
 -- ---- Places do not matter
 
@@ -192,7 +192,7 @@ unfolding others unplaced
 others_unplaced none = refl
 others_unplaced (more k ks) = refl
 
-module _ (m : List ℕ) (bytes : IsBytes m) (w : check m ≡ Sound) where
+module _ (m : List ℕ) (bytes : IsBytes m) (w : check m ≡ no_fault) where
   -- the items of a sound manifest, written as fields, are the fields read behind the table, but for the places
   pub items_back : item_fields (manifest_of m).items ≡ unplaced_all (others (read_all m))
   unfolding fields_of others

@@ -16,7 +16,6 @@ use Rattle.rules.specs.EditRule.{IsBytes}
 use Rattle.rules.specs.declared.Kind.{Kind}
 use Rattle.rules.specs.declared.Kind.TheVariants.{Table, Expression as ExpressionKind, Statement as StatementKind, Item as ItemKind}
 use Rattle.rules.specs.declared.Part.TheVariants.{Over, One, Many}
-use Rattle.rules.specs.declared.Verdict.TheVariants.{Sound}
 use Rattle.rules.proofs.Within.{false_not_true}
 use Rattle.rules.proofs.Listed.{Same, same, OneOf, one, ManyOf, none_of_many, one_of_many, NamesOf, default_name, device_names, AsListed, Listed, all_listed}
 use Rattle.rules.proofs.TypedBack.{constant_field, expression_field, arm_fields, attribute_fields, statement_field, block_fields, branch_fields, parameter_fields, parent_fields, device_fields, devices_fields, definition_field, item_field, item_fields, fields_of, typed_back}
@@ -28,6 +27,7 @@ use Rattle.notation.proofs.ExpressionsBack.{SomeArm, Whole, WholeArms}
 use Rattle.notation.proofs.StatementsBack.{WholeAttribute, WholeStatement, WholeBlock, WholeBranches}
 use Rattle.notation.proofs.ItemsBack.{SomeDevice, WholeItem}
 use Rattle.notation.proofs.ListedParts.{each_inside, all_first, all_others, parts_unplaced, listed_unplaced}
+use Rattle.rules.specs.Verdicts.{no_fault}
 
 -- ---- The types of resources
 
@@ -290,7 +290,7 @@ module _ (types : Types) (S : ℕ → List ℕ) where
 -- ---- The manifest
 
 -- the items of a sound manifest, whose resources' types are of the right sort, are whole
-pub manifest_whole : (types : Types) (m : List ℕ) → IsBytes m → check m ≡ Sound → (S : ℕ → List ℕ) → TypesRight types S (manifest_of m).items → EachOf (WholeItem types S) (manifest_of m).items
+pub manifest_whole : (types : Types) (m : List ℕ) → IsBytes m → check m ≡ no_fault → (S : ℕ → List ℕ) → TypesRight types S (manifest_of m).items → EachOf (WholeItem types S) (manifest_of m).items
 unfolding fields_of others
 manifest_whole types m bytes w S r =
     let parts = parts_unplaced (Listed 32) (Listed 32) (λ f a. listed_unplaced 32 f a) (three (One Table) (Many ItemKind) Over) (all_listed m bytes w) in

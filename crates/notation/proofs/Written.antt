@@ -23,12 +23,12 @@ use Rattle.rules.specs.declared.Rest.TheVariants.{Only, Text, Fields as Inner}
 use Rattle.rules.specs.declared.Form.{Form}
 use Rattle.rules.specs.declared.Next.{Next}
 use Rattle.rules.specs.declared.Next.TheVariants.{Go, Wrong}
-use Rattle.rules.specs.declared.Verdict.TheVariants.{Sound, Fault}
 use Rattle.values.specs.declared.Reason.TheVariants.{Malformed}
 use Rattle.rules.proofs.Lists.{both_left, both_right, both_true}
 use Rattle.rules.proofs.Within.{wrong_not_go}
 use Rattle.rules.proofs.Listed.{Same, same, HeadIs}
 use Rattle.notation.proofs.Stands.{Stands, stands_whole, stands_first, stands_second, body_of, FieldAt, field_at, starts, fields_found}
+use Rattle.rules.specs.Verdicts.{fault_at, no_fault}
 
 -- ---- Trees as listed
 
@@ -187,10 +187,10 @@ module _ (m : List ℕ) where
 
   -- what is inside a right field of at most d levels is sound where it is written
   abbrev SoundAt : ℕ → Type 0
-  SoundAt d = (q : ℕ) (k : Field) → Right d k → Stands m q (write k) → inside m d q ≡ Sound
+  SoundAt d = (q : ℕ) (k : Field) → Right d k → Stands m q (write k) → inside m d q ≡ no_fault
 
   -- so is the walk over right fields, where none is missing
-  walk_right : (d p : ℕ) → SoundAt d → {ks : Fields} → All (Right d) ks → (ps last : Parts) (q e : ℕ) → after ps ks ≡ Go last → may_end last ≡ true → Stands m q (write_all ks) → e ≡ q + length (write_all ks) → walk m (inside m d) p ps e (starts q ks) ≡ Sound
+  walk_right : (d p : ℕ) → SoundAt d → {ks : Fields} → All (Right d) ks → (ps last : Parts) (q e : ℕ) → after ps ks ≡ Go last → may_end last ≡ true → Stands m q (write_all ks) → e ≡ q + length (write_all ks) → walk m (inside m d) p ps e (starts q ks) ≡ no_fault
   unfolding walk starts after write_all
   walk_right d p each no_field ps last q e reached ends s h =
       let may : may_end ps ≡ true = cc in
@@ -201,14 +201,14 @@ module _ (m : List ℕ) where
       let second = stands_second (write k) (write_all ks) s in
       rw (header_right d k ps q e r (field_at k first) (omega arith), each q k r first) (go (follow ps (tag_of k)) reached (λ next reached. walk_right d p each all next last (q + length (write k)) e reached ends second (omega arith)))
     where
-      go : (x : Next) → onward x (λ next. after next ks) ≡ Go last → ((next : Parts) → after next ks ≡ Go last → walk m (inside m d) p next e (starts (q + length (write k)) ks) ≡ Sound) → allowing x (λ next. walk m (inside m d) p next e (starts (q + length (write k)) ks)) (Fault Malformed q) ≡ Sound
+      go : (x : Next) → onward x (λ next. after next ks) ≡ Go last → ((next : Parts) → after next ks ≡ Go last → walk m (inside m d) p next e (starts (q + length (write k)) ks) ≡ no_fault) → allowing x (λ next. walk m (inside m d) p next e (starts (q + length (write k)) ks)) (fault_at Malformed q) ≡ no_fault
       go (Go next) reached others = others next reached
       go Wrong reached others = wrong_not_go reached
 
   -- ---- One field with the levels left for it
 
   -- what follows the pieces of a right field is sound
-  rest_right_lem : (d q : ℕ) → SoundAt d → (l : Form) (h : List ℕ) (ks : Fields) (x : Rest) → Stands m (q + 3) (h ++ write_all ks) → end_of m q ≡ q + 3 + length (h ++ write_all ks) → RightHead x l h → RightInner (Right d) x ks → rest m (inside m d) q (q + 3 + head_size l) x ≡ Sound
+  rest_right_lem : (d q : ℕ) → SoundAt d → (l : Form) (h : List ℕ) (ks : Fields) (x : Rest) → Stands m (q + 3) (h ++ write_all ks) → end_of m q ≡ q + 3 + length (h ++ write_all ks) → RightHead x l h → RightInner (Right d) x ks → rest m (inside m d) q (q + 3 + head_size l) x ≡ no_fault
   unfolding rest
   rest_right_lem d q each l h ks Only s e r i = refl
   rest_right_lem d q each l h ks Text s e r i = refl
@@ -219,7 +219,7 @@ module _ (m : List ℕ) where
       rw (fields_found ks (q + 3 + head_size l) (end_of m q) at (omega arith)) (walk_right d q each c.each ps c.last (q + 3 + head_size l) (end_of m q) c.reached c.ends at (omega arith))
 
   -- a right field is sound where it is written
-  field_sound : (d q : ℕ) (k : Field) → Right d k → Stands m q (write k) → inside m d q ≡ Sound
+  field_sound : (d q : ℕ) (k : Field) → Right d k → Stands m q (write k) → inside m d q ≡ no_fault
   unfolding inside body tag_of body_of head_of inner
   field_sound zero q k r s = absurd r
   field_sound (suc d) q (field p t h ks) r s =
@@ -237,7 +237,7 @@ abbrev pub manifest_parts : Parts
 manifest_parts = three (One Table) (Many Item) Over
 
 -- a manifest that is written of right fields has the shape that the check asks for
-pub shape_right : (ks : Fields) → Complete (Right 32) manifest_parts ks → shape (write_all ks) ≡ Sound
+pub shape_right : (ks : Fields) → Complete (Right 32) manifest_parts ks → shape (write_all ks) ≡ no_fault
 unfolding shape
 shape_right ks c =
     let m : List ℕ = write_all ks in

@@ -23,12 +23,12 @@ use Rattle.rules.specs.declared.Form.{Form}
 use Rattle.rules.specs.declared.Took.TheVariants.{Takes, Passes}
 use Rattle.rules.specs.declared.Next.{Next}
 use Rattle.rules.specs.declared.Next.TheVariants.{Go, Wrong}
-use Rattle.rules.specs.declared.Verdict.TheVariants.{Sound}
 use Rattle.rules.proofs.Lists.{both_true}
 use Rattle.rules.proofs.Within.{wrong_not_go}
 use Rattle.rules.proofs.Listed.{Same, same}
 use Rattle.notation.proofs.Stands.{Stands, stands_first, stands_second, stands_taken, body_of, field_at, starts}
 use Rattle.notation.proofs.Written.{onward, after, All, no_field, also_field, RightHead, RightInner, RightBody, Right, head_fits, each_inner}
+use Rattle.rules.specs.Verdicts.{no_fault}
 
 -- ---- Names
 
@@ -85,7 +85,7 @@ module _ (m : List ℕ) (n : ℕ) where
   module _ (e : ℕ) where
     -- the names of the fields from q up to e are known, of as many as are counted
     abbrev pub KnownFrom : ℕ → Type 0
-    KnownFrom q = (j : ℕ) → names_known m n (places_up j m q e) ≡ Sound
+    KnownFrom q = (j : ℕ) → names_known m n (places_up j m q e) ≡ no_fault
 
     -- from e on there is none
     pub none_further : KnownFrom e
@@ -99,7 +99,7 @@ module _ (m : List ℕ) (n : ℕ) where
     one_further q here later zero = refl
     one_further q here later (suc j) = go (ltb q e)
       where
-        go : (b : Bool) → names_known m n (pick b (q ∷ places_up j m (next_in_order m q) e) []) ≡ Sound
+        go : (b : Bool) → names_known m n (pick b (q ∷ places_up j m (next_in_order m q) e) []) ≡ no_fault
         go true = rw here (later j)
         go false = refl
 
@@ -203,7 +203,7 @@ module _ (m : List ℕ) where
       stands_taken (two m (q + 1)) f.count f.body ∙ body
 
   -- strings that rise from the one at a on
-  rising_on : {ks : Fields} → All StringField ks → (a q : ℕ) → Rising (text m a ∷ strings_from ks) → Stands m q (write_all ks) → rising_from m a (starts q ks) ≡ Sound
+  rising_on : {ks : Fields} → All StringField ks → (a q : ℕ) → Rising (text m a ∷ strings_from ks) → Stands m q (write_all ks) → rising_from m a (starts q ks) ≡ no_fault
   unfolding rising_from starts write_all
   rising_on no_field a q w s = refl
   rising_on (also_field {k = k} {ks = ks} i all) a q w s =
@@ -212,7 +212,7 @@ module _ (m : List ℕ) where
       rw x.0 (rising_on all q (q + length (write k)) x.1 (stands_second (write k) (write_all ks) s))
 
   -- strings that rise pass the check
-  pub rising_right : {ks : Fields} → All StringField ks → (q : ℕ) → Rising (strings_from ks) → Stands m q (write_all ks) → rising m (starts q ks) ≡ Sound
+  pub rising_right : {ks : Fields} → All StringField ks → (q : ℕ) → Rising (strings_from ks) → Stands m q (write_all ks) → rising m (starts q ks) ≡ no_fault
   unfolding rising starts write_all
   rising_right no_field q w s = refl
   rising_right (also_field {k = k} {ks = ks} i all) q w s =

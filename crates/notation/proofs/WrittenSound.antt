@@ -16,11 +16,11 @@ use Rattle.rules.specs.declared.Part.TheVariants.{Over, Many}
 use Rattle.rules.specs.declared.Parts.{Parts}
 use Rattle.rules.specs.declared.Next.{Next}
 use Rattle.rules.specs.declared.Next.TheVariants.{Go, Wrong}
-use Rattle.rules.specs.declared.Verdict.TheVariants.{Sound}
 use Rattle.rules.proofs.Within.{false_not_true, wrong_not_go, one_came}
 use Rattle.notation.proofs.Stands.{Stands, stands_whole, stands_first, stands_second, body_of, FieldAt, field_at, starts, fields_found}
 use Rattle.notation.proofs.Written.{onward, after, All, also_field, Complete, RightBody, Right, manifest_parts, shape_right}
 use Rattle.notation.proofs.WrittenNames.{AllKnown, none_further, fields_known, field_known, Rising, StringField, all_strings, strings_counted, rising_right}
+use Rattle.rules.specs.Verdicts.{no_fault}
 
 -- ---- The string table
 
@@ -84,11 +84,11 @@ module _ (ks : Fields) (c : Complete (Right 32) manifest_parts ks) where
   strings_number = let table = (opened 32 ks c).table in ap length table.found ∙ strings_counted table.strings 3
 
   -- strings that rise are sound
-  pub strings_written : Rising (strings_from (inner (first ks))) → rising manifest (string_places manifest) ≡ Sound
+  pub strings_written : Rising (strings_from (inner (first ks))) → rising manifest (string_places manifest) ≡ no_fault
   strings_written up = let table = (opened 32 ks c).table in rw table.found (rising_right manifest table.strings 3 up table.stand)
 
   -- names below n are sound
-  pub names_written : (n : ℕ) → AllKnown n (others ks) → names_known manifest n (places_in manifest (end_of manifest 0) (length manifest)) ≡ Sound
+  pub names_written : (n : ℕ) → AllKnown n (others ks) → names_known manifest n (places_in manifest (end_of manifest 0) (length manifest)) ≡ no_fault
   unfolding places_in
   names_written n w =
       let o = opened 32 ks c in
@@ -96,6 +96,6 @@ module _ (ks : Fields) (c : Complete (Right 32) manifest_parts ks) where
       fields_known manifest n e 32 (λ q k r w s l. field_known manifest n e 32 q k r w s l) o.items w (end_of manifest 0) o.stand (rw o.ends (none_further manifest n e)) (e - end_of manifest 0)
 
   -- with strings that rise and names below their number, the manifest passes the check
-  pub written_sound : Rising (strings_from (inner (first ks))) → AllKnown (length (strings_from (inner (first ks)))) (others ks) → check manifest ≡ Sound
+  pub written_sound : Rising (strings_from (inner (first ks))) → AllKnown (length (strings_from (inner (first ks)))) (others ks) → check manifest ≡ no_fault
   unfolding check
   written_sound up w = rw (shape_right ks c, strings_written up, strings_number) (names_written (length (strings_from (inner (first ks)))) w)

@@ -1,5 +1,5 @@
 -- From a text to a manifest: the table of its strings, the tree with their numbers, the refusals, and every byte lent.
-use Rattle.std.specs.Prelude.{ℕ, ◌-◌, min, List, [], ◌∷◌, ◌++◌, Bool, ◌&&◌, ◌||◌, ltb, length, replicate}
+use Rattle.std.specs.Prelude.{ℕ, ◌-◌, min, List, [], ◌∷◌, ◌++◌, Bool, ◌&&◌, ◌||◌, ltb, length, replicate, Ok, Err}
 use Rattle.std.proofs.Math.Option.{Option, none, some}
 use Rattle.values.specs.declared.Reason.TheVariants.{MemoryTooShort, OutsideNotation, PastLine255}
 use Rattle.values.specs.declared.Reason.{Reason}
@@ -16,8 +16,8 @@ use Rattle.notation.specs.Tokens.{Token, word, number, text, variable, top_varia
 use Rattle.notation.specs.Lexing.{tokens}
 use Rattle.notation.specs.Building.{Piece, byte, name, Node, node, Nodes, empty, ◌▸◌, frame, build}
 use Rattle.notation.specs.Grammar.{or_zero, Ended, built, fault, reading}
-use Rattle.notation.specs.declared.Answer.{Answer}
-use Rattle.notation.specs.declared.Answer.TheVariants.{Written, Refused}
+use Rattle.notation.specs.Answers.{Answer}
+use Rattle.values.specs.Answers.{refused_for}
 
 -- ---- Strings: "the table holds exactly the strings that fields name, once, rising"
 
@@ -140,8 +140,8 @@ converted types given output_length memory_length = do
 -- ---- What a call of a text tool leaves
 
 unfoldable pub answer_of : Outcome (List ℕ) → Answer
-answer_of (refused reason place) = Refused reason place
-answer_of (done written) = Written (length written)
+answer_of (refused reason place) = refused_for reason place
+answer_of (done written) = Ok (length written)
 
 -- "a refusal leaves all output zero"; behind what is written the output is zero
 unfoldable pub output_of : (output_length : ℕ) → Outcome (List ℕ) → List ℕ
@@ -166,5 +166,5 @@ pub data Said : Type 0 where
   refusal : (number place : ℕ) → Said
 
 unfoldable pub said : Answer → Said
-said (Written n) = accepted n
-said (Refused r p) = refusal (number_of r) p
+said (Ok n) = accepted n
+said (Err f) = refusal (number_of f.reason) f.place

@@ -8,3 +8,4 @@ pub mod Layout
 pub mod Printer
 pub mod Named
 pub mod Quoted
+pub mod Answers

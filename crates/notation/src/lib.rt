@@ -1,14 +1,10 @@
 // What the text tools answer, and the kinds of tokens. What a text means, and how a manifest is printed, stand in specs/; nothing runs here.
 #![tactic(auto)]
 
-use values::Reason;
+use values::Refusal;
 
 // The kinds of tokens.
 pub mod kinds;
 
 // The length of what was written, or the reason for refusing and its place.
-#[derive(Clone, Copy)]
-pub enum Answer {
-    Written { length: u16 },
-    Refused { reason: Reason, place: u16 },
-}
+pub type Answer = Result<u16, Refusal>;

@@ -15,12 +15,11 @@ use Rattle.rules.specs.Evaluate.{any, first_with}
 use Rattle.rules.specs.Run.{Given, is_given, named_once, is_parameter, parameters_known, default_of, given_or, parameter_values}
 use Rattle.rules.proofs.Lists.{none_left, also}
 use Rattle.places.specs.At.{default_at, parameter_at, parameters_at}
-use Rattle.catalog.specs.declared.Place.{Place}
-use Rattle.catalog.specs.declared.Place.TheVariants.{At, Nothing}
 use Rattle.attributes.specs.Names.{has_name, Alike, alike_none, alike}
 use Rattle.attributes.specs.Table.{content_of, Gives}
 use Rattle.parameters.specs.Places.{unknown_in, or_default, parameter_value, or_missing, missing_in}
 use Rattle.parameters.specs.Checked.{check_given, SmallNames}
+use Rattle.std.specs.Prelude.{Option as CodeOption, Some, None}
 
 -- ---- Names
 
@@ -30,9 +29,9 @@ unfolding any is_parameter parameters_at parameter_at
 named_parameter m n [] = refl
 named_parameter m n (q ∷ qs) = ap (λ (b : Bool). eqb (two m (q + 3)) n || b) (named_parameter m n qs)
 
-unfoldable pub unknown_outcome : Place → Outcome (Unit {0})
-unknown_outcome (At q) = refused UnknownParameter q
-unknown_outcome Nothing = done tt
+unfoldable pub unknown_outcome : CodeOption ℕ → Outcome (Unit {0})
+unknown_outcome (Some q) = refused UnknownParameter q
+unknown_outcome None = done tt
 
 pub known_places : (m : List ℕ) (ps : List ℕ) {gs : List Given} {qs : List ℕ} → Alike m gs qs → parameters_known (parameters_at m ps) gs ≡ unknown_outcome (unknown_in m ps qs)
 unfolding parameters_known unknown_in unknown_outcome refuse_if ◌>>=◌
@@ -40,7 +39,7 @@ known_places m ps alike_none = refl
 known_places m ps (alike {q = q} {gs = gs} {qs = qs} a) =
     ap (λ (b : Bool). refuse_if (not b) UnknownParameter q >>= λ _. parameters_known (parameters_at m ps) gs) (sym (named_parameter m (two m (q + 3)) ps)) ∙ go (known_places m ps a) (any (has_name m (two m (q + 3))) ps)
   where
-    go : parameters_known (parameters_at m ps) gs ≡ unknown_outcome (unknown_in m ps qs) → (b : Bool) → (refuse_if (not b) UnknownParameter q >>= λ _. parameters_known (parameters_at m ps) gs) ≡ unknown_outcome (pick b (unknown_in m ps qs) (At q))
+    go : parameters_known (parameters_at m ps) gs ≡ unknown_outcome (unknown_in m ps qs) → (b : Bool) → (refuse_if (not b) UnknownParameter q >>= λ _. parameters_known (parameters_at m ps) gs) ≡ unknown_outcome (pick b (unknown_in m ps qs) (Some q))
     go later true = later
     go later false = refl
 
@@ -65,11 +64,11 @@ module _ {t : List ℕ} {gs : List Given} (g : Gives t gs) (m : List ℕ) where
   values_first q qs small = ap (λ (o : Option Labelled). or_refuse o MissingParameter q >>= λ x. parameter_values (parameters_at m qs) gs >>= λ vs. done (given_to m q x ∷ vs)) (sym (value_given q small))
 
 -- the values, or the place of the first parameter without one
-pub data Valued (o : Outcome (List Given)) : Place → Type 0 where
-  misses_at : {q : ℕ} → o ≡ refused MissingParameter q → Valued o (At q)
-  valued : (vs : List Given) → o ≡ done vs → Valued o Nothing
+pub data Valued (o : Outcome (List Given)) : CodeOption ℕ → Type 0 where
+  misses_at : {q : ℕ} → o ≡ refused MissingParameter q → Valued o (Some q)
+  valued : (vs : List Given) → o ≡ done vs → Valued o None
 
-valued_more : {o : Outcome (List Given)} {p : Place} (g : Given) → Valued o p → Valued (o >>= λ vs. done (g ∷ vs)) p
+valued_more : {o : Outcome (List Given)} {p : CodeOption ℕ} (g : Given) → Valued o p → Valued (o >>= λ vs. done (g ∷ vs)) p
 unfolding ◌>>=◌
 valued_more g (misses_at {q = q} e) = misses_at {q = q} (rw e)
 valued_more g (valued vs e) = valued (g ∷ vs) (rw e)

@@ -1,7 +1,7 @@
 -- The ways of the functions that look through the 33s, or through the 26s for a name that no 33 has. Assumes nothing.
 use Prim.Native.Nat.{ℕ, ◌+◌, ◌≤◌, ◌<◌}
 use mathlib.Core.Path.{◌≡◌, refl, sym, ap, ◌∙◌}
-use mathlib.Core.Bool.{Bool, true, false, not}
+use mathlib.Core.Bool.{Bool, true, false, not, false≢true}
 use mathlib.Core.List.{List}
 use mathlib.Core.Option.{Option, none, some}
 use native.Mathlib.Omega.{arith}
@@ -18,14 +18,12 @@ use Rattle.rules.specs.declared.Kind.TheVariants.{Parameter}
 use Rattle.places.specs.At.{constant_at, default_at, Siblings}
 use Rattle.places.proofs.Parts.{first_sibling, siblings_go_on, siblings_stop}
 use Rattle.places.proofs.Items.{BlockEnds}
-use Rattle.records.specs.declared.Held.{Held}
-use Rattle.records.specs.declared.Held.TheVariants.{Empty, Holds}
 use Rattle.records.specs.Record.{held_of}
-use Rattle.catalog.specs.declared.Place.TheVariants.{At, Nothing}
 use Rattle.attributes.specs.Names.{has_name}
 use Rattle.attributes.specs.Table.{given_at}
 use Rattle.records.proofs.Laws.{held_value, held_nothing}
 use Rattle.parameters.specs.Places.{unknown_in, or_default, parameter_value, or_missing, missing_in}
+use Rattle.std.specs.Prelude.{Option as CodeOption, Some, None, is_some}
 
 -- ---- The ways of `end_of_parameters`: the 33s from q on are the last of those from `from` on
 
@@ -60,42 +58,42 @@ tag_within m q {t} read is = go (ltb q (length m)) refl
 
 module _ (m ps : List ℕ) (first end q : ℕ) (left : unknown_in m ps (fields_in m q end) ≡ unknown_in m ps (fields_in m first end)) where
   module _ (more : q < end) {n : ℕ} {b : Bool} (read : n ≡ two m (q + 3)) (named : b ≡ any (has_name m n) ps) where
-    choice : pick b (unknown_in m ps (fields_in m (end_of m q) end)) (At q) ≡ unknown_in m ps (fields_in m first end)
+    choice : pick b (unknown_in m ps (fields_in m (end_of m q) end)) (Some q) ≡ unknown_in m ps (fields_in m first end)
     unfolding unknown_in
-    choice = ap (λ (x : Bool). pick x (unknown_in m ps (fields_in m (end_of m q) end)) (At q)) (named ∙ ap (λ (k : ℕ). any (has_name m k) ps) read) ∙ ap (unknown_in m ps) (sym (field_first m q end more)) ∙ left
+    choice = ap (λ (x : Bool). pick x (unknown_in m ps (fields_in m (end_of m q) end)) (Some q)) (named ∙ ap (λ (k : ℕ). any (has_name m k) ps) read) ∙ ap (unknown_in m ps) (sym (field_first m q end more)) ∙ left
 
-    pub unknown_here : not b ≡ true → At q ≡ unknown_in m ps (fields_in m first end)
+    pub unknown_here : not b ≡ true → Some q ≡ unknown_in m ps (fields_in m first end)
     unknown_here is = rw (not-true b is) at choice
 
     pub unknown_further : {r : ℕ} → not b ≡ false → r ≡ end_of m q → unknown_in m ps (fields_in m r end) ≡ unknown_in m ps (fields_in m first end)
     unknown_further is next = rw next (rw (not-false b is) at choice)
 
-  pub unknown_nowhere : end ≤ q → Nothing ≡ unknown_in m ps (fields_in m first end)
+  pub unknown_nowhere : end ≤ q → None ≡ unknown_in m ps (fields_in m first end)
   unfolding unknown_in
   unknown_nowhere over = ap (unknown_in m ps) (sym (no_fields m q end over)) ∙ left
 
 -- ---- The ways of `value_of`
 
-module _ (m t : List ℕ) (q : ℕ) {n : ℕ} {h : Held} (name : n ≡ two m (q + 3)) (read : h ≡ held_of (given_at t n)) where
+module _ (m t : List ℕ) (q : ℕ) {n : ℕ} {h : CodeOption Labelled} (name : n ≡ two m (q + 3)) (read : h ≡ held_of (given_at t n)) where
   given_read : h ≡ held_of (given_at t (two m (q + 3)))
   given_read = read ∙ ap (λ (k : ℕ). held_of (given_at t k)) name
 
-  pub value_from_table : {x : Labelled} → h ≡ Holds x → h ≡ held_of (parameter_value m t q)
+  pub value_from_table : {x : Labelled} → h ≡ Some x → Some x ≡ held_of (parameter_value m t q)
   unfolding parameter_value or_default held_of
-  value_from_table {x} is = is ∙ sym (ap (λ (o : Option Labelled). held_of (or_default o (default_of (default_at m q)))) (held_value (given_at t (two m (q + 3))) given_read is))
+  value_from_table {x} is = sym (ap (λ (o : Option Labelled). held_of (or_default o (default_of (default_at m q)))) (held_value (given_at t (two m (q + 3))) given_read is))
 
-  module _ (is : h ≡ Empty) where
+  module _ (is : h ≡ None) where
     not_given_lem : parameter_value m t q ≡ default_of (default_at m q)
     unfolding parameter_value or_default
     not_given_lem = ap (λ (o : Option Labelled). or_default o (default_of (default_at m q))) (held_nothing (given_at t (two m (q + 3))) given_read is)
 
-    pub value_nowhere : {e : ℕ} → e ≡ end_of m q → e ≤ q + 5 → Empty ≡ held_of (parameter_value m t q)
+    pub value_nowhere : {e : ℕ} → e ≡ end_of m q → e ≤ q + 5 → None ≡ held_of (parameter_value m t q)
     unfolding held_of default_of default_at
     value_nowhere end over = sym (ap held_of (not_given_lem ∙ ap (λ (b : Bool). default_of (pick b (some (constant_at m (q + 5))) none)) (le-ltb (q + 5) (end_of m q) (omega arith))))
 
-    pub value_by_default : {e : ℕ} {x : Labelled} → e ≡ end_of m q → q + 5 < e → x ≡ of_constant (constant_at m (q + 5)) → Holds x ≡ held_of (parameter_value m t q)
+    pub value_by_default : {e : ℕ} {x : Labelled} → e ≡ end_of m q → q + 5 < e → x ≡ of_constant (constant_at m (q + 5)) → Some x ≡ held_of (parameter_value m t q)
     unfolding held_of default_of default_at
-    value_by_default end more constant = ap Holds constant ∙ sym (ap held_of (not_given_lem ∙ ap (λ (b : Bool). default_of (pick b (some (constant_at m (q + 5))) none)) (lt-ltb (q + 5) (end_of m q) (omega arith))))
+    value_by_default end more constant = ap Some constant ∙ sym (ap held_of (not_given_lem ∙ ap (λ (b : Bool). default_of (pick b (some (constant_at m (q + 5))) none)) (lt-ltb (q + 5) (end_of m q) (omega arith))))
 
 -- ---- The ways of `find_missing`: what is left from q on says what all of them say
 
@@ -103,19 +101,23 @@ abbrev pub Missing : (m t : List ℕ) → (from to q : ℕ) → Type 0
 Missing m t from to q = missing_in m t (fields_in m q to) ≡ missing_in m t (fields_in m from to)
 
 module _ (m t : List ℕ) (from to q : ℕ) (left : Missing m t from to q) where
-  module _ (more : q < to) {h : Held} (read : h ≡ held_of (parameter_value m t q)) where
+  module _ (more : q < to) {h : CodeOption Labelled} (read : h ≡ held_of (parameter_value m t q)) where
     decided : {o : Option Labelled} → parameter_value m t q ≡ o → or_missing q o (missing_in m t (fields_in m (end_of m q) to)) ≡ missing_in m t (fields_in m from to)
     unfolding missing_in
     decided e = ap (λ (o : Option Labelled). or_missing q o (missing_in m t (fields_in m (end_of m q) to))) (sym e) ∙ ap (missing_in m t) (sym (field_first m q to more)) ∙ left
 
-    pub missing_here : h ≡ Empty → At q ≡ missing_in m t (fields_in m from to)
+    pub missing_here : h ≡ None → Some q ≡ missing_in m t (fields_in m from to)
     unfolding or_missing
     missing_here is = decided (held_nothing (parameter_value m t q) read is)
 
-    pub missing_further : {x : Labelled} {r : ℕ} → h ≡ Holds x → r ≡ end_of m q → Missing m t from to r
-    unfolding or_missing
-    missing_further is next = rw next (decided (held_value (parameter_value m t q) read is))
+    pub missing_further : {r : ℕ} → is_some h ≡ true → r ≡ end_of m q → Missing m t from to r
+    unfolding or_missing held_of
+    missing_further there next = rw next (go (parameter_value m t q) refl)
+      where
+        go : (o : Option Labelled) → parameter_value m t q ≡ o → missing_in m t (fields_in m (end_of m q) to) ≡ missing_in m t (fields_in m from to)
+        go (some x) e = decided e
+        go none e = absurd (false≢true (sym (ap (λ (a : CodeOption Labelled). is_some a) (read ∙ ap held_of e)) ∙ there))
 
-  pub missing_nowhere : to ≤ q → Nothing ≡ missing_in m t (fields_in m from to)
+  pub missing_nowhere : to ≤ q → None ≡ missing_in m t (fields_in m from to)
   unfolding missing_in
   missing_nowhere over = ap (missing_in m t) (sym (no_fields m q to over)) ∙ left

@@ -12,13 +12,9 @@ use Rattle.rules.specs.State.{Entry, State}
 use Rattle.rules.specs.Run.{Given, parameter_values, store, store_all}
 use Rattle.places.specs.At.{parameters_at}
 use Rattle.records.specs.Record.{held_of}
-use Rattle.records.specs.declared.Held.{Held}
-use Rattle.records.specs.declared.Held.TheVariants.{Empty, Holds}
 use Rattle.cells.specs.Memory.{state_of}
 use Rattle.memory.specs.declared.Context.{Context as Here}
 use Rattle.memory.specs.Contexts.{context_of}
-use Rattle.statements.specs.declared.Ran.{Ran}
-use Rattle.statements.specs.declared.Ran.TheVariants.{Done, Refused}
 use Rattle.statements.specs.Answers.{ran_as, Keeps, Does}
 use Rattle.statements.proofs.Assigning.{keeps_same}
 use Rattle.attributes.specs.Table.{Gives}
@@ -27,14 +23,15 @@ use Rattle.attributes.proofs.Table.{each_here, each_after}
 use Rattle.parameters.specs.Places.{parameter_value}
 use Rattle.parameters.specs.Checked.{SmallNames, Stores, Assigns}
 use Rattle.parameters.proofs.Laws.{FirstValue, first_value, no_values}
+use Rattle.std.specs.Prelude.{Option, Some, None, Result, Ok, Err}
 
 -- ---- The ways of `store_parameter`
 
-module _ {m t w : List ℕ} {q : ℕ} {here : Here} {h : Held} (read : h ≡ held_of (parameter_value m t q)) where
-  pub store_nothing : (answer : Ran) → h ≡ Empty → Stores m t w w q here answer
+module _ {m t w : List ℕ} {q : ℕ} {here : Here} {h : Option Labelled} (read : h ≡ held_of (parameter_value m t q)) where
+  pub store_nothing : (answer : Result Unit Refusal) → h ≡ None → Stores m t w w q here answer
   store_nothing answer is = record { keeps = keeps_same w; does = λ x e. absurd (let n = held_nothing (parameter_value m t q) read is in let z : ◌≡◌ {A = ℕ} 0 1 = cc in omega arith) }
 
-  pub store_value : {w' : List ℕ} {n : ℕ} {y : Labelled} (answer : Ran) → h ≡ Holds y → n ≡ two m (q + 3) → Does w w' here (ran_as answer) (λ c. store c q n y) → Stores m t w w' q here answer
+  pub store_value : {w' : List ℕ} {n : ℕ} {y : Labelled} (answer : Result Unit Refusal) → h ≡ Some y → n ≡ two m (q + 3) → Does w w' here (ran_as answer) (λ c. store c q n y) → Stores m t w w' q here answer
   store_value {w'} {n} {y} answer is name stored = record {
     keeps = stored.keeps;
     does = λ x e.
@@ -74,21 +71,21 @@ module _ {m t w₀ w : List ℕ} {from to q : ℕ} {here : Here} (i : Storing m 
     unfolding store_all
     store_first l f es n r e = ap (λ (o : Outcome State). o >>= λ st. store_all (context_of here) f.others st) e ∙ ap (λ (us : List Given). store_all (context_of here) us (state_of w es n r)) (sym f.all) ∙ l.same es n r
 
-    pub store_refused : {w' : List ℕ} {a : Ran} (why : Refusal) → Stores m t w w' q here a → a ≡ Refused why → Assigns m t w₀ w' from to here (Refused why)
+    pub store_refused : {w' : List ℕ} {a r : Result Unit Refusal} {why : Refusal} → Stores m t w w' q here a → a ≡ Err why → r ≡ Err why → Assigns m t w₀ w' from to here r
     unfolding ran_as ◌>>=◌
-    store_refused {w'} why stored is = record {
+    store_refused {w'} stored is handed_on = rw handed_on (record {
       keeps = keeps_then i.keeps stored.keeps;
       does = λ gs vs g e.
           let l = i.left gs vs g e in
           let f = first_left g l in
           let d = stored.does f.content f.value in
           record {
-            says = λ es n r. store_first l f es n r (ap (λ (a : Ran). ran_as a (state_of w' es n r)) (sym is) ∙ d.says es n r);
+            says = λ es n r. store_first l f es n r (ap (λ (a : Result Unit Refusal). ran_as a (state_of w' es n r)) (sym is) ∙ d.says es n r);
             keeps = keeps_then i.keeps d.keeps;
           };
-    }
+    })
 
-    pub store_further : {w' : List ℕ} {a : Ran} {s : ℕ} → Stores m t w w' q here a → a ≡ Done → s ≡ end_of m q → Storing m t w₀ w' from to s here
+    pub store_further : {w' : List ℕ} {a : Result Unit Refusal} {s : ℕ} → Stores m t w w' q here a → a ≡ Ok tt → s ≡ end_of m q → Storing m t w₀ w' from to s here
     unfolding ran_as ◌>>=◌
     store_further {w'} stored is next = rw next (record {
       small = each_after m more i.small;
@@ -100,11 +97,11 @@ module _ {m t w₀ w : List ℕ} {from to q : ℕ} {here : Here} (i : Storing m 
           record {
             values = f.others;
             are = f.rest;
-            same = λ es n r. store_first l f es n r (ap (λ (a : Ran). ran_as a (state_of w' es n r)) (sym is) ∙ d.says es n r);
+            same = λ es n r. store_first l f es n r (ap (λ (a : Result Unit Refusal). ran_as a (state_of w' es n r)) (sym is) ∙ d.says es n r);
           };
     })
 
-  pub store_ends : to ≤ q → Assigns m t w₀ w from to here Done
+  pub store_ends : to ≤ q → Assigns m t w₀ w from to here (Ok tt)
   unfolding ran_as store_all
   store_ends over = record {
     keeps = i.keeps;

@@ -1,7 +1,7 @@
 // The parameters (33) of a definition: what a declaration gives them checked (11, 12, 21), and assigned in the order of the 33s.
 #![tactic(auto)]
 
-ghost use Rattle.std.specs.Prelude.{◌≡◌, ℕ, ◌+◌, ◌≤◌, ◌<◌, List, length, true};
+ghost use Rattle.std.specs.Prelude.{◌≡◌, ℕ, ◌+◌, ◌≤◌, ◌<◌, List, length, true, Some, None};
 ghost use Rattle.wire.specs.Bytes.{two, fields_in, pick};
 ghost use Rattle.rules.specs.Run.{Given};
 ghost use Rattle.rules.specs.declared.Kind.TheVariants.{Parameter};
@@ -13,15 +13,11 @@ ghost use Rattle.attributes.specs.Names.{Alike};
 ghost use Rattle.attributes.specs.Table.{Gives, given_at};
 ghost use Rattle.parameters.specs.Places.{unknown_in, parameter_value, missing_in, of_default, defaults_in};
 ghost use Rattle.parameters.specs.Checked.{Checked, SmallNames, Stores, Assigns, AssignsAll};
-ghost use Rattle.patterns.specs.declared.Choice.TheVariants.{At, Nothing};
 ghost use Rattle.patterns.specs.Struck.{first_struck, Near};
 
 use attributes::Span;
 use memory::Context;
-use patterns::Choice;
-use records::Held;
-use statements::Ran;
-use values::{Reason, Refusal};
+use values::{Labelled, Reason, Refusal};
 
 // Where the parameters that begin at `from` end: the definition's block stands there.
 pub fn end_of_parameters(m: &[u8], from: usize) -> usize
@@ -38,114 +34,111 @@ pub fn end_of_parameters(m: &[u8], from: usize) -> usize
 // ---- Checks
 
 // The first attribute from `first` to `end` that names no parameter from `from` to `to`.
-fn find_unknown(m: &[u8], first: usize, end: usize, from: usize, to: usize) -> catalog::Place
+fn find_unknown(m: &[u8], first: usize, end: usize, from: usize, to: usize) -> Option<usize>
     requires { (end ≤ 65535) × (to ≤ 65535) }
     ensures { (result ≡ unknown_in m.now (fields_in m.now from to) (fields_in m.now first end)) × Below end result }
 {
     if end <= first {
-        return catalog::Place::Nothing;
+        return None;
     }
     let mut seen = [0u8; 1024];
     attributes::mark_names(m, from, to, &mut seen);
     let mut q = first;
     while q < end {
         if !attributes::is_marked(m, from, to, wire::two_at(m, q + 3), &seen) {
-            return catalog::Place::At(q);
+            return Some(q);
         }
         q = wire::end_of(m, q);
     }
-    catalog::Place::Nothing
+    None
 }
 
 // The value of the parameter at q: the one given, or else its default.
-fn value_of(m: &[u8], q: usize, table: &[u8]) -> Held
+fn value_of(m: &[u8], q: usize, table: &[u8]) -> Option<Labelled>
     requires { q ≤ 65535 }
     ensures { result ≡ held_of (parameter_value m.now table.now q) }
 {
-    let held = attributes::given(table, wire::two_at(m, q + 3));
-    match held {
-        Held::Holds(_) => return held,
-        Held::Empty => {}
+    if let Some(x) = attributes::given(table, wire::two_at(m, q + 3)) {
+        return Some(x);
     }
     if wire::end_of(m, q) <= q + 5 {
-        return Held::Empty;
+        return None;
     }
-    Held::Holds(evaluator::constant_at(m, q + 5))
+    Some(evaluator::constant_at(m, q + 5))
 }
 
 // The first parameter from `from` to `to` without a value.
-fn find_missing(m: &[u8], from: usize, to: usize, table: &[u8]) -> catalog::Place
+fn find_missing(m: &[u8], from: usize, to: usize, table: &[u8]) -> Option<usize>
     requires { to ≤ 65535 }
     ensures { (result ≡ missing_in m.now table.now (fields_in m.now from to)) × Below to result }
 {
     let mut q = from;
     while q < to {
-        let held = value_of(m, q, table);
-        match held {
-            Held::Empty => return catalog::Place::At(q),
-            Held::Holds(_) => {}
+        if value_of(m, q, table).is_none() {
+            return Some(q);
         }
         q = wire::end_of(m, q);
     }
-    catalog::Place::Nothing
+    None
 }
 
 // What the attributes given, whose values are in the table, give to the parameters: 11, 12, then 21.
-pub fn check_parameters(m: &[u8], given: Span, parameters: Span, table: &[u8]) -> Ran
+pub fn check_parameters(
+    m: &[u8],
+    given: Span,
+    parameters: Span,
+    table: &[u8],
+) -> Result<(), Refusal>
     requires { (length m.now ≤ 65535) × ((given.end ≤ 65535) × (parameters.end ≤ 65535)) }
     ensures { (gs : List Given) → Gives table.now gs → Alike m.now gs (fields_in m.now given.first given.end) → Siblings m.now 31 Parameter parameters.first parameters.end → SmallNames m.now (fields_in m.now parameters.first parameters.end) → Checked (parameters_at m.now (fields_in m.now parameters.first parameters.end)) gs result }
 {
-    let first = given.first;
-    let end = given.end;
-    let from = parameters.first;
-    let to = parameters.end;
-    let unknown = find_unknown(m, first, end, from, to);
-    match unknown {
-        catalog::Place::At(q) => return Ran::Refused(Refusal::at(Reason::UnknownParameter, q)),
-        catalog::Place::Nothing => {}
+    if let Some(q) = find_unknown(m, given.first, given.end, parameters.first, parameters.end) {
+        return Err(Refusal::at(Reason::UnknownParameter, q));
     }
-    let missing = find_missing(m, from, to, table);
-    match missing {
-        catalog::Place::At(q) => return Ran::Refused(Refusal::at(Reason::MissingParameter, q)),
-        catalog::Place::Nothing => {}
+    if let Some(q) = find_missing(m, parameters.first, parameters.end, table) {
+        return Err(Refusal::at(Reason::MissingParameter, q));
     }
-    let again = attributes::find_repeated(m, first, end);
-    match again {
-        catalog::Place::At(q) => Ran::Refused(Refusal::at(Reason::AttributeAgain, q)),
-        catalog::Place::Nothing => Ran::Done,
+    if let Some(q) = attributes::find_repeated(m, given.first, given.end) {
+        return Err(Refusal::at(Reason::AttributeAgain, q));
     }
+    Ok(())
 }
 
 // ---- Stores
 
 // The parameter at q, assigned as a 21 would do it.
-fn store_parameter(m: &[u8], q: usize, table: &[u8], work: &mut [u8], here: Context) -> Ran
+fn store_parameter(
+    m: &[u8],
+    q: usize,
+    table: &[u8],
+    work: &mut [u8],
+    here: Context,
+) -> Result<(), Refusal>
     requires { (q ≤ 65535) × ((65536 ≤ length work.old) × (two m.now (q + 3) < 1024)) }
     ensures { Stores m.now table.now work.old work.new q here result }
 {
-    let held = value_of(m, q, table);
-    match held {
-        Held::Empty => Ran::Refused(Refusal::at(Reason::MissingParameter, q)),
-        Held::Holds(x) => statements::store(work, q, here, wire::two_at(m, q + 3), x),
-    }
+    let x = value_of(m, q, table).ok_or(Refusal::at(Reason::MissingParameter, q))?;
+    statements::store(work, q, here, wire::two_at(m, q + 3), x)
 }
 
 // The parameters of a definition, in the context of its body.
-fn store_parameters(m: &[u8], parameters: Span, table: &[u8], work: &mut [u8], here: Context) -> Ran
+fn store_parameters(
+    m: &[u8],
+    parameters: Span,
+    table: &[u8],
+    work: &mut [u8],
+    here: Context,
+) -> Result<(), Refusal>
     requires { ((parameters.end ≤ 65535) × ((65536 ≤ length work.old) × (length m.now ≤ 65535))) × (Siblings m.now 31 Parameter parameters.first parameters.end × SmallNames m.now (fields_in m.now parameters.first parameters.end)) }
     ensures { Assigns m.now table.now work.old work.new parameters.first parameters.end here result }
 {
     let to = parameters.end;
     let mut q = parameters.first;
     while q < to {
-        let r = store_parameter(m, q, table, work, here);
-        match r {
-            Ran::Refused(refusal) => return Ran::Refused(refusal),
-            Ran::Done => {}
-        }
+        store_parameter(m, q, table, work, here)?;
         q = wire::end_of(m, q);
     }
-    Ran::Done
+    Ok(())
 }
 
 // ---- Defaults
@@ -153,12 +146,10 @@ fn store_parameters(m: &[u8], parameters: Span, table: &[u8], work: &mut [u8], h
 // Whether the parameter at q takes its default, and that is struck out.
 fn takes_struck(m: &[u8], q: usize, table: &[u8], work: &[u8]) -> bool
     requires { (q ≤ 65535) × (65536 ≤ length work.now) }
-    ensures { (pick result (At (q + 5)) Nothing ≡ first_struck work.now (of_default (given_at table.now (two m.now (q + 3))) (default_at m.now q))) × (result ≡ true → q + 5 ≤ 65535) }
+    ensures { (pick result (Some (q + 5)) None ≡ first_struck work.now (of_default (given_at table.now (two m.now (q + 3))) (default_at m.now q))) × (result ≡ true → q + 5 ≤ 65535) }
 {
-    let held = attributes::given(table, wire::two_at(m, q + 3));
-    match held {
-        Held::Holds(_) => return false,
-        Held::Empty => {}
+    if attributes::given(table, wire::two_at(m, q + 3)).is_some() {
+        return false;
     }
     if wire::end_of(m, q) <= q + 5 {
         return false;
@@ -167,21 +158,21 @@ fn takes_struck(m: &[u8], q: usize, table: &[u8], work: &[u8]) -> bool
 }
 
 // The first default struck out of those that the parameters from `from` to `to` take. In a compile none is.
-fn struck_default(m: &[u8], from: usize, to: usize, table: &[u8], work: &[u8]) -> Choice
+fn struck_default(m: &[u8], from: usize, to: usize, table: &[u8], work: &[u8]) -> Option<usize>
     requires { (to ≤ 65535) × (65536 ≤ length work.now) }
     ensures { (result ≡ first_struck work.now (defaults_in m.now table.now (fields_in m.now from to))) × Near result }
 {
     if memory::none_struck_out(work) {
-        return Choice::Nothing;
+        return None;
     }
     let mut q = from;
     while q < to {
         if takes_struck(m, q, table, work) {
-            return Choice::At(q + 5);
+            return Some(q + 5);
         }
         q = wire::end_of(m, q);
     }
-    Choice::Nothing
+    None
 }
 
 // The parameters of a definition, in the context of its body, unless a default that is assigned is struck out.
@@ -191,13 +182,12 @@ pub fn assign_parameters(
     table: &[u8],
     work: &mut [u8],
     here: Context,
-) -> Ran
+) -> Result<(), Refusal>
     requires { ((parameters.end ≤ 65535) × ((65536 ≤ length work.old) × (length m.now ≤ 65535))) × (Siblings m.now 31 Parameter parameters.first parameters.end × SmallNames m.now (fields_in m.now parameters.first parameters.end)) }
     ensures { AssignsAll m.now table.now work.old work.new parameters.first parameters.end here result }
 {
-    let struck = struck_default(m, parameters.first, parameters.end, table, work);
-    match struck {
-        Choice::At(q) => Ran::Refused(Refusal::at(Reason::Malformed, q)),
-        Choice::Nothing => store_parameters(m, parameters, table, work, here),
+    if let Some(q) = struck_default(m, parameters.first, parameters.end, table, work) {
+        return Err(Refusal::at(Reason::Malformed, q));
     }
+    store_parameters(m, parameters, table, work, here)
 }

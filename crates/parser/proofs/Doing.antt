@@ -15,17 +15,17 @@ use Rattle.lexer.specs.declared.Token.{Token}
 use Rattle.notation.specs.Building.{byte, Action, begin, begin_resource, around, instead, close, constant, read, named, parent_first, void, enter, leave}
 use Rattle.parse_table.specs.Codes.{or_else, action_of}
 use Rattle.tree_builder.specs.declared.Building.{Building}
-use Rattle.tree_builder.specs.declared.Step.{Step}
 use Rattle.tree_builder.specs.Shows.{Does, IsWord}
 use Rattle.parser.specs.declared.actions.Names.{Names}
 use Rattle.rules.proofs.Within.{false_not_true}
 use Rattle.parser.specs.Doing.{DoesFor, ConstantAt, Suits, is_constant, WordRead}
+use Rattle.std.specs.Prelude.{Option as CodeOption}
 
 -- what is done by a code that stands for an action
-abbrev pub DoneBy : (t : Token) (ns : Names) (s : Building) (m out : List ℕ) (r : Step) (m' out' : List ℕ) → Action → Type 0
+abbrev pub DoneBy : (t : Token) (ns : Names) (s : Building) (m out : List ℕ) (r : CodeOption Building) (m' out' : List ℕ) → Action → Type 0
 DoneBy t ns s m out r m' out' a = DoesFor t ns a s m out r m' out' × WordRead a t r
 
-module _ (t : Token) (ns : Names) (s : Building) (m out : List ℕ) (r : Step) (m' out' : List ℕ) (n : ℕ) (a : Action) (e : action_of n ≡ a) where
+module _ (t : Token) (ns : Names) (s : Building) (m out : List ℕ) (r : CodeOption Building) (m' out' : List ℕ) (n : ℕ) (a : Action) (e : action_of n ≡ a) where
   pub by_code : DoneBy t ns s m out r m' out' a → DoneBy t ns s m out r m' out' (action_of n)
   by_code done = subst (DoneBy t ns s m out r m' out') (sym e) done
 
@@ -35,11 +35,11 @@ module _ (t : Token) (ns : Names) (s : Building) (m out : List ℕ) (r : Step) (
   by_other other does = by_code (does, λ one k. false_not_true (sym other ∙ one))
 
 -- the same by a code that is known
-pub by_known : (t : Token) (ns : Names) (s : Building) (m out : List ℕ) (r : Step) (m' out' : List ℕ) (n k : ℕ) (a : Action) → n ≡ k → action_of k ≡ a → is_constant a ≡ false → DoesFor t ns a s m out r m' out' → DoneBy t ns s m out r m' out' (action_of n)
+pub by_known : (t : Token) (ns : Names) (s : Building) (m out : List ℕ) (r : CodeOption Building) (m' out' : List ℕ) (n k : ℕ) (a : Action) → n ≡ k → action_of k ≡ a → is_constant a ≡ false → DoesFor t ns a s m out r m' out' → DoneBy t ns s m out r m' out' (action_of n)
 by_known t ns s m out r m' out' n k a i e other does = by_other t ns s m out r m' out' n a (ap action_of i ∙ e) other does
 
 -- the action that reads one
-pub by_constant : (t : Token) (ns : Names) (s : Building) (m out : List ℕ) (r : Step) (m' out' : List ℕ) (n : ℕ) → n ≡ 2 → Does (ConstantAt t ns.name) constant s m out r m' out' → (t.kind ≡ 0 → IsWord r) → DoneBy t ns s m out r m' out' (action_of n)
+pub by_constant : (t : Token) (ns : Names) (s : Building) (m out : List ℕ) (r : CodeOption Building) (m' out' : List ℕ) (n : ℕ) → n ≡ 2 → Does (ConstantAt t ns.name) constant s m out r m' out' → (t.kind ≡ 0 → IsWord r) → DoneBy t ns s m out r m' out' (action_of n)
 unfolding Suits WordRead
 by_constant t ns s m out r m' out' n e does word = let two : action_of 2 ≡ constant = unfold action_of in refl in by_code t ns s m out r m' out' n constant (ap action_of e ∙ two) (does, λ one k. word k)
 

@@ -10,8 +10,6 @@ use Rattle.notation.specs.Tokens.{Lexeme}
 use Rattle.notation.specs.Building.{Build, Action, close, void, acts}
 use Rattle.notation.specs.Grammar.{Symbol, sign, a_name, expression, operators, read_or_word, close_bracket, one, maybe, further, statements, block, otherwise, branches, items, class_rest, parameters, default_value, a_constant, inherits, parent, devices, device, more_devices, ends, left_out}
 use Rattle.tree_builder.specs.declared.Building.{Building}
-use Rattle.tree_builder.specs.declared.Step.{Step}
-use Rattle.tree_builder.specs.declared.Step.TheVariants.{Did, No}
 use Rattle.tree_builder.specs.Shows.{Shows}
 use Rattle.parse_table.specs.Codes.{actions_in, left_out_in}
 use Rattle.parse_table.specs.declared.table.LeftOut.{LeftOut}
@@ -21,6 +19,7 @@ use Rattle.parser.specs.Doing.{Suits, SuitsAll, filled, AllAnswered, no_instead,
 use Rattle.parser.specs.Stepping.{SteppableAt}
 use Rattle.parser.proofs.Sequence.{no_other, answered_more}
 use Rattle.rules.specs.Types.{Types}
+use Rattle.std.specs.Prelude.{Option as CodeOption, Some, None}
 
 -- what comes of a tree where a symbol is left out
 abbrev pub without_it : (types : Types) → Option (List Action) → Lexeme → Build → Option Build
@@ -31,7 +30,7 @@ unfoldable pub left_behind : (types : Types) → Symbol → Lexeme → Build →
 left_behind types s x f = without_it types (left_out s) x f
 
 -- what leaving it out does, at any token
-unfoldable pub LeavesOut : (types : Types) → Symbol → Building → (frames out : List ℕ) → Step → (frames' out' : List ℕ) → Type 0
+unfoldable pub LeavesOut : (types : Types) → Symbol → Building → (frames out : List ℕ) → CodeOption Building → (frames' out' : List ℕ) → Type 0
 LeavesOut types k s m out a m' out' = (table : List (List ℕ)) (f : Build) (x : Lexeme) → Shows table s m out f → AllAnswered table (s.fill + 12) a m' out' (left_behind types k x f)
 
 -- actions that look at no token: at most one, which closes a field or adds an empty one
@@ -91,7 +90,7 @@ plain_once _ plain_void = refl
 -- what the table answers of the symbol k
 module _ (types : Types) (k : Symbol) (r : LeftOut) (told : left_out_in r ≡ left_out k) (s : Building) (m out : List ℕ) where
   -- it may not be left out
-  pub leaves_needed : r.allowed ≡ false → LeavesOut types k s m out No m out
+  pub leaves_needed : r.allowed ≡ false → LeavesOut types k s m out None m out
   unfolding LeavesOut AllAnswered left_behind
   leaves_needed e table f x shows = ap (λ (o : Option (List Action)). without_it types o x f) (out_needed r told e)
 
@@ -100,7 +99,7 @@ module _ (types : Types) (k : Symbol) (r : LeftOut) (told : left_out_in r ≡ le
     plain_actions_lem = subst PlainOut (out_allowed r told may) (out_plain k)
 
     -- it has no actions
-    pub leaves_none : r.actions ≡ 0 → LeavesOut types k s m out (Did s) m out
+    pub leaves_none : r.actions ≡ 0 → LeavesOut types k s m out (Some s) m out
     unfolding LeavesOut AllAnswered left_behind acts
     leaves_none e table f x shows = record { made = f; is = ap (λ (o : Option (List Action)). without_it types o x f) (out_allowed r told may ∙ ap (λ (n : ℕ). some (actions_in n)) e ∙ ap some no_action_lem); shows = shows; grown = omega arith }
 
@@ -123,7 +122,7 @@ module _ (types : Types) (k : Symbol) (r : LeftOut) (told : left_out_in r ≡ le
           }
 
       -- and are
-      pub leaves_done : (a : Step) (m' out' : List ℕ) → DoesAllAt types t ns (actions_in r.actions) s m out a m' out' → LeavesOut types k s m out a m' out'
+      pub leaves_done : (a : CodeOption Building) (m' out' : List ℕ) → DoesAllAt types t ns (actions_in r.actions) s m out a m' out' → LeavesOut types k s m out a m' out'
       unfolding LeavesOut DoesAllAt left_behind
       leaves_done a m' out' does table f x shows =
           rw (out_allowed r told may)

@@ -14,20 +14,18 @@ use Rattle.notation.specs.Building.{Build, Action, acts}
 use Rattle.notation.specs.Grammar.{Symbol, row_of, left_out, Stepped, stuck, step}
 use Rattle.notation.proofs.NeedsKept.{none_not_some}
 use Rattle.tree_builder.specs.declared.Building.{Building}
-use Rattle.tree_builder.specs.declared.Step.{Step}
-use Rattle.tree_builder.specs.declared.Step.TheVariants.{Did, No}
 use Rattle.parse_table.specs.Codes.{symbol_of, row_in}
 use Rattle.parse_table.specs.Stack.{stack_of}
 use Rattle.parse_table.specs.declared.rows.Row.{Row}
 use Rattle.parse_table.proofs.Answers.{row_not_taken, on_top, push_room}
 use Rattle.parse_table.proofs.Bound.{Kept, out_kept}
 use Rattle.parser.specs.declared.actions.Names.{Names}
-use Rattle.parser.specs.declared.steps.Taken.{Taken}
-use Rattle.parser.specs.declared.steps.Taken.TheVariants.{Stuck}
 use Rattle.parser.specs.Doing.{AllMade, AllAnswered}
 use Rattle.parser.specs.Stepping.{WordOnTop, WordFor, Standing, TakenSo, SteppableAt, StepsAt, Steppable, Steps}
 use Rattle.parser.proofs.Leaving.{without_it, left_behind, LeavesOut}
 use Rattle.parser.proofs.Taking.{words_after}
+use Rattle.std.specs.Prelude.{Option as CodeOption, Some, None}
+use Rattle.parser.specs.declared.steps.Machine.{Machine}
 
 -- what follows where a symbol is left out
 abbrev pub onward : (types : Types) → List Symbol → Lexeme → Option Build → Stepped
@@ -63,7 +61,7 @@ left_kept types y k x f g e h = go (left_out y) refl e
 
 module _ (types : Types) (st m out : List ℕ) (s : Building) (top : ℕ) (t : Token) (ns : Names) where
   -- no symbol is left
-  pub none_left : top ≡ 0 → StepsAt types t ns s top st m out Stuck st m out
+  pub none_left : top ≡ 0 → StepsAt types t ns s top st m out None st m out
   unfolding StepsAt TakenSo stack_of step
   none_left e table f x z = ap (λ (n : ℕ). step types (stack_of st n) x f) e
 
@@ -78,15 +76,15 @@ module _ (types : Types) (st m out : List ℕ) (s : Building) (top : ℕ) (t : T
     one_left x f same = ap (λ (k : List Symbol). step types k x f) stacked ∙ step_left types top_symbol (stack_of st (top - 1)) x f (ap (row_of top_symbol) same ∙ row_not_taken w told other)
 
     -- it may not be left out
-    pub out_stuck : (a : Step) (m' out' : List ℕ) → a ≡ No → LeavesOut types top_symbol s m out a m' out' → StepsAt types t ns s top st m out Stuck st m' out'
+    pub out_stuck : (a : CodeOption Building) (m' out' : List ℕ) → a ≡ None → LeavesOut types top_symbol s m out a m' out' → StepsAt types t ns s top st m out None st m' out'
     unfolding StepsAt TakenSo LeavesOut AllAnswered
     out_stuck a m' out' e given table f x z =
-        let leaves : LeavesOut types top_symbol s m out No m' out' = subst (λ (b : Step). LeavesOut types top_symbol s m out b m' out') e given in
+        let leaves : LeavesOut types top_symbol s m out None m' out' = subst (λ (b : CodeOption Building). LeavesOut types top_symbol s m out b m' out') e given in
         one_left x f z.carried.same_kind ∙ ap (onward types (stack_of st (top - 1)) x) (leaves table f x z.shows)
 
-    module _ (a : Step) (next : Building) (m' out' : List ℕ) (e : a ≡ Did next) (given : LeavesOut types top_symbol s m out a m' out') where
-      leaves : LeavesOut types top_symbol s m out (Did next) m' out'
-      leaves = subst (λ (b : Step). LeavesOut types top_symbol s m out b m' out') e given
+    module _ (a : CodeOption Building) (next : Building) (m' out' : List ℕ) (e : a ≡ Some next) (given : LeavesOut types top_symbol s m out a m' out') where
+      leaves : LeavesOut types top_symbol s m out (Some next) m' out'
+      leaves = subst (λ (b : CodeOption Building). LeavesOut types top_symbol s m out b m' out') e given
 
       made : (table : List (List ℕ)) (f : Build) (x : Lexeme) → Standing types st m out s top t ns table f x → AllMade table (s.fill + 12) next m' out' (left_behind types top_symbol x f)
       unfolding LeavesOut AllAnswered
@@ -111,7 +109,7 @@ module _ (types : Types) (st m out : List ℕ) (s : Building) (top : ℕ) (t : T
       steppable_next size h = record { table = h.table; tree = (made h.table h.tree h.token h.standing).made; token = h.token; standing = standing_next h.table h.tree h.token h.standing; slots = omega (arith, h.slots, size); room = h.room; place = h.place }
 
       -- and what comes of them comes of all
-      pub steps_on : (b : Taken) (st'' m'' out'' : List ℕ) → StepsAt types t ns next (top - 1) st m' out' b st'' m'' out'' → StepsAt types t ns s top st m out b st'' m'' out''
+      pub steps_on : (b : CodeOption Machine) (st'' m'' out'' : List ℕ) → StepsAt types t ns next (top - 1) st m' out' b st'' m'' out'' → StepsAt types t ns s top st m out b st'' m'' out''
       unfolding StepsAt
       steps_on b st'' m'' out'' later table f x z =
           let w = made table f x z in
@@ -121,7 +119,7 @@ module _ (types : Types) (st m out : List ℕ) (s : Building) (top : ℕ) (t : T
 -- while symbols are left out: what comes of those that are left comes of all
 pub record Going (st₀ m₀ out₀ : List ℕ) (s₀ : Building) (top₀ : ℕ) (t : Token) (ns : Names) (st m out : List ℕ) (s : Building) (top : ℕ) : Type 0 where
   pub ready : Steppable st m out s top t ns
-  pub goes_on : (a : Taken) (st' m' out' : List ℕ) → Steps t ns s top st m out a st' m' out' → Steps t ns s₀ top₀ st₀ m₀ out₀ a st' m' out'
+  pub goes_on : (a : CodeOption Machine) (st' m' out' : List ℕ) → Steps t ns s top st m out a st' m' out' → Steps t ns s₀ top₀ st₀ m₀ out₀ a st' m' out'
   pub stack_size : length st ≡ length st₀
   pub frames_size : length m ≡ length m₀
   pub out_size : length out ≡ length out₀
@@ -135,7 +133,7 @@ module _ (st₀ m₀ out₀ : List ℕ) (s₀ : Building) (top₀ : ℕ) (t : To
   top_within h = let r = g.ready.steppable in omega (arith, push_room st top r.tree r.standing.kept r.room)
 
   -- one more is left out
-  pub going_next : 0 < top → (w : Row) → row_in w ≡ row_of (symbol_of (byte st (top - 1))) t.kind → w.taken ≡ false → (a : Step) (next : Building) (m' out' : List ℕ) → a ≡ Did next → ((types : Types) → LeavesOut types (symbol_of (byte st (top - 1))) s m out a m' out') → length m' ≡ length m → length out' ≡ length out → Going st₀ m₀ out₀ s₀ top₀ t ns st m' out' next (top - 1)
+  pub going_next : 0 < top → (w : Row) → row_in w ≡ row_of (symbol_of (byte st (top - 1))) t.kind → w.taken ≡ false → (a : CodeOption Building) (next : Building) (m' out' : List ℕ) → a ≡ Some next → ((types : Types) → LeavesOut types (symbol_of (byte st (top - 1))) s m out a m' out') → length m' ≡ length m → length out' ≡ length out → Going st₀ m₀ out₀ s₀ top₀ t ns st m' out' next (top - 1)
   going_next some_top w told other a next m' out' e leaves size size' =
       let now : Types = g.ready.types in
       record {

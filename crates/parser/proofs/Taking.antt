@@ -17,19 +17,17 @@ use Rattle.notation.specs.Tokens.{Lexeme, kind, token_of, a_word}
 use Rattle.notation.specs.Building.{Build, Action, instead, acts}
 use Rattle.notation.specs.Grammar.{Symbol, row, row_of, to, toward, step}
 use Rattle.tree_builder.specs.declared.Building.{Building}
-use Rattle.tree_builder.specs.declared.Step.{Step}
-use Rattle.tree_builder.specs.declared.Step.TheVariants.{Did, No}
 use Rattle.tree_builder.specs.Shows.{IsWord}
 use Rattle.parse_table.specs.Codes.{symbol_of, symbols_in, action_of, actions_from, actions_in}
 use Rattle.parse_table.specs.Stack.{stack_of, Pushed}
 use Rattle.parse_table.specs.declared.rows.Row.{Row}
 use Rattle.parse_table.proofs.Answers.{row_taken, first_action, no_action_lem, on_top, push_room}
 use Rattle.parser.specs.declared.actions.Names.{Names}
-use Rattle.parser.specs.declared.steps.Taken.TheVariants.{To, Stuck}
 use Rattle.parser.specs.Doing.{filled, AllAnswered, is_instead, no_instead, only_constant, WordsRead, DoesAllAt, StandsAt}
 use Rattle.parser.specs.Stepping.{is_read_or_word, none_behind_word, WordOnTop, WordFor, TakenSo, SteppableAt, StepsAt, TakenRow}
 use Rattle.parser.proofs.Sequence.{nine_instead}
 use Rattle.parser.proofs.RowFacts.{fits, all_fit, instead_first, word_first, row_fits, row_fits_lem, suits_all}
+use Rattle.std.specs.Prelude.{Option, Some, None}
 
 -- at most four actions
 filled_by : (b n x : ℕ) → filled n (actions_from b x) ≤ n + 12 * b
@@ -159,18 +157,18 @@ module _ (types : Types) (st m out : List ℕ) (s : Building) (top : ℕ) (t : T
     one_step = ap (λ (k : List Symbol). step types k x f) stacked ∙ step_taken types top_symbol below x f (actions_in w.actions) (symbols_in w.symbols) (ap (row_of top_symbol) same ∙ found)
 
   -- nothing comes of the actions
-  pub row_stuck : (a : Step) (st' m' out' : List ℕ) → a ≡ No → DoesAllAt types t ns (actions_in w.actions) s m out a m' out' → StepsAt types t ns s top st m out Stuck st' m' out'
+  pub row_stuck : (a : Option Building) (st' m' out' : List ℕ) → a ≡ None → DoesAllAt types t ns (actions_in w.actions) s m out a m' out' → StepsAt types t ns s top st m out None st' m' out'
   unfolding StepsAt TakenSo DoesAllAt AllAnswered
   row_stuck a st' m' out' e given table f x z =
-      let does : DoesAllAt types t ns (actions_in w.actions) s m out No m' out' = subst (λ (b : Step). DoesAllAt types t ns (actions_in w.actions) s m out b m' out') e given in
+      let does : DoesAllAt types t ns (actions_in w.actions) s m out None m' out' = subst (λ (b : Option Building). DoesAllAt types t ns (actions_in w.actions) s m out b m' out') e given in
       let nothing = does table f x (suits_all types t ns table x z.carried (actions_in w.actions) (both_left fit₁ (fit₂ && fit₃) fit)) z.shows in
       one_step x f z.carried.same_kind ∙ ap (toward (symbols_in w.symbols ++ below)) nothing
 
   -- they are done, and the symbols are put
-  pub row_onward : (a : Step) (next : Building) (above : ℕ) (st' m' out' : List ℕ) → a ≡ Did next → DoesAllAt types t ns (actions_in w.actions) s m out a m' out' → WordsRead (actions_in w.actions) t s a → Pushed st st' top w.symbols above → StepsAt types t ns s top st m out (To (record { top = above; building = next })) st' m' out'
+  pub row_onward : (a : Option Building) (next : Building) (above : ℕ) (st' m' out' : List ℕ) → a ≡ Some next → DoesAllAt types t ns (actions_in w.actions) s m out a m' out' → WordsRead (actions_in w.actions) t s a → Pushed st st' top w.symbols above → StepsAt types t ns s top st m out (Some (record { top = above; building = next })) st' m' out'
   unfolding StepsAt TakenSo DoesAllAt AllAnswered WordFor IsWord
   row_onward a next above st' m' out' e given reads pushed table f x z =
-      let does : DoesAllAt types t ns (actions_in w.actions) s m out (Did next) m' out' = subst (λ (b : Step). DoesAllAt types t ns (actions_in w.actions) s m out b m' out') e given in
+      let does : DoesAllAt types t ns (actions_in w.actions) s m out (Some next) m' out' = subst (λ (b : Option Building). DoesAllAt types t ns (actions_in w.actions) s m out b m' out') e given in
       let made = does table f x (suits_all types t ns table x z.carried (actions_in w.actions) (both_left fit₁ (fit₂ && fit₃) fit)) z.shows in
       let words : WordFor t.kind (top_symbol ∷ below) s = subst (λ (k : List Symbol). WordFor t.kind k s) stacked z.words in
       let word : only_constant (actions_in w.actions) ≡ true → t.kind ≡ a_word → next.word ≡ true = λ one k. subst IsWord e (reads.word one k) in

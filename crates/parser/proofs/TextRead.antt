@@ -32,9 +32,10 @@ use Rattle.tree_builder.specs.Open.{opening, parts_bytes, around_bytes, head_end
 use Rattle.tree_builder.specs.Shows.{Shows}
 use Rattle.tree_builder.proofs.Whole.{items_late, items_length, items_bytes}
 use Rattle.parser.specs.declared.text.Pass.{Pass}
+use Rattle.std.specs.Prelude.{Result as CodeResult, Ok, Err}
 use Rattle.parser.specs.declared.text.Read.{Read}
-use Rattle.parser.specs.declared.text.Read.TheVariants.{On, Done, Fault}
-use Rattle.parser.specs.declared.text.ReadText.TheVariants.{Whole, Fault as TextFault}
+use Rattle.parser.specs.declared.text.Read.TheVariants.{On, Done}
+use Rattle.parser.specs.declared.text.Whole.{Whole}
 use Rattle.parser.specs.Stepping.{WordOnTop}
 use Rattle.parser.specs.Reading.{tokens_left, symbols_of, strings_so_far, Passable, TokenTaken, Barred, is_malformed, is_stuck, is_crowded, TokenRefused, ReadSo, ReadsToken, Begun, Readable, ReadWhole, ReadFault, TextRead}
 use Rattle.parser.proofs.OtherTable.{open_same}
@@ -323,20 +324,24 @@ module _ (types : Types) (t : List ℕ) (S₀ : List (List ℕ)) (out m st tb : 
 
 -- ---- In the code
 
+-- what a text has whose last token led here
+abbrev pub whole_of : Pass → Whole
+whole_of last = record { count = last.count; late = last.machine.building.late; fill = last.machine.building.fill }
+
 module _ (types : Types) (t : List ℕ) (S₀ : List (List ℕ)) (out₀ m₀ st₀ tb₀ out m st tb : List ℕ) (p : Pass) (g : Along types t S₀ out₀ m₀ st₀ tb₀ out m st tb p) where
   -- what reading a token answers
-  module _ (a : Read) (out' m' st' tb' : List ℕ) (reads : ReadsToken types t out m st tb p a out' m' st' tb') where
-    pub answer : (b : Read) → a ≡ b → ReadSo types t st tb p g.going.ready.tree b out' m' st' tb'
-    answer b e = subst (λ (r : Read). ReadSo types t st tb p g.going.ready.tree r out' m' st' tb') e (reads g.going.ready.tree g.going.ready.stage)
+  module _ (a : CodeResult Read ℕ) (out' m' st' tb' : List ℕ) (reads : ReadsToken types t out m st tb p a out' m' st' tb') where
+    pub answer : (b : CodeResult Read ℕ) → a ≡ b → ReadSo types t st tb p g.going.ready.tree b out' m' st' tb'
+    answer b e = subst (λ (r : CodeResult Read ℕ). ReadSo types t st tb p g.going.ready.tree r out' m' st' tb') e (reads g.going.ready.tree g.going.ready.stage)
 
-    pub forward : (next : Pass) → a ≡ On next → length t - next.at < length t - p.at
+    pub forward : (next : Pass) → a ≡ Ok (On next) → length t - next.at < length t - p.at
     unfolding ReadSo
-    forward next e = let w = answer (On next) e in omega (arith, w.1, w.0.within)
+    forward next e = let w = answer (Ok (On next)) e in omega (arith, w.1, w.0.within)
 
-    unfoldable pub along_next : (next : Pass) → a ≡ On next → length out' ≡ length out → length m' ≡ length m → length st' ≡ length st → length tb' ≡ length tb → Along types t S₀ out₀ m₀ st₀ tb₀ out' m' st' tb' next
+    unfoldable pub along_next : (next : Pass) → a ≡ Ok (On next) → length out' ≡ length out → length m' ≡ length m → length st' ≡ length st → length tb' ≡ length tb → Along types t S₀ out₀ m₀ st₀ tb₀ out' m' st' tb' next
     unfolding ReadSo
     along_next next e out_size frames_size stack_size table_size =
-        let w = answer (On next) e in
+        let w = answer (Ok (On next)) e in
         record {
           going = going_next types t S₀ out m st tb p g.going next out' m' st' tb' (tokens_left t next) w.0 refl w.1 out_size frames_size stack_size;
           bytes = g.bytes;
@@ -346,10 +351,10 @@ module _ (types : Types) (t : List ℕ) (S₀ : List (List ℕ)) (out₀ m₀ st
           table_size = table_size ∙ g.table_size;
         }
 
-    pub whole_read : (last : Pass) → a ≡ Done last → TextRead types t S₀ (Whole last.count last.machine.building.late last.machine.building.fill) out' tb'
+    pub whole_read : (last : Pass) → a ≡ Ok (Done last) → TextRead types t S₀ (Ok (whole_of last)) out' tb'
     unfolding ReadSo TextRead
-    whole_read last e = text_whole types t S₀ out m st tb p g.going last out' m' st' tb' [] (answer (Done last) e) g.bytes refl
+    whole_read last e = text_whole types t S₀ out m st tb p g.going last out' m' st' tb' [] (answer (Ok (Done last)) e) g.bytes refl
 
-    pub refused_read : (place : ℕ) → a ≡ Fault place → TextRead types t S₀ (TextFault place) out' tb'
+    pub refused_read : (place : ℕ) → a ≡ Err place → TextRead types t S₀ (Err place) out' tb'
     unfolding ReadSo TextRead
-    refused_read place e = text_refused types t S₀ out m st tb p g.going place (answer (Fault place) e)
+    refused_read place e = text_refused types t S₀ out m st tb p g.going place (answer (Err place) e)

@@ -26,8 +26,6 @@ use Rattle.tree_builder.specs.Shows.{Shows}
 use Rattle.parser.specs.declared.actions.Names.{Names}
 use Rattle.parser.specs.declared.strings.Numbered.{Numbered}
 use Rattle.parser.specs.declared.steps.Machine.{Machine}
-use Rattle.parser.specs.declared.steps.Taken.{Taken}
-use Rattle.parser.specs.declared.steps.Taken.TheVariants.{To, Stuck}
 use Rattle.parser.specs.declared.text.Pass.{Pass}
 use Rattle.parser.specs.Entering.{EnteredFor}
 use Rattle.parser.specs.Stepping.{WordOnTop, WordFor, Standing, TakenSo, SteppableAt, StepsAt}
@@ -36,6 +34,7 @@ use Rattle.parser.proofs.Passing.{any_kind}
 use Rattle.parser.proofs.Entering.{known_again, first_of}
 use Rattle.parser.proofs.OtherTable.{shows_same, word_forgotten}
 use Rattle.parser.proofs.TokenKinds.{token_mark}
+use Rattle.std.specs.Prelude.{Option, Some, None}
 
 -- ---- A table that has the strings already
 
@@ -166,19 +165,19 @@ module _ (types : Types) (t out m st tb : List ℕ) (p : Pass) (h : Passable t o
         pub steppable : SteppableAt types st m out s p.machine.top r names
         steppable = record { table = U; tree = h.tree; token = this; standing = standing h.tree h.stage; slots = h.slots; room = h.room; place = omega (arith, found.forward, found.high, h.short) }
 
-        module _ (a : Taken) (st' m' out' : List ℕ) (steps : StepsAt types r names s p.machine.top st m out a st' m' out') where
+        module _ (a : Option Machine) (st' m' out' : List ℕ) (steps : StepsAt types r names s p.machine.top st m out a st' m' out') where
           -- the token may not stand there
-          pub stuck_refused : a ≡ Stuck → (f : Build) → Stage t out m st tb p f → TokenRefused types t st tb p f r.start
+          pub stuck_refused : a ≡ None → (f : Build) → Stage t out m st tb p f → TokenRefused types t st tb p f r.start
           unfolding StepsAt TakenSo
           stuck_refused e f g =
-              let stays : StepsAt types r names s p.machine.top st m out Stuck st' m' out' = subst (λ (b : Taken). StepsAt types r names s p.machine.top st m out b st' m' out') e steps in
+              let stays : StepsAt types r names s p.machine.top st m out None st' m' out' = subst (λ (b : Option Machine). StepsAt types r names s p.machine.top st m out b st' m' out') e steps in
               refused_at f this behind this_first refl (is_stuck (stays U f this (standing f g)))
 
-          module _ (machine : Machine) (e : a ≡ To machine) (next : Pass) (is-next : next ≡ pass_behind r machine n.count) (f : Build) (g : Stage t out m st tb p f) where
+          module _ (machine : Machine) (e : a ≡ Some machine) (next : Pass) (is-next : next ≡ pass_behind r machine n.count) (f : Build) (g : Stage t out m st tb p f) where
             taken : TokenTaken types t st tb p f (pass_behind r machine n.count) out' m' st' tb' behind
             unfolding StepsAt TakenSo
             taken =
-                let goes : StepsAt types r names s p.machine.top st m out (To machine) st' m' out' = subst (λ (b : Taken). StepsAt types r names s p.machine.top st m out b st' m' out') e steps in
+                let goes : StepsAt types r names s p.machine.top st m out (Some machine) st' m' out' = subst (λ (b : Option Machine). StepsAt types r names s p.machine.top st m out b st' m' out') e steps in
                 let w = goes U f this (standing f g) in
                 let room = h.enterable.room in
                 let size = entered.size in

@@ -1,12 +1,10 @@
 -- What the code must know of a token, so that what it does at the token is what the grammar's action does.
-use Rattle.std.specs.Prelude.{ℕ, ◌+◌, ◌/◌, ◌%◌, ◌≤◌, Bool, true, false, not, ◌&&◌, length, ◌≡◌, List, [], ◌∷◌}
+use Rattle.std.specs.Prelude.{ℕ, ◌+◌, ◌/◌, ◌%◌, ◌≤◌, Bool, true, false, not, ◌&&◌, length, ◌≡◌, List, [], ◌∷◌, Option as CodeOption, Some, None}
 use Rattle.std.proofs.Math.Option.{Option, none, some}
 use Rattle.lexer.specs.declared.Token.{Token}
 use Rattle.notation.specs.Tokens.{Lexeme, token_of, a_word, a_number, a_variable, true_word, false_word}
 use Rattle.notation.specs.Building.{Build, acts, Action, begin, begin_resource, around, instead, close, constant, read, named, parent_first, void, enter, leave, spelled, resource_tag}
 use Rattle.tree_builder.specs.Shows.{DoesAt, AnInteger, ABoolean, AString, AVariable, AClassVariable, AName, Shows, IsWord, Ready}
-use Rattle.tree_builder.specs.declared.Step.{Step}
-use Rattle.tree_builder.specs.declared.Step.TheVariants.{Did, No}
 use Rattle.parse_table.specs.Codes.{actions_in}
 use Rattle.tree_builder.specs.declared.Building.{Building}
 use Rattle.parser.specs.declared.actions.Names.{Names}
@@ -56,7 +54,7 @@ is_constant (void t) = false
 is_constant enter = false
 is_constant leave = false
 
-unfoldable pub WordRead : Action → Token → Step → Type 0
+unfoldable pub WordRead : Action → Token → CodeOption Building → Type 0
 WordRead a r step = is_constant a ≡ true → r.kind ≡ a_word → IsWord step
 
 -- whether there is one action, which reads a constant
@@ -71,9 +69,9 @@ no_action [] = true
 no_action (a ∷ ds) = false
 
 -- behind one that reads a constant, at a word, the state tells so; behind none the state is as before
-pub record WordsRead (ds : List Action) (r : Token) (s : Building) (step : Step) : Type 0 where
+pub record WordsRead (ds : List Action) (r : Token) (s : Building) (step : CodeOption Building) : Type 0 where
   pub word : only_constant ds ≡ true → r.kind ≡ a_word → IsWord step
-  pub idle : no_action ds ≡ true → step ≡ Did s
+  pub idle : no_action ds ≡ true → step ≡ Some s
 
 -- what an action asks for: room for the slots, a state in range, and where a name comes in the place of a string constant, that one was just read
 pub record Able (frames : List ℕ) (s : Building) (action : ℕ) (r : Token) : Type 0 where
@@ -99,9 +97,9 @@ pub record AllMade (table : List (List ℕ)) (most : ℕ) (s : Building) (frames
   pub shows : Shows table s frames out made
   pub grown : s.fill ≤ most
 
-unfoldable pub AllAnswered : (table : List (List ℕ)) → (most : ℕ) → Step → (frames out : List ℕ) → (wanted : Option Build) → Type 0
-AllAnswered table n No m out o = o ≡ none
-AllAnswered table n (Did s) m out o = AllMade table n s m out o
+unfoldable pub AllAnswered : (table : List (List ℕ)) → (most : ℕ) → CodeOption Building → (frames out : List ℕ) → (wanted : Option Build) → Type 0
+AllAnswered table n None m out o = o ≡ none
+AllAnswered table n (Some s) m out o = AllMade table n s m out o
 
 -- whether an action puts a name in the place of a string constant, and that none of some does
 abbrev pub is_instead : Action → Bool
@@ -123,15 +121,15 @@ no_instead [] = true
 no_instead (a ∷ ds) = not (is_instead a) && no_instead ds
 
 -- some actions at any token that is r: what the answer says
-unfoldable pub DoesAllAt : Types → Token → Names → List Action → Building → (frames out : List ℕ) → Step → (frames' out' : List ℕ) → Type 0
+unfoldable pub DoesAllAt : Types → Token → Names → List Action → Building → (frames out : List ℕ) → CodeOption Building → (frames' out' : List ℕ) → Type 0
 DoesAllAt types r ns ds s m out a m' out' = (table : List (List ℕ)) (f : Build) (x : Lexeme) → SuitsAll types r ns ds table x → Shows table s m out f → AllAnswered table (filled s.fill ds) a m' out' (acts types ds x f)
 
 -- the same, whatever types are built in
-abbrev pub DoesAll : Token → Names → List Action → Building → (frames out : List ℕ) → Step → (frames' out' : List ℕ) → Type 0
+abbrev pub DoesAll : Token → Names → List Action → Building → (frames out : List ℕ) → CodeOption Building → (frames' out' : List ℕ) → Type 0
 DoesAll r ns ds s m out a m' out' = (types : Types) → DoesAllAt types r ns ds s m out a m' out'
 
 -- one action at any token that is r
-abbrev pub DoesFor : Token → Names → Action → Building → (frames out : List ℕ) → Step → (frames' out' : List ℕ) → Type 0
+abbrev pub DoesFor : Token → Names → Action → Building → (frames out : List ℕ) → CodeOption Building → (frames' out' : List ℕ) → Type 0
 DoesFor r ns a s m out st m' out' = (types : Types) → DoesAt types (Suits types r a ns) a s m out st m' out'
 
 -- what some actions ask for: the state stands for a tree, and the token for x; a name comes in the place of a constant only where one was just read

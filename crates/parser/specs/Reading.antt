@@ -1,5 +1,5 @@
 -- What reading a token, and all tokens of a text, does: steps of the grammar's machine, and strings that are entered in the table.
-use Rattle.std.specs.Prelude.{ℕ, ◌+◌, ◌*◌, ◌≤◌, ◌<◌, ◌≡◌, true, false, List, [], ◌∷◌, eqb, length, take}
+use Rattle.std.specs.Prelude.{ℕ, ◌+◌, ◌*◌, ◌≤◌, ◌<◌, ◌≡◌, true, false, List, [], ◌∷◌, eqb, length, take, Result, Ok, Err}
 use Rattle.values.specs.declared.Reason.TheVariants.{OutsideNotation}
 use Rattle.rules.specs.Bytes.{pick}
 use Rattle.rules.specs.EditRule.{IsBytes}
@@ -23,9 +23,8 @@ use Rattle.tree_builder.specs.Shows.{Shows}
 use Rattle.parser.specs.declared.steps.Machine.{Machine}
 use Rattle.parser.specs.declared.text.Pass.{Pass}
 use Rattle.parser.specs.declared.text.Read.{Read}
-use Rattle.parser.specs.declared.text.Read.TheVariants.{On, Done, Fault}
-use Rattle.parser.specs.declared.text.ReadText.{ReadText}
-use Rattle.parser.specs.declared.text.ReadText.TheVariants.{Whole, Fault as TextFault}
+use Rattle.parser.specs.declared.text.Read.TheVariants.{On, Done}
+use Rattle.parser.specs.declared.text.Whole.{Whole}
 use Rattle.parser.specs.Entering.{Enterable}
 use Rattle.parser.specs.Stepping.{WordOnTop}
 
@@ -100,17 +99,17 @@ pub record TokenRefused (types : Types) (t stack₀ table₀ : List ℕ) (p : Pa
   pub barred : Barred types (symbols_of stack₀ p) token tree₀ (strings_so_far t table₀ p)
   pub small : place < 65536
 
-unfoldable pub ReadSo : (types : Types) (t stack₀ table₀ : List ℕ) (p : Pass) (tree₀ : Build) → Read → (out frames stack table : List ℕ) → Type 0
-ReadSo types t st₀ tb₀ p f (On next) out m st tb = TokenTaken types t st₀ tb₀ p f next out m st tb (tokens_left t next) × (p.at < next.at)
-ReadSo types t st₀ tb₀ p f (Done last) out m st tb = TokenTaken types t st₀ tb₀ p f last out m st tb []
-ReadSo types t st₀ tb₀ p f (Fault q) out m st tb = TokenRefused types t st₀ tb₀ p f q
+unfoldable pub ReadSo : (types : Types) (t stack₀ table₀ : List ℕ) (p : Pass) (tree₀ : Build) → Result Read ℕ → (out frames stack table : List ℕ) → Type 0
+ReadSo types t st₀ tb₀ p f (Ok (On next)) out m st tb = TokenTaken types t st₀ tb₀ p f next out m st tb (tokens_left t next) × (p.at < next.at)
+ReadSo types t st₀ tb₀ p f (Ok (Done last)) out m st tb = TokenTaken types t st₀ tb₀ p f last out m st tb []
+ReadSo types t st₀ tb₀ p f (Err q) out m st tb = TokenRefused types t st₀ tb₀ p f q
 
 -- where a pass stands behind a token that was taken
 abbrev pub pass_behind : Token → Machine → (count : ℕ) → Pass
 pass_behind token machine count = record { at = token.end; line = token.line_behind; operand = operand_behind token.kind; machine = machine; count = count }
 
 -- what reading a token does, with whatever tree the pass stands at
-abbrev pub ReadsToken : (types : Types) (t out₀ frames₀ stack₀ table₀ : List ℕ) (p : Pass) → Read → (out frames stack table : List ℕ) → Type 0
+abbrev pub ReadsToken : (types : Types) (t out₀ frames₀ stack₀ table₀ : List ℕ) (p : Pass) → Result Read ℕ → (out frames stack table : List ℕ) → Type 0
 ReadsToken types t out₀ m₀ st₀ tb₀ p r out m st tb = (tree : Build) → Stage t out₀ m₀ st₀ tb₀ p tree → ReadSo types t st₀ tb₀ p tree r out m st tb
 
 -- ---- All tokens
@@ -148,6 +147,6 @@ pub record ReadFault (types : Types) (t : List ℕ) (before : List (List ℕ)) (
   pub read : read_text (reading types (tokens t)) (crowded_at (tokens t) before) ≡ refused OutsideNotation place
   pub low : place < 65536
 
-unfoldable pub TextRead : (types : Types) (t : List ℕ) → (before : List (List ℕ)) → ReadText → (out table : List ℕ) → Type 0
-TextRead types t before (Whole count late fill) out table = ReadWhole types t before out table count late fill
-TextRead types t before (TextFault place) out table = ReadFault types t before place
+unfoldable pub TextRead : (types : Types) (t : List ℕ) → (before : List (List ℕ)) → Result Whole ℕ → (out table : List ℕ) → Type 0
+TextRead types t before (Ok w) out table = ReadWhole types t before out table w.count w.late w.fill
+TextRead types t before (Err place) out table = ReadFault types t before place

@@ -1,5 +1,5 @@
 -- When the stack of symbols, the tree in the making and a token in hand are a state of the grammar's machine, and what a step makes of it.
-use Rattle.std.specs.Prelude.{ℕ, ◌+◌, ◌-◌, ◌*◌, ◌≤◌, ◌<◌, ◌≡◌, Bool, true, false, not, ◌&&◌, List, [], ◌∷◌, length}
+use Rattle.std.specs.Prelude.{ℕ, ◌+◌, ◌-◌, ◌*◌, ◌≤◌, ◌<◌, ◌≡◌, Bool, true, false, not, ◌&&◌, List, [], ◌∷◌, length, Option, Some, None}
 use Rattle.lexer.specs.declared.Token.{Token}
 use Rattle.notation.specs.Tokens.{Lexeme, kind, token_of, is_among, a_word, a_number, a_text, a_variable, a_qualified, left_square, true_word, false_word}
 use Rattle.notation.specs.Building.{Build, spelled, resource_tag}
@@ -11,8 +11,6 @@ use Rattle.parse_table.specs.Stack.{stack_of}
 use Rattle.parse_table.specs.declared.rows.Row.{Row}
 use Rattle.parse_table.proofs.Bound.{Kept}
 use Rattle.parser.specs.declared.steps.Machine.{Machine}
-use Rattle.parser.specs.declared.steps.Taken.{Taken}
-use Rattle.parser.specs.declared.steps.Taken.TheVariants.{To, Stuck}
 use Rattle.tree_builder.specs.declared.Building.{Building}
 use Rattle.tree_builder.specs.Shows.{AName, Shows}
 use Rattle.parse_table.specs.Codes.{symbol_of}
@@ -86,9 +84,9 @@ pub record Onward (table : List (List ℕ)) (m : Machine) (stack frames out : Li
   pub shows : Shows table m.building frames out tree
   pub words : WordOnTop (stack_of stack m.top) m.building
 
-unfoldable pub TakenSo : (table : List (List ℕ)) → Taken → (stack frames out : List ℕ) → (wanted : Stepped) → Type 0
-TakenSo table Stuck st m out o = o ≡ stuck
-TakenSo table (To n) st m out o = Onward table n st m out o
+unfoldable pub TakenSo : (table : List (List ℕ)) → Option Machine → (stack frames out : List ℕ) → (wanted : Stepped) → Type 0
+TakenSo table None st m out o = o ≡ stuck
+TakenSo table (Some n) st m out o = Onward table n st m out o
 
 -- what a step asks for
 pub record SteppableAt (types : Types) (stack frames out : List ℕ) (s : Building) (top : ℕ) (r : Token) (ns : Names) : Type 0 where
@@ -105,11 +103,11 @@ pub record Steppable (stack frames out : List ℕ) (s : Building) (top : ℕ) (r
   pub steppable : SteppableAt types stack frames out s top r ns
 
 -- what it does
-unfoldable pub StepsAt : Types → Token → Names → Building → (top : ℕ) → (stack frames out : List ℕ) → Taken → (stack' frames' out' : List ℕ) → Type 0
+unfoldable pub StepsAt : Types → Token → Names → Building → (top : ℕ) → (stack frames out : List ℕ) → Option Machine → (stack' frames' out' : List ℕ) → Type 0
 StepsAt types r ns s top st m out a st' m' out' = (table : List (List ℕ)) (f : Build) (x : Lexeme) → Standing types st m out s top r ns table f x → TakenSo table a st' m' out' (step types (stack_of st top) x f)
 
 -- the same, whatever types are built in
-abbrev pub Steps : Token → Names → Building → (top : ℕ) → (stack frames out : List ℕ) → Taken → (stack' frames' out' : List ℕ) → Type 0
+abbrev pub Steps : Token → Names → Building → (top : ℕ) → (stack frames out : List ℕ) → Option Machine → (stack' frames' out' : List ℕ) → Type 0
 Steps r ns s top st m out a st' m' out' = (types : Types) → StepsAt types r ns s top st m out a st' m' out'
 
 -- the row of the symbol on top takes the token

@@ -11,7 +11,7 @@ use parse_table::actions::{
     AROUND_PLUS, AROUND_SELECTOR, BEGIN_RESOURCE, CONSTANT, ENTER, INSTEAD, LEAVE, NAMED,
     PARENT_FIRST, READ,
 };
-use tree_builder::{Building, Step};
+use tree_builder::Building;
 
 // The strings of a token by their numbers in the table, and the tag of a resource of the type that it names.
 #[derive(Clone, Copy)]
@@ -27,7 +27,7 @@ const BEGIN: u32 = 0x10;
 const EMPTY: u32 = 0x40;
 
 // The token is a constant: a number, true or false, or else a string.
-fn add_constant(out: &mut [u8], s: Building, token: Token, name: u16) -> Step
+fn add_constant(out: &mut [u8], s: Building, token: Token, name: u16) -> Option<Building>
     requires { (token.start ≤ 1048576) × Ready s }
     ensures { ((frames : List ℕ) → Does (ConstantAt token name) constant_action s frames out.old result frames out.new) × (token.kind ≡ 0 → IsWord result) }
 {
@@ -41,7 +41,7 @@ fn add_constant(out: &mut [u8], s: Building, token: Token, name: u16) -> Step
 }
 
 // The token is a variable: $x, $::x or $::a::x.
-fn add_variable(out: &mut [u8], s: Building, token: Token, names: Names) -> Step
+fn add_variable(out: &mut [u8], s: Building, token: Token, names: Names) -> Option<Building>
     requires { Ready s }
     ensures { (frames : List ℕ) → Does (VariableAt token names) read_action s frames out.old result frames out.new }
 {
@@ -62,19 +62,19 @@ fn do_plain(
     action: u32,
     token: Token,
     names: Names,
-) -> Step
+) -> Option<Building>
     requires { Able frames.old s action token × (action < 0x10) }
     ensures { DoesFor token names (action_of action) s frames.old out.old result frames.new out.new × WordRead (action_of action) token result }
 {
     match action {
         CONSTANT => add_constant(out, s, token, names.name),
         READ => add_variable(out, s, token, names),
-        NAMED => Step::Did(tree_builder::add_name(out, s, names.name)),
+        NAMED => Some(tree_builder::add_name(out, s, names.name)),
         PARENT_FIRST => tree_builder::parent_first(out, s, names.name),
         ENTER => tree_builder::enter(s),
         LEAVE => tree_builder::leave(s),
         BEGIN_RESOURCE => tree_builder::begin(out, frames, s, names.resource),
-        INSTEAD => Step::Did(tree_builder::instead(out, frames, s, 0x18)),
+        INSTEAD => Some(tree_builder::instead(out, frames, s, 0x18)),
         AROUND_SELECTOR => tree_builder::around(out, frames, s, 0x19),
         _ => tree_builder::close(out, frames, s),
     }
@@ -88,7 +88,7 @@ fn do_action(
     action: u32,
     token: Token,
     names: Names,
-) -> Step
+) -> Option<Building>
     requires { Able frames.old s action token × (action < 0x100) }
     ensures { DoesFor token names (action_of action) s frames.old out.old result frames.new out.new × WordRead (action_of action) token result }
 {
@@ -113,19 +113,16 @@ pub fn do_actions(
     actions: u32,
     token: Token,
     names: Names,
-) -> Step
+) -> Option<Building>
     requires { Stands frames.old out.old s actions token names }
     ensures { DoesAll token names (actions_in actions) s frames.old out.old result frames.new out.new × WordsRead (actions_in actions) token s result }
 {
     if actions == 0 {
-        return Step::Did(s);
+        return Some(s);
     }
     let first = do_action(out, frames, s, actions % 256, token, names);
     if actions < 256 {
         return first;
     }
-    match first {
-        Step::Did(next) => do_actions(out, frames, next, actions / 256, token, names),
-        Step::No => Step::No,
-    }
+    do_actions(out, frames, first?, actions / 256, token, names)
 }

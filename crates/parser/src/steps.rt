@@ -6,20 +6,13 @@ use lexer::Token;
 use parse_table::rows::Row;
 use parse_table::stack::push;
 use parse_table::table::{left_out, row};
-use tree_builder::{Building, Step};
+use tree_builder::Building;
 
 // The number of symbols on the stack, and the tree in the making.
 #[derive(Clone, Copy)]
 pub struct Machine {
     pub top: usize,
     pub building: Building,
-}
-
-// What comes of a token: the new state, or that the token may not stand there.
-#[derive(Clone, Copy)]
-pub enum Taken {
-    To(Machine),
-    Stuck,
 }
 
 // The symbol on top takes the token: its actions are done, and the row's symbols come in its place.
@@ -32,20 +25,13 @@ fn take_row(
     token: Token,
     names: Names,
     row: Row,
-) -> Taken
+) -> Option<Machine>
     requires { Steppable stack.old frames.old out.old s top token names × TakenRow stack.old top token row }
     ensures { Steps token names s top stack.old frames.old out.old result stack.new frames.new out.new }
 {
-    match do_actions(out, frames, s, row.actions, token, names) {
-        Step::Did(next) => {
-            let above = push(stack, top, row.symbols);
-            Taken::To(Machine {
-                top: above,
-                building: next,
-            })
-        }
-        Step::No => Taken::Stuck,
-    }
+    let building = do_actions(out, frames, s, row.actions, token, names)?;
+    let top = push(stack, top, row.symbols);
+    Some(Machine { top, building })
 }
 
 // One token: from the top on, symbols that do not take it are left out, up to the one that does. Most of them have no actions then: the state is
@@ -58,7 +44,7 @@ pub fn take(
     top: usize,
     token: Token,
     names: Names,
-) -> Taken
+) -> Option<Machine>
     requires { Steppable stack.old frames.old out.old s top token names }
     ensures { Steps token names s top stack.old frames.old out.old result stack.new frames.new out.new }
 {
@@ -73,15 +59,12 @@ pub fn take(
         n = n - 1;
         let left = left_out(symbol);
         if !left.allowed {
-            return Taken::Stuck;
+            return None;
         }
         if left.actions == 0 {
             continue;
         }
-        match do_actions(out, frames, building, left.actions, token, names) {
-            Step::Did(next) => building = next,
-            Step::No => return Taken::Stuck,
-        }
+        building = do_actions(out, frames, building, left.actions, token, names)?;
     }
-    Taken::Stuck
+    None
 }

@@ -9,7 +9,7 @@ ghost use Rattle.parser.specs.Entering.{Spelled, EnteredFor};
 ghost use Rattle.parser.specs.Reading.{word_for, Passable, pass_behind, ReadsToken, Begun, Readable, TextRead};
 
 use crate::actions::Names;
-use crate::steps::{Machine, Taken, take};
+use crate::steps::{Machine, take};
 use crate::strings::{Numbered, enter_both, enter_one};
 use lexer::{Token, next_token};
 use notation::kinds::{
@@ -96,12 +96,11 @@ pub struct Pass {
     pub count: usize,
 }
 
-// What comes of a token: more tokens follow, it was the end, or it may not stand there or brings one string too many.
+// What comes of a token that was taken: more tokens follow, or it was the end.
 #[derive(Clone, Copy)]
 pub enum Read {
     On(Pass),
     Done(Pass),
-    Fault(usize),
 }
 
 // Where a pass stands behind a token that was taken.
@@ -117,7 +116,7 @@ fn pass_behind(token: Token, machine: Machine, count: usize) -> Pass
     }
 }
 
-// One token.
+// One token. The error is its place: it may not stand there or brings one string too many.
 pub fn read_token(
     types: &[u8],
     index: &[u8],
@@ -128,17 +127,17 @@ pub fn read_token(
     stack: &mut [u8],
     table: &mut [u8],
     pass: Pass,
-) -> Read
+) -> Result<Read, usize>
     requires { Listed types.now index.now listed × Passable text.now out.old frames.old stack.old table.old pass }
     ensures { ReadsToken (chosen types.now) text.now out.old frames.old stack.old table.old pass result out.new frames.new stack.new table.new }
 {
     let token = next_token(text, pass.at, pass.line, pass.operand);
     if token.kind == MALFORMED {
-        return Read::Fault(token.start);
+        return Err(token.start);
     }
     let numbers = enter_strings(text, table, pass.count, token);
     if 1024 < numbers.count {
-        return Read::Fault(token.start);
+        return Err(token.start);
     }
     let names = Names {
         class: numbers.class,
@@ -147,16 +146,14 @@ pub fn read_token(
     };
     let machine = pass.machine;
     let building = word_for(machine.building, token.kind);
-    match take(out, frames, stack, building, machine.top, token, names) {
-        Taken::Stuck => Read::Fault(token.start),
-        Taken::To(behind) => {
-            let next = pass_behind(token, behind, numbers.count);
-            if token.kind == END_OF_TEXT {
-                return Read::Done(next);
-            }
-            Read::On(next)
-        }
+    let Some(behind) = take(out, frames, stack, building, machine.top, token, names) else {
+        return Err(token.start);
+    };
+    let next = pass_behind(token, behind, numbers.count);
+    if token.kind == END_OF_TEXT {
+        return Ok(Read::Done(next));
     }
+    Ok(Read::On(next))
 }
 
 // Where a pass begins, with so many strings in the table: all of the manifest is still to come.
@@ -177,18 +174,15 @@ pub fn begin(stack: &mut [u8], count: usize) -> Pass
     }
 }
 
-// What comes of a text: it is read whole, or the place of the first token that may not stand there or brings the 1,025th string.
+// What a text that is read whole has: how many strings the table has, the place + 1 of the first constant on a line past 255, or 0, and the bytes of the items.
 #[derive(Clone, Copy)]
-pub enum ReadText {
-    Whole {
-        count: usize,
-        late: usize,
-        fill: usize,
-    },
-    Fault(usize),
+pub struct Whole {
+    pub count: usize,
+    pub late: usize,
+    pub fill: usize,
 }
 
-// All tokens of a text.
+// All tokens of a text. The error is the place of the first one that may not stand there or brings the 1,025th string.
 pub fn read_text(
     types: &[u8],
     index: &[u8],
@@ -199,24 +193,23 @@ pub fn read_text(
     stack: &mut [u8],
     table: &mut [u8],
     count: usize,
-) -> ReadText
+) -> Result<Whole, usize>
     requires { Listed types.now index.now listed × Readable text.now out.old frames.old stack.old table.old count }
     ensures { TextRead (chosen types.now) text.now (strings text.now table.old count) result out.new table.new }
 {
     let mut pass = begin(stack, count);
     loop {
-        match read_token(types, index, listed, text, out, frames, stack, table, pass) {
+        match read_token(types, index, listed, text, out, frames, stack, table, pass)? {
             Read::On(next) => pass = next,
             Read::Done(last) => {
                 let machine = last.machine;
                 let building = machine.building;
-                return ReadText::Whole {
+                return Ok(Whole {
                     count: last.count,
                     late: building.late,
                     fill: building.fill,
-                };
+                });
             }
-            Read::Fault(place) => return ReadText::Fault(place),
         }
     }
 }

@@ -3,7 +3,7 @@ use Prim.Native.Nat.{ℕ, ◌+◌, ◌≤◌, ◌<◌}
 use mathlib.Core.Path.{◌≡◌, refl, sym, ap, ◌∙◌}
 use mathlib.Core.Bool.{Bool, true, false, ◌&&◌}
 use mathlib.Core.List.{List, [], ◌∷◌, ◌++◌}
-use lib.Dec.{eqb, ltb}
+use lib.Dec.{eqb}
 use native.Mathlib.Omega.{arith}
 use borrow.Author.Tests.{eqb-true, le-ltb}
 use Rattle.values.specs.declared.Value.{Value}
@@ -17,31 +17,31 @@ use Rattle.rules.specs.Patterns.{tried}
 use Rattle.rules.specs.Evaluate.{come_to, come_to_all}
 use Rattle.places.specs.At.{constant_at}
 use Rattle.memory.specs.Words.{word_of, strike_label, strike_end, struck_at, struck_in}
-use Rattle.patterns.specs.declared.Choice.{Choice}
-use Rattle.patterns.specs.declared.Choice.TheVariants.{At, Nothing}
-use Rattle.patterns.specs.Tried.{patterns_at, kept}
+use Rattle.patterns.specs.Tried.{patterns_at}
 use Rattle.patterns.specs.Struck.{first_struck, Near}
 use Rattle.patterns.proofs.Places.{no_pattern_lem, default_first, constant_first}
+use Rattle.std.specs.Option.{option_or}
+use Rattle.std.specs.Prelude.{Option, Some, None}
 
 -- ---- The ways
 
 -- where no place is before the end of what is struck out, nothing is
-pub none_struck : (w : List ℕ) → eqb (word_of w strike_end) 0 ≡ true → (vs : List Constant) → Nothing ≡ first_struck w vs
+pub none_struck : (w : List ℕ) → eqb (word_of w strike_end) 0 ≡ true → (vs : List Constant) → None ≡ first_struck w vs
 unfolding first_struck struck_in struck_at
 none_struck w e [] = refl
 none_struck w e (v ∷ vs) =
     let past : word_of w strike_end ≤ v.place = omega (arith, eqb-true (word_of w strike_end) 0 e) in
-    rw (le-ltb v.place (word_of w strike_end) past) (none_struck w e vs ∙ ap (λ (b : Bool). pick b (At v.place) (first_struck w vs)) (nothing (eqb v.label (word_of w strike_label))))
+    rw (le-ltb v.place (word_of w strike_end) past) (none_struck w e vs ∙ ap (λ (b : Bool). pick b (Some v.place) (first_struck w vs)) (nothing (eqb v.label (word_of w strike_label))))
   where
     nothing : (b : Bool) → false ≡ (b && false)
     nothing true = refl
     nothing false = refl
 
-abbrev pub StruckFrom : (m w : List ℕ) (e : ℕ) → Value → (q : ℕ) → Choice
+abbrev pub StruckFrom : (m w : List ℕ) (e : ℕ) → Value → (q : ℕ) → Option ℕ
 StruckFrom m w e x q = first_struck w (tried (patterns_at m (fields_in m q e)) x)
 
 module _ (m w : List ℕ) (e : ℕ) (x : Value) (q : ℕ) where
-  pub struck_end : e ≤ q → Nothing ≡ StruckFrom m w e x q
+  pub struck_end : e ≤ q → None ≡ StruckFrom m w e x q
   unfolding first_struck tried
   struck_end l = rw (no_pattern_lem m q e l) refl
 
@@ -55,12 +55,12 @@ module _ (m w : List ℕ) (e : ℕ) (x : Value) (q : ℕ) where
       unfolding struck_in constant_at
       its_strike = ap (λ (n : ℕ). struck_at w n (q + 3)) (sym labelled) ∙ sym struck
 
-      pub struck_here : b ≡ true → At (q + 3) ≡ StruckFrom m w e x q
+      pub struck_here : b ≡ true → Some (q + 3) ≡ StruckFrom m w e x q
       unfolding first_struck tried constant_at
       struck_here is = rw (constant_first m q e l read h, its_strike ∙ is) refl
 
       module _ {s : Bool} (same : s ≡ same_value x (constant_at m (q + 3)).value) (not : b ≡ false) where
-        pub struck_match : s ≡ true → Nothing ≡ StruckFrom m w e x q
+        pub struck_match : s ≡ true → None ≡ StruckFrom m w e x q
         unfolding first_struck tried
         struck_match is = rw (constant_first m q e l read h, its_strike ∙ not, sym same ∙ is) refl
 
@@ -68,31 +68,31 @@ module _ (m w : List ℕ) (e : ℕ) (x : Value) (q : ℕ) where
         unfolding first_struck tried
         struck_next is n = rw (constant_first m q e l read h, its_strike ∙ not, sym same ∙ is, n) refl
 
-pub near_at : {c : Choice} {p : ℕ} → c ≡ At p → Near c → p ≤ 65535
+pub near_at : {c : Option ℕ} {p : ℕ} → c ≡ Some p → Near c → p ≤ 65535
 unfolding Near
 near_at is near = rw is at near
 
-pub struck_append : (w : List ℕ) (vs us : List Constant) → first_struck w (vs ++ us) ≡ kept (first_struck w vs) (first_struck w us)
-unfolding first_struck kept
+pub struck_append : (w : List ℕ) (vs us : List Constant) → first_struck w (vs ++ us) ≡ option_or (first_struck w vs) (first_struck w us)
+unfolding first_struck
 struck_append w [] us = refl
 struck_append w (v ∷ vs) us = go (struck_in w v) (first_struck w vs) (struck_append w vs us)
   where
-    go : (b : Bool) {c : Choice} (d : Choice) → c ≡ kept d (first_struck w us) → pick b (At v.place) c ≡ kept (pick b (At v.place) d) (first_struck w us)
+    go : (b : Bool) {c : Option ℕ} (d : Option ℕ) → c ≡ option_or d (first_struck w us) → pick b (Some v.place) c ≡ option_or (pick b (Some v.place) d) (first_struck w us)
     go true d e = refl
     go false d e = e
 
 -- ---- The run
 
 -- a run that comes to the constants is refused at the first that is struck out
-unfoldable pub came_to : Choice → Outcome (Unit {0})
-came_to (At p) = refused Malformed p
-came_to Nothing = done tt
+unfoldable pub came_to : Option ℕ → Outcome (Unit {0})
+came_to (Some p) = refused Malformed p
+came_to None = done tt
 
 pub come_to_all_lem : (k : Known) (w : List ℕ) → ((v : Constant) → k.struck_out v ≡ struck_in w v) → (vs : List Constant) → come_to_all k vs ≡ came_to (first_struck w vs)
 unfolding come_to_all come_to first_struck came_to refuse_if ◌>>=◌
 come_to_all_lem k w e [] = refl
 come_to_all_lem k w e (v ∷ vs) = rw (e v) (go (struck_in w v) (first_struck w vs) (come_to_all_lem k w e vs))
   where
-    go : (b : Bool) {o : Outcome (Unit {0})} (c : Choice) → o ≡ came_to c → (refuse_if b Malformed v.place >>= λ _. o) ≡ came_to (pick b (At v.place) c)
+    go : (b : Bool) {o : Outcome (Unit {0})} (c : Option ℕ) → o ≡ came_to c → (refuse_if b Malformed v.place >>= λ _. o) ≡ came_to (pick b (Some v.place) c)
     go true c h = refl
     go false c h = h

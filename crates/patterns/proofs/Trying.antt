@@ -14,44 +14,42 @@ use Rattle.rules.specs.Arithmetic.{same_value}
 use Rattle.rules.specs.Tree.{Constant}
 use Rattle.rules.specs.Patterns.{Patterns, no_pattern, constant_pattern, default_pattern, first_equal, first_default, chosen, tried, labels_of, tried_labels}
 use Rattle.rules.proofs.Patterns.{tried_equal, tried_other}
-use Rattle.patterns.specs.declared.Choice.{Choice}
-use Rattle.patterns.specs.declared.Choice.TheVariants.{At, Nothing}
-use Rattle.patterns.specs.Tried.{patterns_at, Matches, kept}
+use Rattle.patterns.specs.Tried.{patterns_at, Matches}
+use Rattle.std.specs.Option.{option_or}
+use Rattle.std.specs.Prelude.{Option, Some, None}
 
 -- ---- The default kept
 
-kept_none : (d : Choice) → kept d Nothing ≡ d
-unfolding kept
-kept_none (At q) = refl
-kept_none Nothing = refl
+kept_none : (d : Option ℕ) → option_or d None ≡ d
+kept_none (Some q) = refl
+kept_none None = refl
 
-kept_once : (d : Choice) (q : ℕ) (later : Choice) → kept (kept d (At q)) later ≡ kept d (At q)
-unfolding kept
-kept_once (At p) q later = refl
-kept_once Nothing q later = refl
+kept_once : (d : Option ℕ) (q : ℕ) (later : Option ℕ) → option_or (option_or d (Some q)) later ≡ option_or d (Some q)
+kept_once (Some p) q later = refl
+kept_once None q later = refl
 
 -- ---- One law for each pattern that comes next
 
 -- the labels joined so far to the set s, and the default met, with the patterns left, give what those from `first` to e give
-pub record Trying (m : List ℕ) (first e : ℕ) (x : Value) (s joined : List ℕ) (met : Choice) (left : Patterns Choice) : Type 0 where
-  pub at : first_equal left x (kept met (first_default left Nothing)) ≡ chosen (patterns_at m (fields_in m first e)) x Nothing
+pub record Trying (m : List ℕ) (first e : ℕ) (x : Value) (s joined : List ℕ) (met : Option ℕ) (left : Patterns (Option ℕ)) : Type 0 where
+  pub at : first_equal left x (option_or met (first_default left None)) ≡ chosen (patterns_at m (fields_in m first e)) x None
   pub labels : labels_in joined ∪ tried_labels left x ≡ labels_in s ∪ tried_labels (patterns_at m (fields_in m first e)) x
   pub size : length joined ≡ 4
 
-pub none_tried : (m : List ℕ) (first e : ℕ) (x : Value) (s : List ℕ) → length s ≡ 4 → Trying m first e x s s Nothing (patterns_at m (fields_in m first e))
-unfolding chosen kept
+pub none_tried : (m : List ℕ) (first e : ℕ) (x : Value) (s : List ℕ) → length s ≡ 4 → Trying m first e x s s None (patterns_at m (fields_in m first e))
+unfolding chosen
 none_tried m first e x s size = record { at = refl; labels = refl; size = size }
 
-module _ {m : List ℕ} {first e : ℕ} {x : Value} {s joined : List ℕ} {met : Choice} where
+module _ {m : List ℕ} {first e : ℕ} {x : Value} {s joined : List ℕ} {met : Option ℕ} where
   pub none_left : Trying m first e x s joined met no_pattern → Matches m first e x s joined met
   unfolding first_equal first_default tried_labels tried labels_of
   none_left i = record { at = sym (kept_none met) ∙ i.at; labels = record { size = i.size; labels = sym (union_none_after (labels_in joined)) ∙ i.labels } }
 
-  pub default_met : {follows : ℕ} {left : Patterns Choice} → Trying m first e x s joined met (default_pattern (At follows) left) → Trying m first e x s joined (kept met (At follows)) left
+  pub default_met : {follows : ℕ} {left : Patterns (Option ℕ)} → Trying m first e x s joined met (default_pattern (Some follows) left) → Trying m first e x s joined (option_or met (Some follows)) left
   unfolding first_equal first_default tried_labels tried
   default_met {follows} {left} i = record { at = ap (first_equal left x) (kept_once met follows _) ∙ i.at; labels = i.labels; size = i.size }
 
-  module _ {c : Constant} {follows : Choice} {left : Patterns Choice} (i : Trying m first e x s joined met (constant_pattern c follows left)) {more : List ℕ} (j : Joins joined more (one_label c.label)) where
+  module _ {c : Constant} {follows : Option ℕ} {left : Patterns (Option ℕ)} (i : Trying m first e x s joined met (constant_pattern c follows left)) {more : List ℕ} (j : Joins joined more (one_label c.label)) where
     pub constant_equal : same_value x c.value ≡ true → Matches m first e x s more follows
     unfolding first_equal
     constant_equal same = record { at = rw (same, first_equal) at i.at; labels = record { size = j.size; labels = j.labels ∙ ap (λ (k : Labels). labels_in joined ∪ k) (sym (tried_equal c follows left x same)) ∙ i.labels } }

@@ -20,7 +20,6 @@ use Rattle.rules.specs.Read.{entry_for, is_default, statement_in, block_in, bloc
 use Rattle.rules.specs.declared.Kind.{Kind}
 use Rattle.rules.specs.declared.Kind.TheVariants.{Table, Text, Constant as ConstantKind, Statement as StatementKind, Block as BlockKind, Parameter as ParameterKind, Parent as ParentKind, Item as ItemKind, Device}
 use Rattle.rules.specs.declared.Part.TheVariants.{Over, One, UpTo, Many, Names}
-use Rattle.rules.specs.declared.Verdict.TheVariants.{Sound}
 use Rattle.rules.proofs.Within.{false_not_true, check_sound}
 pub use Rattle.places.specs.Parts.{BlockEnds}
 use Rattle.places.specs.At.{constant_at, statement_at, block_at, default_at, parameter_at, parent_at, after_parent_at, item_at, parameters_at, names_at, devices_at, items_at, texts_at, Stands, StandsAs, Siblings, ended, sibling}
@@ -30,6 +29,7 @@ use Rattle.places.proofs.Open.{part_run, run_two, level, tag_read, read_by, Leaf
 use Rattle.places.proofs.Expressions.{constant_read}
 use Rattle.places.proofs.Statements.{block_at_lem}
 use Rattle.rules.proofs.Lists.{when_true, when_false}
+use Rattle.rules.specs.Verdicts.{no_fault}
 
 -- ---- Tags
 
@@ -326,7 +326,7 @@ pub record ManifestAt (m : List ℕ) : Type 0 where
   pub each : Siblings m 32 ItemKind (end_of m 0) (length m)
   pub most : length (string_places m) ≤ 1024
 
-pub shape_opens : (m : List ℕ) → shape m ≡ Sound → ManifestAt m
+pub shape_opens : (m : List ℕ) → shape m ≡ no_fault → ManifestAt m
 unfolding shape allowed form_of form_in forms head_size size manifest_of manifest_from read_all string_places inner
 shape_opens m w =
     let all : PartsStand m 32 0 (three (One Table) (Many ItemKind) Over) 0 (length m) = record { depth = omega arith; from = omega arith; ends = omega arith; sound = w } in
@@ -342,5 +342,5 @@ shape_opens m w =
       most = up_to_most 1024 o.parts;
     }
 
-pub manifest_opens : (m : List ℕ) → check m ≡ Sound → ManifestAt m
+pub manifest_opens : (m : List ℕ) → check m ≡ no_fault → ManifestAt m
 manifest_opens m w = shape_opens m (check_sound m w).shaped

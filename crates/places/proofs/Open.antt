@@ -20,10 +20,10 @@ use Rattle.rules.specs.declared.Part.TheVariants.{Over, One}
 use Rattle.rules.specs.declared.Parts.{Parts}
 use Rattle.rules.specs.declared.Rest.{Rest}
 use Rattle.rules.specs.declared.Rest.TheVariants.{Only, Text, Fields as Inner}
-use Rattle.rules.specs.declared.Verdict.TheVariants.{Sound}
 use Rattle.rules.proofs.Within.{level_left, SoundBody, inside_sound}
 use Rattle.places.specs.At.{Stands, StandsAs, Siblings, ended, sibling}
 use Rattle.places.proofs.Parts.{PartsStand, one_part}
+use Rattle.rules.specs.Verdicts.{no_fault}
 
 -- ---- Bytes of a head
 
@@ -109,7 +109,7 @@ opened {m} {d} {b} {p} {t} {h} {q} {ps} s l e i f =
     let ends = s.ends in
     record {
       read = read_by m p t l e i.head i.rest ∙ λ j. field p (e j) (part_run m (p + 3) h (p + 3 + h) refl (omega arith) j) (read_each (read_field m b) (fields_in m (f j) (end_of m p)));
-      parts = record { depth = omega arith; from = omega arith; ends = ends; sound = subst (λ (n : ℕ). walk m (inside m b) p ps (end_of m p) (fields_in m n (end_of m p)) ≡ Sound) from (body.fields ps i.rest) };
+      parts = record { depth = omega arith; from = omega arith; ends = ends; sound = subst (λ (n : ℕ). walk m (inside m b) p ps (end_of m p) (fields_in m n (end_of m p)) ≡ no_fault) from (body.fields ps i.rest) };
       bytes = body.bytes;
     }
 

@@ -24,11 +24,10 @@ use Rattle.rules.specs.declared.Took.{Took}
 use Rattle.rules.specs.declared.Took.TheVariants.{Takes, Passes, Refuses}
 use Rattle.rules.specs.declared.Next.{Next}
 use Rattle.rules.specs.declared.Next.TheVariants.{Go, Wrong}
-use Rattle.rules.specs.declared.Verdict.{Verdict}
-use Rattle.rules.specs.declared.Verdict.TheVariants.{Sound, Fault}
 use Rattle.rules.proofs.Within.{false_not_true, wrong_not_go, FirstField, first_field, none_missing}
 use Rattle.rules.proofs.Listed.{both_left, both_right, takes_what, not_takes, not_refused, not_passes, refused_not_passes}
 use Rattle.places.specs.At.{Stands, StandsAs, Siblings, ended, sibling}
+use Rattle.rules.specs.Verdicts.{Verdict, fault_at, no_fault}
 
 -- ---- A part that is over, or passes a field on, is as none
 
@@ -50,7 +49,7 @@ module _ (m : List ℕ) (inner : ℕ → Verdict) (p e : ℕ) where
   unfolding walk header follow take may_end part_may_end
   over_first [] b c = go (part_may_end b) (part_may_end c)
     where
-      go : (x y : Bool) → pick (true && (x && y)) Sound (Fault Malformed p) ≡ pick (x && (y && true)) Sound (Fault Malformed p)
+      go : (x y : Bool) → pick (true && (x && y)) no_fault (fault_at Malformed p) ≡ pick (x && (y && true)) no_fault (fault_at Malformed p)
       go true true = refl
       go true false = refl
       go false y = refl
@@ -59,7 +58,7 @@ module _ (m : List ℕ) (inner : ℕ → Verdict) (p e : ℕ) where
       next : Parts → Verdict
       next ps = and_then (inner q) (walk m inner p ps e qs)
 
-      go : ((x y : Part) → walk m inner p (three Over x y) e qs ≡ walk m inner p (three x y Over) e qs) → (h : Bool) (x y : Took) → allowing (pick h (taken x (λ z. Go (three Over z c)) (taken y (λ z. Go (three Over Over z)) Wrong)) Wrong) next (Fault Malformed q) ≡ allowing (pick h (taken x (λ z. Go (three z c Over)) (taken y (λ z. Go (three Over z Over)) Wrong)) Wrong) next (Fault Malformed q)
+      go : ((x y : Part) → walk m inner p (three Over x y) e qs ≡ walk m inner p (three x y Over) e qs) → (h : Bool) (x y : Took) → allowing (pick h (taken x (λ z. Go (three Over z c)) (taken y (λ z. Go (three Over Over z)) Wrong)) Wrong) next (fault_at Malformed q) ≡ allowing (pick h (taken x (λ z. Go (three z c Over)) (taken y (λ z. Go (three Over z Over)) Wrong)) Wrong) next (fault_at Malformed q)
       go later false x y = refl
       go later true (Takes z) y = ap (and_then (inner q)) (later z c)
       go later true Passes (Takes z) = ap (and_then (inner q)) (later Over z)
@@ -69,10 +68,10 @@ module _ (m : List ℕ) (inner : ℕ → Verdict) (p e : ℕ) where
 
   walk_same : (ps qs : Parts) (q : ℕ) (after : List ℕ) → follow ps (byte m q) ≡ follow qs (byte m q) → walk m inner p ps e (q ∷ after) ≡ walk m inner p qs e (q ∷ after)
   unfolding walk header
-  walk_same ps qs q after h = ap (λ (x : Next). allowing (pick (leb (q + 3) e && (leb (end_of m q) e && length_right (form_of (byte m q)) (two m (q + 1)))) x Wrong) (λ y. and_then (inner q) (walk m inner p y e after)) (Fault Malformed q)) h
+  walk_same ps qs q after h = ap (λ (x : Next). allowing (pick (leb (q + 3) e && (leb (end_of m q) e && length_right (form_of (byte m q)) (two m (q + 1)))) x Wrong) (λ y. and_then (inner q) (walk m inner p y e after)) (fault_at Malformed q)) h
 
   -- at the end of the fields no part is missing
-  ends_sound : (ps : Parts) (q : ℕ) → e ≤ q → may_end ps ≡ true → walk m inner p ps e (fields_in m q e) ≡ Sound
+  ends_sound : (ps : Parts) (q : ℕ) → e ≤ q → may_end ps ≡ true → walk m inner p ps e (fields_in m q e) ≡ no_fault
   unfolding walk
   ends_sound ps q l h = rw (no_fields m q e l, h) refl
 
@@ -83,7 +82,7 @@ pub record PartsStand (m : List ℕ) (d p : ℕ) (ps : Parts) (q e : ℕ) : Type
   pub depth : d ≤ 32
   pub from : q ≤ e
   pub ends : e ≤ length m
-  pub sound : walk m (inside m d) p ps e (fields_in m q e) ≡ Sound
+  pub sound : walk m (inside m d) p ps e (fields_in m q e) ≡ no_fault
 
 -- the first of three parts takes the field at q, or takes no field at all
 data FirstPart (m : List ℕ) (d p : ℕ) (a b c : Part) (q e : ℕ) : Type 0 where
@@ -97,7 +96,7 @@ goes_where e = cc
 first_part : {m : List ℕ} {d p : ℕ} {a b c : Part} {q e : ℕ} → PartsStand m d p (three a b c) q e → FirstPart m d p a b c q e
 first_part {m} {d} {p} {a} {b} {c} {q} {e} s = go (ltb q e) refl
   where
-    passed : walk m (inside m d) p (three Over b c) e (fields_in m q e) ≡ Sound → PartsStand m d p (three b c Over) q e
+    passed : walk m (inside m d) p (three Over b c) e (fields_in m q e) ≡ no_fault → PartsStand m d p (three b c Over) q e
     passed w = record { depth = s.depth; from = s.from; ends = s.ends; sound = sym (over_first m (inside m d) p e (fields_in m q e) b c) ∙ w }
 
     here : q < e → FirstField m (inside m d) p (three a b c) q e → (x : Took) → take a (byte m q) ≡ x → FirstPart m d p a b c q e

@@ -10,13 +10,13 @@ use Rattle.rules.specs.Format.{allowed, forms, form_in, form_of, size, head_size
 use Rattle.rules.specs.Check.{header, walk, rest, body, inside, shape, ascends, text, rising_from, rising, stride, places_up, places_in, names_known, string_places, check}
 use Rattle.rules.specs.Tree.{constant, negation, conditional, end}
 use Rattle.rules.specs.declared.Kind.TheVariants.{Item}
-use Rattle.rules.specs.declared.Verdict.TheVariants.{Sound}
 use Rattle.places.specs.At.{statement_at, statements_at, expression_at, StandsAs}
 use Rattle.places.proofs.Tags.{boolean_tag, constant_kind}
 use Rattle.places.proofs.Parts.{first_sibling}
 use Rattle.places.proofs.Expressions.{NegationAt, negation_opens, constant_opens, boolean_at}
 use Rattle.places.proofs.Statements.{ConditionalAt, conditional_opens, block_opens}
 use Rattle.places.proofs.Items.{manifest_opens}
+use Rattle.rules.specs.Verdicts.{no_fault}
 
 -- the string "a", then: if not true, a block that assigns false to a, or else an empty block
 example : List ℕ
@@ -28,7 +28,7 @@ example =
     ∷ 0x20 ∷ 0 ∷ 0
     ∷ []
 
-example_sound : check example ≡ Sound
+example_sound : check example ≡ no_fault
 unfolding example two fields_up fields_in allowed forms form_in form_of size head_size take follow part_may_end may_end rest_right length_right piece_right bytes_right name_right names_right header walk rest body inside shape ascends text rising_from rising stride places_up places_in names_known string_places check
 example_sound = refl
 

@@ -13,7 +13,7 @@ use Rattle.rules.specs.Fields.{read_field}
 use Rattle.rules.specs.Tree.{Constant, Expression, Arms, no_arm, arm, default_arm, AttributeField, Statement, Block, end, next, Branches, no_branch, branch, default_branch, Parameter, Parent, Devices, named, by_default, Item}
 use Rattle.rules.specs.Read.{expression_in, statement_in, block_in, item_from}
 use Rattle.rules.specs.declared.Kind.{Kind}
-use Rattle.rules.specs.declared.Verdict.TheVariants.{Sound}
+use Rattle.rules.specs.Verdicts.{no_fault}
 
 -- ---- One field
 
@@ -110,7 +110,7 @@ texts_at m (q ∷ qs) = text m q ∷ texts_at m qs
 -- at p stands a field with d levels left whose header and inside are right
 pub record Stands (m : List ℕ) (d p : ℕ) : Type 0 where
   pub depth : d ≤ 32
-  pub sound : inside m d p ≡ Sound
+  pub sound : inside m d p ≡ no_fault
   pub ends : end_of m p ≤ length m
   pub size : length_right (form_of (byte m p)) (two m (p + 1)) ≡ true
 

@@ -1,13 +1,11 @@
 -- Part after part of the text is printed, up to its end. Assumes nothing.
 use Prim.Native.Nat.{ℕ, ◌+◌, ◌-◌, ◌≤◌}
-use mathlib.Core.Path.{◌≡◌, refl, sym, ◌∙◌}
+use mathlib.Core.Path.{◌≡◌, refl, sym, ap, ◌∙◌}
 use mathlib.Core.List.{List, ◌++◌, append_assoc}
 use native.Mathlib.Omega.{arith}
 use lib.ListN.{length, take, replicate, length-append, length-replicate}
 use lib.Seq.{length-take-le}
 use Rattle.values.specs.declared.Reason.{Reason}
-use Rattle.values.specs.declared.Answer.{Answer}
-use Rattle.values.specs.declared.Answer.TheVariants.{Catalog, Refused}
 use Rattle.values.specs.Numbers.{number_of}
 use Rattle.rules.specs.Check.{string_places}
 use Rattle.rules.specs.Read.{manifest_of}
@@ -24,18 +22,29 @@ use Rattle.input.specs.Reading.{reading, reading_of, kept_line, kept_rest}
 use Rattle.input.proofs.Kept.{kept_schedule}
 use Rattle.catalog.specs.Making.{stored}
 use Rattle.schedule.specs.declared.Position.{Position}
-use Rattle.schedule.specs.declared.Line.{Line}
-use Rattle.schedule.specs.declared.Line.TheVariants.{Text}
 use Rattle.schedule.specs.Strings.{strings_by}
 use Rattle.schedule.specs.Subjects.{start}
-use Rattle.schedule.specs.Lines.{next_line, Prints, ends, more}
+use Rattle.schedule.specs.Lines.{Line, text as line_with, next_line, Prints, ends, more}
 use Rattle.schedule.proofs.Asking.{Asked, line_asked}
 use Rattle.schedule.proofs.Whole.{catalog_part, schedule_prints, accepted_text, refusal_text}
 use Rattle.standard_streams.specs.Sending.{ComesNext, Left}
 use Rattle.standard_streams.proofs.Sending.{part_next, after_part}
 use Rattle.print_schedule.specs.Printing.{schedule_text, LinesLeft, IsCatalog}
+use Rattle.std.specs.Prelude.{Some, None, Ok, Err}
+use Rattle.values.specs.Answers.{Answer, catalog_with, refused_for}
 
 -- ---- The lines of a catalog
+
+-- what is told of a line, if there is one
+abbrev length_of : Line → ℕ
+length_of (Ok (Some t)) = t.length
+length_of (Ok None) = 0
+length_of (Err e) = 0
+
+abbrev next_of : Position → Line → Position
+next_of otherwise (Ok (Some t)) = t.next
+next_of otherwise (Ok None) = otherwise
+next_of otherwise (Err e) = otherwise
 
 module _ (whole : List ℕ) (sent : ℕ) (ss : List (List ℕ)) (catalog : List ℕ) (at : Position) (last : List ℕ) (l : LinesLeft whole sent ss catalog at last) where
   -- a line comes next, and those after it are left then
@@ -44,7 +53,7 @@ module _ (whole : List ℕ) (sent : ℕ) (ss : List (List ℕ)) (catalog : List 
     pub then : LinesLeft whole (sent + length (take n line)) ss catalog next last
     pub told : Asked catalog at next n 2048
 
-  pub line_next : {r : Line} {line : List ℕ} {room : ℕ} (n : ℕ) (next : Position) → room ≡ 2048 → length line ≡ room → stored r line ≡ next_line ss catalog at room → r ≡ Text n next → LineNext n next line
+  pub line_next : {r : Line} {line : List ℕ} {room : ℕ} (n : ℕ) (next : Position) → room ≡ 2048 → length line ≡ room → stored r line ≡ next_line ss catalog at room → r ≡ line_with n next → LineNext n next line
   line_next {r} {line} {room} n next full kept made is = go l.prints l.left
     where
       e : stored r line ≡ next_line ss catalog at 2048
@@ -56,8 +65,9 @@ module _ (whole : List ℕ) (sent : ℕ) (ss : List (List ℕ)) (catalog : List 
       go : {lines : List ℕ} → Prints ss catalog 2048 at lines → Left whole sent (lines ++ last) → LineNext n next line
       go (ends d) left = let z : ◌≡◌ {A = ℕ} 0 1 = cc in absurd (omega arith)
       go (more {next = b} {n = j} {line = k} {rest = rest} d p) left =
-          let there : b ≡ next = cc in
-          let size : j ≡ n = cc in
+          let told : line_with j b ≡ line_with n next = cc in
+          let there : b ≡ next = ap (next_of at) told in
+          let size : j ≡ n = ap length_of told in
           let bytes : k ≡ line = cc in
           let left' : Left whole sent (take n line ++ (rest ++ last)) = record { rest = left.rest ∙ rw (size, bytes) (append_assoc (take n line) rest last); few = left.few } in
           let count : length (take n line) ≡ n = length-take-le n line (omega (arith, asked.within, full, kept)) in
@@ -73,7 +83,7 @@ module _ (whole : List ℕ) (sent : ℕ) (ss : List (List ℕ)) (catalog : List 
           }
 
   -- what is no line is the end
-  pub no_line : {r : Line} {line : List ℕ} {room : ℕ} → room ≡ 2048 → stored r line ≡ next_line ss catalog at room → ((n : ℕ) (next : Position) → r ≡ Text n next → ⊥) → Left whole sent last
+  pub no_line : {r : Line} {line : List ℕ} {room : ℕ} → room ≡ 2048 → stored r line ≡ next_line ss catalog at room → ((n : ℕ) (next : Position) → r ≡ line_with n next → ⊥) → Left whole sent last
   no_line {r} {line} full made not = go l.prints l.left
     where
       e : stored r line ≡ next_line ss catalog at 2048
@@ -81,24 +91,41 @@ module _ (whole : List ℕ) (sent : ℕ) (ss : List (List ℕ)) (catalog : List 
 
       go : {lines : List ℕ} → Prints ss catalog 2048 at lines → Left whole sent (lines ++ last) → Left whole sent last
       go (ends d) left = left
-      go (more {next = b} {n = j} {line = k} d p) left = let is : r ≡ Text j b = cc in absurd (not j b is)
+      go (more {next = b} {n = j} {line = k} d p) left = let is : r ≡ line_with j b = cc in absurd (not j b is)
 
 -- ---- What `compile` left
+
+-- what is told of a catalog, or of a refusal
+abbrev size_in : Answer → ℕ
+size_in (Ok c) = c.length
+size_in (Err f) = 0
+
+abbrev steps_in : Answer → ℕ
+steps_in (Ok c) = c.steps
+steps_in (Err f) = 0
+
+abbrev reason_in : Reason → Answer → Reason
+reason_in otherwise (Ok c) = otherwise
+reason_in otherwise (Err f) = f.reason
+
+abbrev place_in : Answer → ℕ
+place_in (Ok c) = 0
+place_in (Err f) = f.place
 
 module _ (m device : List ℕ) where
   abbrev outcome : Outcome Compiled
   outcome = compiled the_eight m device 65535 65535 65536
 
   -- a catalog and its steps
-  pub is_catalog_lem : {answer : Answer} {out : List ℕ} {n steps : ℕ} → answer ≡ (compile the_eight m device 65535 65535 65536).answer → out ≡ (compile the_eight m device 65535 65535 65536).output_after → answer ≡ Catalog n steps → IsBytes m → IsCatalog m device (take n out) steps
+  pub is_catalog_lem : {answer : Answer} {out : List ℕ} {n steps : ℕ} → answer ≡ (compile the_eight m device 65535 65535 65536).answer → out ≡ (compile the_eight m device 65535 65535 65536).output_after → answer ≡ catalog_with n steps → IsBytes m → IsCatalog m device (take n out) steps
   unfolding compile answer_of
   is_catalog_lem {answer} {out} {n} {steps} told left is bytes = go outcome refl (sym is ∙ told) left
     where
-      go : (o : Outcome Compiled) → outcome ≡ o → Catalog n steps ≡ answer_of o → out ≡ output_of 65535 o → IsCatalog m device (take n out) steps
+      go : (o : Outcome Compiled) → outcome ≡ o → catalog_with n steps ≡ answer_of o → out ≡ output_of 65535 o → IsCatalog m device (take n out) steps
       go (refused r p) e told l = let z : ◌≡◌ {A = ℕ} 0 1 = cc in absurd (omega arith)
       go (done c) e told l =
-          let size : n ≡ length c.catalog = cc in
-          let count : steps ≡ c.steps = cc in
+          let size : n ≡ length c.catalog = ap size_in told in
+          let count : steps ≡ c.steps = ap steps_in told in
           let part : take n out ≡ c.catalog = rw (l, size) (catalog_part m device 65535 65535 65536 c) in
           record { accepted = e ∙ rw (part, count) refl; bytes = bytes }
 
@@ -113,15 +140,15 @@ module _ (m device : List ℕ) where
   }
 
   -- a refusal, whose line is the whole
-  pub refusal_left : {answer : Answer} {r : Reason} {p : ℕ} → answer ≡ (compile the_eight m device 65535 65535 65536).answer → answer ≡ Refused r p → Left (schedule_text m device) 0 (refusal_line (number_of r) p)
+  pub refusal_left : {answer : Answer} {r : Reason} {p : ℕ} → answer ≡ (compile the_eight m device 65535 65535 65536).answer → answer ≡ refused_for r p → Left (schedule_text m device) 0 (refusal_line (number_of r) p)
   unfolding compile answer_of schedule_text
   refusal_left {answer} {r} {p} told is = go outcome refl (sym is ∙ told)
     where
-      go : (o : Outcome Compiled) → outcome ≡ o → Refused r p ≡ answer_of o → Left (text_of (manifest_of m).strings outcome) 0 (refusal_line (number_of r) p)
+      go : (o : Outcome Compiled) → outcome ≡ o → refused_for r p ≡ answer_of o → Left (text_of (manifest_of m).strings outcome) 0 (refusal_line (number_of r) p)
       go (done c) e told = let z : ◌≡◌ {A = ℕ} 0 1 = cc in absurd (omega arith)
       go (refused r' p') e told =
-          let reason : r ≡ r' = cc in
-          let place : p ≡ p' = cc in
+          let reason : r ≡ r' = ap (reason_in r) told in
+          let place : p ≡ p' = ap place_in told in
           record { rest = sym (refusal_text m device 65535 65535 65536 (e ∙ rw (reason, place) refl)); few = omega arith }
 
   -- the output keeps its length

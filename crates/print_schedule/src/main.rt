@@ -2,7 +2,7 @@
 // and memory are those of document 01's schedule: 65,535 steps, 65,535 bytes and 65,536 bytes.
 #![tactic(auto)]
 
-ghost use Rattle.std.specs.Prelude.{◌≡◌, true, List, ℕ, ◌+◌, length};
+ghost use Rattle.std.specs.Prelude.{◌≡◌, List, ℕ, ◌+◌, length, OnOk};
 ghost use Rattle.values.specs.Numbers.{number_of};
 ghost use Rattle.rules.specs.Types.{the_eight};
 ghost use Rattle.rules.specs.Compile.{compile};
@@ -14,9 +14,9 @@ ghost use Rattle.standard_streams.specs.Sending.{ComesNext, Left, LastLine};
 ghost use Rattle.print_schedule.specs.Printing.{schedule_text, AllSent, LinesLeft, IsCatalog};
 
 use input::Progress;
-use schedule::{Line, Position, Written};
-use standard_streams::{Taken, first, read_all, send};
-use values::{Answer, Reason};
+use schedule::Position;
+use standard_streams::{NotSent, first, read_all, send};
+use values::{Answer, Refusal};
 
 // ---- Compiling
 
@@ -37,9 +37,9 @@ fn write(
     manifest: &[u8],
     device: &[u8],
     sent: &mut u64,
-) -> bool
+) -> Result<(), NotSent>
     requires { ComesNext (schedule_text manifest.now device.now) sent.old text.now }
-    ensures { result ≡ true → sent.new ≡ sent.old + length text.now }
+    ensures { OnOk result (sent.new ≡ sent.old + length text.now) }
 {
     send(rt, text, sent)
 }
@@ -47,19 +47,16 @@ fn write(
 // The last line, in its buffer.
 fn print_last(
     rt: &(impl Print + Eprint),
-    written: Written,
+    written: Option<usize>,
     line: &[u8],
     manifest: &[u8],
     device: &[u8],
     sent: &mut u64,
-) -> bool
+) -> Result<(), NotSent>
     requires { LastLine (schedule_text manifest.now device.now) sent.old written line.now }
     ensures { AllSent manifest.now device.now sent.new result }
 {
-    match written {
-        Written::Length(length) => write(rt, first(line, length), manifest, device, sent),
-        Written::TooLong => true, // never, as is proved
-    }
+    write(rt, first(line, written.unwrap()), manifest, device, sent)
 }
 
 fn print_steps(
@@ -68,7 +65,7 @@ fn print_steps(
     manifest: &[u8],
     device: &[u8],
     sent: &mut u64,
-) -> bool
+) -> Result<(), NotSent>
     requires { Left (schedule_text manifest.now device.now) sent.old (steps_line steps) }
     ensures { AllSent manifest.now device.now sent.new result }
 {
@@ -87,22 +84,19 @@ fn print_lines(
     index: &[u8],
     strings: u16,
     sent: &mut u64,
-) -> bool
+) -> Result<(), NotSent>
     requires { LinesLeft (schedule_text manifest.now device.now) sent.old (strings_by manifest.now index.now strings) catalog.now start (steps_line steps) }
     ensures { AllSent manifest.now device.now sent.new result }
 {
     let mut line = [0u8; 2048];
     let mut at = Position::START;
-    loop {
-        let made = schedule::next_line(catalog, at, manifest, index, strings, &mut line);
-        let Line::Text { length, next } = made else {
-            return print_steps(rt, steps, manifest, device, sent);
-        };
-        if !write(rt, first(&line, length), manifest, device, sent) {
-            return false;
-        }
-        at = next;
+    while let Ok(Some(text)) = schedule::next_line(
+        catalog, at, manifest, index, strings, &mut line,
+    ) {
+        write(rt, first(&line, text.length), manifest, device, sent)?;
+        at = text.next;
     }
+    print_steps(rt, steps, manifest, device, sent)
 }
 
 fn print_catalog(
@@ -112,7 +106,7 @@ fn print_catalog(
     manifest: &[u8],
     device: &[u8],
     sent: &mut u64,
-) -> bool
+) -> Result<(), NotSent>
     requires { IsCatalog manifest.now device.now catalog.now steps × (sent.old ≡ 0) }
     ensures { AllSent manifest.now device.now sent.new result }
 {
@@ -123,44 +117,41 @@ fn print_catalog(
 
 fn print_refusal(
     rt: &(impl Print + Eprint),
-    reason: Reason,
-    place: u16,
+    refusal: Refusal,
     manifest: &[u8],
     device: &[u8],
     sent: &mut u64,
-) -> bool
-    requires { Left (schedule_text manifest.now device.now) sent.old (refusal_line (number_of reason) place) }
+) -> Result<(), NotSent>
+    requires { Left (schedule_text manifest.now device.now) sent.old (refusal_line (number_of refusal.reason) refusal.place) }
     ensures { AllSent manifest.now device.now sent.new result }
 {
     let mut line = [0u8; 2048];
-    let written = schedule::refusal_line(reason, place, &mut line);
+    let written = schedule::refusal_line(refusal.reason, refusal.place, &mut line);
     print_last(rt, written, &line, manifest, device, sent)
 }
 
-// Prints the schedule: true if all of it is written.
+// Prints the schedule: `Ok` if all of it is written.
 fn print_schedule(
     rt: &(impl Print + Eprint),
     manifest: &[u8],
     device: &[u8],
     sent: &mut u64,
-) -> bool
+) -> Result<(), NotSent>
     requires { sent.old ≡ 0 }
     ensures { AllSent manifest.now device.now sent.new result }
 {
     let mut out = [0u8; 65535];
     let answer = compile_schedule(manifest, device, &mut out);
     match answer {
-        Answer::Catalog { length, steps } => print_catalog(
+        Ok(made) => print_catalog(
             rt,
-            first(&out, length as usize),
-            steps,
+            first(&out, made.length as usize),
+            made.steps,
             manifest,
             device,
             sent,
         ),
-        Answer::Refused { reason, place } => print_refusal(
-            rt, reason, place, manifest, device, sent,
-        ),
+        Err(refusal) => print_refusal(rt, refusal, manifest, device, sent),
     }
 }
 
@@ -171,9 +162,9 @@ fn print_read(
     device: &[u8],
     manifest: &[u8],
     sent: &mut u64,
-) -> bool
+) -> Result<(), NotSent>
     requires { sent.old ≡ 0 }
-    ensures { (d m input : List ℕ) → length d ≡ 256 → length m ≡ 65536 → reading at device.now manifest.now ≡ reading_of d m input → result ≡ true → sent.new ≡ length (schedule input) }
+    ensures { (d m input : List ℕ) → length d ≡ 256 → length m ≡ 65536 → reading at device.now manifest.now ≡ reading_of d m input → OnOk result (sent.new ≡ length (schedule input)) }
 {
     print_schedule(rt, first(manifest, at.rest), first(device, at.line), sent)
 }
@@ -181,9 +172,9 @@ fn print_read(
 fn main(rt: HostRuntime) {
     let mut device = [0u8; 256];
     let mut manifest = [0u8; 65536];
-    let taken = read_all(&rt, &mut device, &mut manifest);
-    if let Taken::All(at) = taken {
-        let mut sent: u64 = 0;
-        print_read(&rt, at, &device, &manifest, &mut sent);
-    }
+    let Ok(at) = read_all(&rt, &mut device, &mut manifest) else {
+        return;
+    };
+    let mut sent: u64 = 0;
+    let _ = print_read(&rt, at, &device, &manifest, &mut sent);
 }

@@ -116,15 +116,6 @@ above_constants t h = rw (lt-leb t 0x12 h) (and_false (leb 0x10 t))
 pub among_constants : (t : ℕ) → 0x10 ≤ t → t ≤ 0x12 → is_constant t ≡ true
 among_constants t l h = rw (le-leb 0x10 t l, le-leb t 0x12 h)
 
-module _ (ss : List (List ℕ)) (m : List ℕ) (l p t : ℕ) where
-  pub no_label : is_constant t ≡ false → true ≡ label_right ss l t (drop (p + 3) m)
-  unfolding label_right
-  no_label e = sym (ap (λ (c : Bool). not c || leb l (byte (drop (p + 3) m) 0)) e)
-
-  pub its_label : {b : ℕ} → is_constant t ≡ true → b ≡ byte m (p + 3) → leb l b ≡ label_right ss l t (drop (p + 3) m)
-  unfolding label_right
-  its_label {b} e eb = ap (leb l) (eb ∙ sym (first_byte m (p + 3))) ∙ sym (ap (λ (c : Bool). not c || leb l (byte (drop (p + 3) m) 0)) e)
-
 module _ (m : List ℕ) (l p t : ℕ) where
   pub label_kept : t ≡ byte m p → is_constant t ≡ false → l ≡ label_behind m l p
   unfolding label_behind
@@ -133,6 +124,24 @@ module _ (m : List ℕ) (l p t : ℕ) where
   pub label_new : {b : ℕ} → t ≡ byte m p → is_constant t ≡ true → b ≡ byte m (p + 3) → b ≡ label_behind m l p
   unfolding label_behind
   label_new et e eb = eb ∙ sym (ap (λ (c : Bool). pick c (byte m (p + 3)) l) (ap is_constant (sym et) ∙ e))
+
+-- a constant's label is not below that of the one before it where the last label does not fall
+module _ (ss : List (List ℕ)) (m : List ℕ) (l p : ℕ) {t k : ℕ} (et : t ≡ byte m p) (ek : k ≡ label_behind m l p) where
+  pub label_falls : k < l → label_right ss l t (drop (p + 3) m) ≡ false
+  unfolding label_right label_behind
+  label_falls h = rw et (go (is_constant (byte m p)) ek)
+    where
+      go : (c : Bool) → k ≡ pick c (byte m (p + 3)) l → (not c || leb l (byte (drop (p + 3) m) 0)) ≡ false
+      go true e = ap (leb l) (first_byte m (p + 3)) ∙ lt-leb l (byte m (p + 3)) (omega arith)
+      go false e = absurd (omega arith)
+
+  pub label_rises : l ≤ k → label_right ss l t (drop (p + 3) m) ≡ true
+  unfolding label_right label_behind
+  label_rises h = rw et (go (is_constant (byte m p)) ek)
+    where
+      go : (c : Bool) → k ≡ pick c (byte m (p + 3)) l → (not c || leb l (byte (drop (p + 3) m) 0)) ≡ true
+      go true e = ap (leb l) (first_byte m (p + 3)) ∙ le-leb l (byte m (p + 3)) (omega arith)
+      go false e = refl
 
 -- ---- The field
 

@@ -4,9 +4,9 @@ use mathlib.Core.Path.{◌≡◌, refl, sym, ap, ◌∙◌}
 use mathlib.Core.Bool.{Bool, true, false, ◌&&◌}
 use mathlib.Core.List.{List, [], ◌∷◌}
 use native.Mathlib.Omega.{arith}
-use native.Mathlib.Numerals.{add-one}
-use lib.ListN.{length, get_or, drop, drop_of_length-le}
+use lib.ListN.{length, get_or, drop}
 use lib.Seq.{drop-cons}
+use Rattle.std.specs.List.{list_all}
 use Rattle.notation.specs.Lexing.{is_letter, in_word, find, keywords, keyword_in}
 use Rattle.notation.specs.Printer.{all_in_word, no_keyword, is_name}
 use Rattle.lexer.specs.Words.{little, keyword_numbers}
@@ -14,18 +14,10 @@ use Rattle.lexer.proofs.WordNumbers.{keyword_by_number, long_no_keyword}
 
 -- ---- All bytes in a word
 
-module _ (w : List ℕ) (i : ℕ) {b whole : Bool} (l : i < length w) (eb : b ≡ in_word (get_or w i 0)) where
-  pub not_in_word : b ≡ false → all_in_word (drop i w) ≡ whole → false ≡ whole
-  unfolding all_in_word
-  not_in_word h inv = rw (drop-cons w i 0 l, ← eb, h) at inv
-
-  pub one_in_word : b ≡ true → all_in_word (drop i w) ≡ whole → all_in_word (drop (i + 1) w) ≡ whole
-  unfolding all_in_word
-  one_in_word h inv = rw add-one (rw (drop-cons w i 0 l, ← eb, h) at inv)
-
-pub all_passed_lem : (w : List ℕ) (i : ℕ) {whole : Bool} → length w ≤ i → all_in_word (drop i w) ≡ whole → true ≡ whole
+pub all_words : (w : List ℕ) → list_all in_word w ≡ all_in_word w
 unfolding all_in_word
-all_passed_lem w i h inv = rw (drop_of_length-le w h) at inv
+all_words [] = refl
+all_words (c ∷ cs) = ap (λ (b : Bool). in_word c && b) (all_words cs)
 
 -- ---- The number of a word
 

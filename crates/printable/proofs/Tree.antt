@@ -20,16 +20,16 @@ use Rattle.rules.specs.declared.Kind.TheVariants.{Item}
 use Rattle.rules.specs.declared.Parts.{Parts}
 use Rattle.rules.specs.declared.Rest.{Rest}
 use Rattle.rules.specs.declared.Rest.TheVariants.{Only, Text, Fields as Inner}
-use Rattle.rules.specs.declared.Verdict.TheVariants.{Sound}
 use Rattle.rules.proofs.Within.{fault_not_sound, first_field, SoundBody, inside_sound, check_sound, shape_sound}
 use Rattle.notation.proofs.Lexing.{both_true}
-use Rattle.syntax.specs.declared.Found.TheVariants.{At, Nothing}
 use Rattle.syntax.specs.Strings.{string_texts, found_of}
 use Rattle.syntax.proofs.StringsRead.{strings_read}
 use Rattle.notation.specs.Printer.{Gone, stops, past, going, stopped_at, label_right, names_spellable, type_right, over, over_all, unprintable_at}
 use Rattle.printable.specs.Reading.{prints_at, label_behind, gone_from}
 use Rattle.printable.proofs.OneField.{first_byte, spelled_so}
 use Rattle.printable.proofs.InOrder.{gone_first, gone_end}
+use Rattle.std.specs.Prelude.{Some, None}
+use Rattle.rules.specs.Verdicts.{no_fault}
 
 -- ---- Heads that begin alike
 
@@ -129,7 +129,7 @@ module _ (types : Types) (m : List ℕ) (ss : List (List ℕ)) where
 
   -- a sound field at q, read with d levels left
   abbrev GoneAt : ℕ → Type 0
-  GoneAt d = (q l : ℕ) → q < length m → inside m d q ≡ Sound → end_of m q ≤ length m → gone_from types m ss q l ≡ going (over types ss (read_field m d q) l) (gone_from types m ss (end_of m q))
+  GoneAt d = (q l : ℕ) → q < length m → inside m d q ≡ no_fault → end_of m q ≤ length m → gone_from types m ss q l ≡ going (over types ss (read_field m d q) l) (gone_from types m ss (end_of m q))
 
   -- the fields from q to e
   abbrev FieldsGone : (d q e : ℕ) → Type 0
@@ -142,12 +142,12 @@ module _ (types : Types) (m : List ℕ) (ss : List (List ℕ)) where
       let same : q ≡ e = omega arith in
       rw (no_fields m q e b) (ap (λ (p : ℕ). gone_from types m ss p l) same)
 
-  fields_gone : (k d p : ℕ) (ps : Parts) (q e : ℕ) → GoneAt d → e - q ≤ k → q ≤ e → e ≤ length m → walk m (inside m d) p ps e (fields_in m q e) ≡ Sound → FieldsGone d q e
+  fields_gone : (k d p : ℕ) (ps : Parts) (q e : ℕ) → GoneAt d → e - q ≤ k → q ≤ e → e ≤ length m → walk m (inside m d) p ps e (fields_in m q e) ≡ no_fault → FieldsGone d q e
   unfolding read_each over_all
   fields_gone zero d p ps q e each b l h w = none_gone d q e l (omega arith)
   fields_gone (suc k) d p ps q e each b l h w = go (λ x y b l w. fields_gone k d p x y e each b l h w) (ltb q e) refl
     where
-      go : ((ps : Parts) (q : ℕ) → e - q ≤ k → q ≤ e → walk m (inside m d) p ps e (fields_in m q e) ≡ Sound → FieldsGone d q e) → (x : Bool) → ltb q e ≡ x → FieldsGone d q e
+      go : ((ps : Parts) (q : ℕ) → e - q ≤ k → q ≤ e → walk m (inside m d) p ps e (fields_in m q e) ≡ no_fault → FieldsGone d q e) → (x : Bool) → ltb q e ≡ x → FieldsGone d q e
       go later false x = none_gone d q e l (ltb-false q e x)
       go later true x =
           let before : q < e = ltb-true q e x in
@@ -182,7 +182,7 @@ module _ (types : Types) (m : List ℕ) (ss : List (List ℕ)) where
 
 -- ---- A sound manifest
 
-module _ (types : Types) (m : List ℕ) (w : check m ≡ Sound) where
+module _ (types : Types) (m : List ℕ) (w : check m ≡ no_fault) where
   -- the walk over its items finds the first field that cannot be printed
   pub items_gone : stopped_at (gone_from types m (string_texts m) (end_of m 0) 0) ≡ unprintable_at types m
   unfolding unprintable_at read_all read_each others
@@ -197,11 +197,11 @@ module _ (types : Types) (m : List ℕ) (w : check m ≡ Sound) where
       rw (strings_read m w, field_first m 0 (length m) first) (ap stopped_at whole)
 
   -- a field that stops the walk is the answer
-  pub found_at : {p q : ℕ} → q ≡ end_of m 0 → stops p ≡ gone_from types m (string_texts m) q 0 → At p ≡ found_of (unprintable_at types m)
+  pub found_at : {p q : ℕ} → q ≡ end_of m 0 → stops p ≡ gone_from types m (string_texts m) q 0 → Some p ≡ found_of (unprintable_at types m)
   unfolding found_of stopped_at
   found_at eq e = ap (λ (g : Gone). found_of (stopped_at g)) e ∙ ap (λ (q : ℕ). found_of (stopped_at (gone_from types m (string_texts m) q 0))) eq ∙ ap found_of items_gone
 
   -- and where none does there is no answer
-  pub found_none : {l q : ℕ} → q ≡ end_of m 0 → past l ≡ gone_from types m (string_texts m) q 0 → Nothing ≡ found_of (unprintable_at types m)
+  pub found_none : {l q : ℕ} → q ≡ end_of m 0 → past l ≡ gone_from types m (string_texts m) q 0 → None ≡ found_of (unprintable_at types m)
   unfolding found_of stopped_at
   found_none eq e = ap (λ (g : Gone). found_of (stopped_at g)) e ∙ ap (λ (q : ℕ). found_of (stopped_at (gone_from types m (string_texts m) q 0))) eq ∙ ap found_of items_gone

@@ -10,14 +10,7 @@ use lexer::bytes::{in_word, is_letter, wide};
 fn all_in_word(bytes: &[u8]) -> bool
     ensures { result ≡ all_in_word bytes.now }
 {
-    let mut i: usize = 0;
-    while i < bytes.len() {
-        if !in_word(bytes[i]) {
-            return false;
-        }
-        i += 1;
-    }
-    true
+    bytes.iter().all(|byte| in_word(*byte))
 }
 
 // The bytes as one number, the first byte the lowest.

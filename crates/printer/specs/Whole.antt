@@ -1,18 +1,18 @@
 -- What a whole print leaves.
-use Rattle.std.specs.Prelude.{ℕ, ◌≤◌, ◌<◌, ◌≡◌, List, length}
+use Rattle.std.specs.Prelude.{ℕ, ◌≤◌, ◌<◌, ◌≡◌, List, length, Option, Some, None}
 use Rattle.values.specs.declared.Reason.TheVariants.{Unprintable}
 use Rattle.rules.specs.Outcome.{Outcome, ◌>>=◌, refuse_if, done}
 use Rattle.rules.specs.Read.{manifest_of}
 use Rattle.rules.specs.Types.{Types}
-use Rattle.notation.specs.declared.Answer.{Answer}
 use Rattle.notation.specs.Convert.{refuse_at, too_long}
 use Rattle.notation.specs.Printer.{unprintable_at, text_of, print}
 use Rattle.token_writer.specs.Writing.{Wrote}
+use Rattle.notation.specs.Answers.{Answer}
 
--- n is the length of the text `whole`, which is written as far as the output goes; or both are over 65,535
-pub record Counted (whole out out' : List ℕ) (n : ℕ) : Type 0 where
-  pub long : 65535 < n → 65535 < length whole
-  pub wrote : n ≤ 65535 → Wrote out out' 0 n whole
+-- n is the length of the text `whole`, which is written as far as the output goes; there is none if the text is over 65,535 bytes
+pub record Counted (whole out out' : List ℕ) (n : Option ℕ) : Type 0 where
+  pub long : n ≡ None → 65535 < length whole
+  pub wrote : {k : ℕ} → n ≡ Some k → (k ≤ 65535) × Wrote out out' 0 k whole
 
 -- ---- The last two refusals of `printed_text`
 

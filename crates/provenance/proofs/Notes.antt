@@ -1,6 +1,6 @@
 -- What is noted of a resource that is about to be added: one law for each way through the functions that note it. Assumes nothing.
 use Prim.Native.Nat.{ℕ, suc, ◌+◌, ◌-◌, ◌%◌, ◌≤◌, ◌<◌}
-use mathlib.Core.Path.{◌≡◌, refl, sym, ap, ap₂, ◌∙◌, subst}
+use mathlib.Core.Path.{◌≡◌, refl, sym, ap, ◌∙◌, subst}
 use mathlib.Core.Bool.{Bool, true, false, ◌&&◌, true≢false}
 use mathlib.Core.List.{List, [], ◌∷◌, Memᴰ}
 use mathlib.Core.Option.{Option, none, some}
@@ -35,19 +35,16 @@ use Rattle.cells.specs.Memory.{state_of}
 use Rattle.memory.specs.declared.Context.{Context as Here}
 use Rattle.memory.specs.Contexts.{context_of}
 use Rattle.memory.specs.Words.{word_of, WordSet, asked_type, asked_title, asked_name, asked_label, note_word}
-use Rattle.catalog.specs.declared.Place.{Place}
-use Rattle.catalog.specs.declared.Place.TheVariants.{At, Nothing}
 use Rattle.evaluator.specs.Answers.{refused_by}
 use Rattle.evaluator.specs.Known.{Ready, Tells}
 use Rattle.evaluator.proofs.Expressions.{Small, operand_at}
 use Rattle.attributes.specs.Names.{has_name, named_in}
 use Rattle.resources.specs.Entries.{titled_run}
 use Rattle.resources.proofs.Whole.{resource_run}
-use Rattle.provenance.specs.declared.Note.{Note}
-use Rattle.provenance.specs.declared.Note.TheVariants.{Part, Kept}
 use Rattle.provenance.specs.Parts.{held_part}
-use Rattle.provenance.specs.Notes.{Question, asked_of, is_asked, held_in, note_of, note_for, note_after, NotesAttribute, Notes, NotesTitled, NotesRun, Noted, NotesResource}
+use Rattle.provenance.specs.Notes.{Note, Question, asked_of, is_asked, held_in, note_of, note_for, note_after, NotesAttribute, Notes, NotesTitled, NotesRun, Noted, NotesResource}
 use Rattle.provenance.proofs.Expressions.{MarksAt, operand_marks}
+use Rattle.std.specs.Prelude.{Option as CodeOption, Some, None}
 
 -- ---- Outcomes
 
@@ -62,23 +59,23 @@ done_same {a} e = ap (λ (o : Outcome Labelled). elim o [ refused r p ↦ a | do
 
 module _ (m : List ℕ) (d : ℕ) (k : Known) (c : Context) (st : State) (name : ℕ) where
   -- the first of the 26s at these places that has the name, if one has, and what it gives
-  data GivenAs (qs : List ℕ) (gs : List Given) : Place → Type 0 where
-    not_given : first_with (is_given name) gs ≡ none → GivenAs qs gs Nothing
+  data GivenAs (qs : List ℕ) (gs : List Given) : CodeOption ℕ → Type 0 where
+    not_given : first_with (is_given name) gs ≡ none → GivenAs qs gs None
     given_as : {q : ℕ} (x : Labelled) → Memᴰ q qs → evaluate k c st (expression_at m (d - 1) (q + 5)) ≡ done x → first_with (is_given name) gs ≡ some (record { place = q; name = two m (q + 3); content = x })
-        → marks_for k c st (attributes_at m d qs) name ≡ marks_read k c st (expression_at m (d - 1) (q + 5)) → GivenAs qs gs (At q)
+        → marks_for k c st (attributes_at m d qs) name ≡ marks_read k c st (expression_at m (d - 1) (q + 5)) → GivenAs qs gs (Some q)
 
   abbrev given_by : (q : ℕ) → Labelled → Given
   given_by q x = record { place = q; name = two m (q + 3); content = x }
 
   -- behind a 26 of another name
-  given_further : (q : ℕ) (qs : List ℕ) (x : Labelled) (gs : List Given) → has_name m name q ≡ false → {a : Place} → GivenAs qs gs a → GivenAs (q ∷ qs) (given_by q x ∷ gs) a
+  given_further : (q : ℕ) (qs : List ℕ) (x : Labelled) (gs : List Given) → has_name m name q ≡ false → {a : CodeOption ℕ} → GivenAs qs gs a → GivenAs (q ∷ qs) (given_by q x ∷ gs) a
   unfolding first_with is_given marks_for attributes_at attribute_at
   given_further q qs x gs other (not_given e) = not_given (when_false (eqb (two m (q + 3)) name) (some (given_by q x)) (first_with (is_given name) gs) other ∙ e)
   given_further q qs x gs other (given_as y i e g marks) =
       given_as y (Memᴰ.tail i) e (when_false (eqb (two m (q + 3)) name) (some (given_by q x)) (first_with (is_given name) gs) other ∙ g)
       (when_false (eqb (two m (q + 3)) name) (marks_read k c st (expression_at m (d - 1) (q + 5))) (marks_for k c st (attributes_at m d qs) name) other ∙ marks)
 
-  given_first : (q : ℕ) (qs : List ℕ) (x : Labelled) (gs : List Given) → evaluate k c st (expression_at m (d - 1) (q + 5)) ≡ done x → (b : Bool) → has_name m name q ≡ b → {a : Place} → GivenAs qs gs a → GivenAs (q ∷ qs) (given_by q x ∷ gs) (pick b (At q) a)
+  given_first : (q : ℕ) (qs : List ℕ) (x : Labelled) (gs : List Given) → evaluate k c st (expression_at m (d - 1) (q + 5)) ≡ done x → (b : Bool) → has_name m name q ≡ b → {a : CodeOption ℕ} → GivenAs qs gs a → GivenAs (q ∷ qs) (given_by q x ∷ gs) (pick b (Some q) a)
   unfolding first_with is_given marks_for attributes_at attribute_at
   given_first q qs x gs e true this h =
       given_as x (Memᴰ.head refl) e (when_true (eqb (two m (q + 3)) name) (some (given_by q x)) (first_with (is_given name) gs) this)
@@ -183,18 +180,18 @@ string_same : {a b : ℕ} → String a ≡ String b → a ≡ b
 string_same {a} e = ap (λ (v : Value). elim v [ Integer z ↦ a | String t ↦ t | Boolean b ↦ a ]) e
 
 module _ (m w out : List ℕ) (fill : ℕ) (here : Here) (inner p : ℕ) (x : Labelled) where
-  pub title_unlike : (tag_of the_type x.value ≡ 1 → ⊥) → NotesTitled m w out fill here inner p x Kept
-  title_unlike unlike = record { says = λ s l k es n r h. notes_by m w (suc inner) p x k (context_of here) es n r Kept λ title gs is given type. absurd (unlike (ap (tag_of the_type) is)) }
+  pub title_unlike : (tag_of the_type x.value ≡ 1 → ⊥) → NotesTitled m w out fill here inner p x None
+  title_unlike unlike = record { says = λ s l k es n r h. notes_by m w (suc inner) p x k (context_of here) es n r None λ title gs is given type. absurd (unlike (ap (tag_of the_type) is)) }
 
   module _ {title : ℕ} (is : x.value ≡ String title) where
-    pub title_other : {t : ℕ} → t ≡ (asked_of w).title → (title ≡ t → ⊥) → NotesTitled m w out fill here inner p x Kept
+    pub title_other : {t : ℕ} → t ≡ (asked_of w).title → (title ≡ t → ⊥) → NotesTitled m w out fill here inner p x None
     unfolding note_after entry_from
     title_other asked other = record {
-      says = λ s l k es n r h. notes_by m w (suc inner) p x k (context_of here) es n r Kept λ t gs also given type.
+      says = λ s l k es n r h. notes_by m w (suc inner) p x k (context_of here) es n r None λ t gs also given type.
           sym (other_entry (asked_of w) _ es (λ e. other (string_same (sym is ∙ also) ∙ e ∙ sym asked)));
     }
 
-    module _ {t first e end name : ℕ} (asked : t ≡ (asked_of w).title) (this : title ≡ t) (first_is : first ≡ end_of m (p + 5)) (end_is : e ≡ end_of m p) (near : Small end e) (named : name ≡ (asked_of w).name) {found : Place} (finds : found ≡ named_in m name (fields_in m first end)) where
+    module _ {t first e end name : ℕ} (asked : t ≡ (asked_of w).title) (this : title ≡ t) (first_is : first ≡ end_of m (p + 5)) (end_is : e ≡ end_of m p) (near : Small end e) (named : name ≡ (asked_of w).name) {found : CodeOption ℕ} (finds : found ≡ named_in m name (fields_in m first end)) where
       found_here : end_of m p ≤ 65535 → found ≡ named_in m (asked_of w).name (fields_in m (end_of m (p + 5)) (end_of m p))
       found_here l = let same : end ≡ end_of m p = near.1 (omega arith) ∙ end_is in finds ∙ (λ i. named_in m (named i) (fields_in m (first_is i) (same i)))
 
@@ -213,27 +210,27 @@ module _ (m w out : List ℕ) (fill : ℕ) (here : Here) (inner p : ℕ) (x : La
             asked_entry (asked_of w) (entry_with m (suc inner) p x k (context_of here) state_here v gs) es type (string_same (sym also ∙ is) ∙ this ∙ asked)
             ∙ held_same (asked_of w) _ _ (context_of here) state_here gs
 
-        given_here : {gs : List Given} {a : Place} → found ≡ a → evaluate_all k (context_of here) state_here (attributes_at m (suc inner) list_here) ≡ done gs → GivenAs m (suc inner) k (context_of here) state_here (asked_of w).name list_here gs a
+        given_here : {gs : List Given} {a : CodeOption ℕ} → found ≡ a → evaluate_all k (context_of here) state_here (attributes_at m (suc inner) list_here) ≡ done gs → GivenAs m (suc inner) k (context_of here) state_here (asked_of w).name list_here gs a
         given_here {gs} at given = subst (GivenAs m (suc inner) k (context_of here) state_here (asked_of w).name list_here gs) (sym (found_here l) ∙ at) (all_get (given_as_lem m (suc inner) k (context_of here) state_here (asked_of w).name list_here) given)
 
-      pub no_attribute : {part : ℕ} → found ≡ Nothing → part ≡ 0 → NotesTitled m w out fill here inner p x (Part part)
+      pub no_attribute : {part : ℕ} → found ≡ None → part ≡ 0 → NotesTitled m w out fill here inner p x (Some part)
       unfolding note_after held_given
       no_attribute {part} nowhere zero_is = record {
-        says = λ s l k es n r h. notes_by m w (suc inner) p x k (context_of here) es n r (Part part) λ v gs also given type.
+        says = λ s l k es n r h. notes_by m w (suc inner) p x k (context_of here) es n r (Some part) λ v gs also given type.
             zero_is ∙ sym (entry_note l k es n r gs v also type ∙ ap (held_given (asked_of w) _) (none_given (given_here l k es n r nowhere given)));
       }
         where
-          none_given : {k : Known} {st : State} {name : ℕ} {qs : List ℕ} {gs : List Given} → GivenAs m (suc inner) k (context_of here) st name qs gs Nothing → first_with (is_given name) gs ≡ none
+          none_given : {k : Known} {st : State} {name : ℕ} {qs : List ℕ} {gs : List Given} → GivenAs m (suc inner) k (context_of here) st name qs gs None → first_with (is_given name) gs ≡ none
           none_given (not_given e) = e
 
-      pub attribute_noted : {q part : ℕ} → found ≡ At q → NotesAttribute m w out fill here inner q x.labels part → NotesTitled m w out fill here inner p x (Part part)
+      pub attribute_noted : {q part : ℕ} → found ≡ Some q → NotesAttribute m w out fill here inner q x.labels part → NotesTitled m w out fill here inner p x (Some part)
       unfolding note_after held_given parts_from given_labels state_of
       attribute_noted {q} {part} there notes = record {
-        says = λ s l k es n r h. notes_by m w (suc inner) p x k (context_of here) es n r (Part part) λ v gs also given type.
+        says = λ s l k es n r h. notes_by m w (suc inner) p x k (context_of here) es n r (Some part) λ v gs also given type.
             held_there s k es n r h gs (given_here l k es n r there given) ∙ sym (entry_note l k es n r gs v also type);
       }
         where
-          held_there : Siblings m (suc inner) AttributeKind (end_of m (p + 5)) (end_of m p) → (k : Known) (es : List Entry) (n r : ℕ) → Ready m w out fill k es → (gs : List Given) → GivenAs m (suc inner) k (context_of here) (state_of w es n r) (asked_of w).name (fields_in m (end_of m (p + 5)) (end_of m p)) gs (At q)
+          held_there : Siblings m (suc inner) AttributeKind (end_of m (p + 5)) (end_of m p) → (k : Known) (es : List Entry) (n r : ℕ) → Ready m w out fill k es → (gs : List Given) → GivenAs m (suc inner) k (context_of here) (state_of w es n r) (asked_of w).name (fields_in m (end_of m (p + 5)) (end_of m p)) gs (Some q)
               → part ≡ held_given (asked_of w) (parts_from x.labels (context_of here) (state_of w es n r) (marks_for k (context_of here) (state_of w es n r) (attributes_at m (suc inner) (fields_in m (end_of m (p + 5)) (end_of m p)))) gs (asked_of w).name) (first_with (is_given (asked_of w).name) gs)
           held_there s k es n r h gs (given_as y i e g read) =
               let below : suc inner - 1 ≡ inner = omega arith in
@@ -245,7 +242,7 @@ module _ (m w out : List ℕ) (fill : ℕ) (here : Here) (inner p : ℕ) (x : La
 -- ---- The ways of `resource_note`
 
 module _ (m w out : List ℕ) (fill : ℕ) (here : Here) (d p : ℕ) where
-  pub resource_flat : d < 2 → NotesRun m w out fill here d p Kept
+  pub resource_flat : d < 2 → NotesRun m w out fill here d p None
   resource_flat flat = record { says = λ s by k declare es n r h. absurd (omega (arith, level s, level (resource_opens s (level s) by).title.stands)) }
 
   module _ {b : ℕ} (deep : d ≡ suc b) (short : length m ≤ 65535) {q : ℕ} (small : Small q (p + 5)) {e : Outcome Labelled} (told : StandsAs m b ExpressionKind q → Tells m w out fill here.scope e (λ k c st. evaluate k c st (expression_at m b q))) where
@@ -254,7 +251,7 @@ module _ (m w out : List ℕ) (fill : ℕ) (here : Here) (d p : ℕ) where
         → (v >>= λ x. titled_run m b p x k (context_of here) (state_of w es n r)) ≡ run k declare (statement_at m d p) (context_of here) (state_of w es n r)
     run_titled is s by k declare es n r h = rw is at (resource_run m w out fill r here d p true deep short small told s by k declare es n h)
 
-    pub title_refused : {why : Refusal} → e ≡ refused_by why → NotesRun m w out fill here d p Kept
+    pub title_refused : {why : Refusal} → e ≡ refused_by why → NotesRun m w out fill here d p None
     unfolding ◌>>=◌
     title_refused is = record { says = λ s by k declare es n r h. record { says = λ type x n' r' ends. absurd (refused_done (run_titled is s by k declare es n r h ∙ ends)) } }
 
@@ -339,10 +336,10 @@ module _ (m w out : List ℕ) (fill : ℕ) (here : Here) (d p : ℕ) {asked kind
       };
     }
 
-    pub note_kept : note ≡ Kept → NotesResource m w w out fill here d p
+    pub note_kept : note ≡ None → NotesResource m w w out fill here d p
     unfolding note_after
     note_kept is = noted_after (word_stays w note_word) (ap (λ (x : Note). note_after x (word_of w note_word)) is)
 
-    pub note_made : {part v : ℕ} {w' : List ℕ} → note ≡ Part part → v ≡ part → WordSet w w' note_word v → NotesResource m w w' out fill here d p
+    pub note_made : {part v : ℕ} {w' : List ℕ} → note ≡ Some part → v ≡ part → WordSet w w' note_word v → NotesResource m w w' out fill here d p
     unfolding note_after
     note_made is same set = noted_after set (ap (λ (x : Note). note_after x (word_of w note_word)) is ∙ sym same)

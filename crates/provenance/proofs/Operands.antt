@@ -22,26 +22,35 @@ use Rattle.places.specs.At.{expression_at, StandsAs}
 use Rattle.places.specs.Parts.{OperationAt}
 use Rattle.memory.specs.declared.Scope.{Scope}
 use Rattle.labels.specs.declared.Labels.{Labels}
-use Rattle.evaluator.specs.declared.Evaluated.{Evaluated}
-use Rattle.evaluator.specs.declared.Valued.{Valued}
-use Rattle.evaluator.specs.declared.Valued.TheVariants.{Value as IsValue, Refused}
-use Rattle.evaluator.specs.Answers.{answered, valued_as}
+use Rattle.std.specs.Prelude.{Ok, Err}
+use Rattle.evaluator.specs.Answers.{Evaluated, answered}
 use Rattle.evaluator.proofs.Outcomes.{value_answered, refusal_answered}
 use Rattle.evaluator.specs.Known.{Tells}
 use Rattle.evaluator.proofs.Expressions.{Small, operand_at}
 use Rattle.evaluator.proofs.Operators.{operator_and, operator_or}
 use Rattle.provenance.specs.Given.{Gives}
 
+-- ---- An answer that is no value
+
+pub why_refused : (e : Evaluated) → ((v : Value) → e ≡ Ok v → ⊥) → Refusal
+why_refused (Ok v) h = absurd (h v refl)
+why_refused (Err why) h = why
+
+pub is_refused_lem : (e : Evaluated) (h : (v : Value) → e ≡ Ok v → ⊥) → e ≡ Err (why_refused e h)
+unfolding why_refused
+is_refused_lem (Ok v) h = absurd (h v refl)
+is_refused_lem (Err why) h = refl
+
 -- ---- The ways of `is_boolean`
 
-module _ (b : Bool) (e : Evaluated) {u : Valued} (apart : u ≡ valued_as e) where
-  pub boolean_refused : {why : Refusal} → u ≡ Refused why → (k : Labels) → false ≡ is_boolean b (answered e k)
+module _ (b : Bool) {e : Evaluated} where
+  pub boolean_refused : {why : Refusal} → e ≡ Err why → (k : Labels) → false ≡ is_boolean b (answered e k)
   unfolding is_boolean
-  boolean_refused is k = rw (refusal_answered e apart is k)
+  boolean_refused is k = rw (refusal_answered is k)
 
-  pub boolean_compared : {x : Value} {r : Bool} → u ≡ IsValue x → r ≡ same_value (Boolean b) x → (k : Labels) → r ≡ is_boolean b (answered e k)
+  pub boolean_compared : {x : Value} {r : Bool} → e ≡ Ok x → r ≡ same_value (Boolean b) x → (k : Labels) → r ≡ is_boolean b (answered e k)
   unfolding is_boolean
-  boolean_compared is same k = rw (value_answered e apart is k) same
+  boolean_compared is same k = rw (value_answered is k) same
 
 -- ---- Operator bytes
 

@@ -20,8 +20,6 @@ use Rattle.rules.specs.declared.Kind.TheVariants.{Expression as ExpressionKind, 
 use Rattle.rules.proofs.Patterns.{map_patterns, chosen_mapped}
 use Rattle.places.specs.At.{constant_at, expression_at, arm_at, arms_at, StandsAs, Siblings}
 use Rattle.places.specs.Parts.{SelectorAt}
-use Rattle.patterns.specs.declared.Choice.{Choice}
-use Rattle.patterns.specs.declared.Choice.TheVariants.{At, Nothing}
 use Rattle.patterns.specs.Tried.{patterns_at, Matches}
 use Rattle.patterns.proofs.Follows.{mapped_first}
 use Rattle.cells.specs.Memory.{state_of}
@@ -33,13 +31,14 @@ use Rattle.evaluator.proofs.Expressions.{Small, operand_at}
 use Rattle.evaluator.proofs.Selectors.{arm_stands, arm_stands_lem, siblings_within}
 use Rattle.provenance.specs.Given.{Gives}
 use Rattle.provenance.proofs.Expressions.{MarksAt, operand_marks}
+use Rattle.std.specs.Prelude.{Option, Some, None}
 
 -- ---- Arms
 
 -- the marks of what a choice among arms leads to, with b levels for what is in them
-unfoldable marks_for : List ℕ → (b : ℕ) → Known → Context → State → Choice → Labels
-marks_for m b k c st (At q) = marks_read k c st (expression_at m b q)
-marks_for m b k c st Nothing = no_labels
+unfoldable marks_for : List ℕ → (b : ℕ) → Known → Context → State → Option ℕ → Labels
+marks_for m b k c st (Some q) = marks_read k c st (expression_at m b q)
+marks_for m b k c st None = no_labels
 
 module _ (m : List ℕ) (d : ℕ) (k : Known) (c : Context) (st : State) where
   -- the arms at their places
@@ -51,24 +50,24 @@ module _ (m : List ℕ) (d : ℕ) (k : Known) (c : Context) (st : State) where
       let after : Arms = arms_at m d qs in
       mapped_first (arm_marks k c st) (marks_for m (d - 1) k c st) m q qs (default_arm e after) (arm (constant_at m (q + 3)) e after) (ap (default_pattern (marks_read k c st e)) (arms_at_lem qs)) (ap (constant_pattern (constant_at m (q + 3)) (marks_read k c st e)) (arms_at_lem qs))
 
-  chosen_at : {first end : ℕ} {x : Value} {s s' : List ℕ} {r : Choice} → Matches m first end x s s' r → marks_for m (d - 1) k c st r ≡ chosen (arm_marks k c st (arms_at m d (fields_in m first end))) x no_labels
+  chosen_at : {first end : ℕ} {x : Value} {s s' : List ℕ} {r : Option ℕ} → Matches m first end x s s' r → marks_for m (d - 1) k c st r ≡ chosen (arm_marks k c st (arms_at m d (fields_in m first end))) x no_labels
   unfolding marks_for
   chosen_at {first} {end} {x} i =
       let f = marks_for m (d - 1) k c st in
-      ap f i.at ∙ sym (chosen_mapped f (patterns_at m (fields_in m first end)) x Nothing)
+      ap f i.at ∙ sym (chosen_mapped f (patterns_at m (fields_in m first end)) x None)
       ∙ ap (λ (qs : Patterns Labels). chosen qs x no_labels) (sym (arms_at_lem (fields_in m first end)))
 
 -- ---- The ways of `chosen_marks`
 
-module _ (m w out : List ℕ) (fill : ℕ) (scope : Scope) (d first end : ℕ) (x : Value) {s s' : List ℕ} {r : Choice} (i : Matches m first end x s s' r) where
+module _ (m w out : List ℕ) (fill : ℕ) (scope : Scope) (d first end : ℕ) (x : Value) {s s' : List ℕ} {r : Option ℕ} (i : Matches m first end x s s' r) where
   abbrev Chosen : Labels → Type 0
   Chosen a = Gives m w out fill scope a (λ k c st. chosen (arm_marks k c st (arms_at m d (fields_in m first end))) x no_labels)
 
-  pub chooses_none : r ≡ Nothing → Chosen no_labels
+  pub chooses_none : r ≡ None → Chosen no_labels
   unfolding marks_for
   chooses_none is = record { says = λ k path es n v h. ap (marks_for m (d - 1) k (context_in scope path) (state_of w es n v)) (sym is) ∙ chosen_at m d k (context_in scope path) (state_of w es n v) i }
 
-  pub chooses_one : {b q j : ℕ} {a : Labels} → d ≡ suc b → length m ≤ 65535 → Siblings m d Arm first end → r ≡ At q → Small j q → (StandsAs m b ExpressionKind j → MarksAt m w out fill scope b j a) → Chosen a
+  pub chooses_one : {b q j : ℕ} {a : Labels} → d ≡ suc b → length m ≤ 65535 → Siblings m d Arm first end → r ≡ Some q → Small j q → (StandsAs m b ExpressionKind j → MarksAt m w out fill scope b j a) → Chosen a
   unfolding marks_for arm_stands
   chooses_one {b} {q} above short arms is small told =
       let below : d - 1 ≡ b = omega arith in

@@ -12,8 +12,6 @@ use Rattle.labels.proofs.Laws.{union_assoc, union_none, union_none_after}
 use Rattle.values.specs.declared.Labelled.{Labelled}
 use Rattle.rules.specs.State.{Scope, class_scope, Base, DeclaredClass, parent_of, upward, is_some, no_cell, Cells}
 use Rattle.rules.specs.Evaluate.{marks_in}
-use Rattle.cells.specs.declared.Found.{Found as SlotFound}
-use Rattle.cells.specs.declared.Found.TheVariants.{At as SlotAt, Nothing as NoSlot}
 use Rattle.cells.specs.Layout.{body_at, body_mark, slots_of}
 use Rattle.cells.specs.Scopes.{scope_of, numbered}
 use Rattle.cells.specs.Slots.{value_in, mark_in, slot_for}
@@ -21,10 +19,9 @@ use Rattle.cells.specs.Memory.{cell_at, by_scope, cells_of, classes_of}
 use Rattle.cells.proofs.Scopes.{class_scope_lem}
 use Rattle.cells.proofs.SlotReads.{content_there, mark_read}
 use Rattle.cells.proofs.Ways.{in_slots, cell_found}
-use Rattle.memory.specs.declared.Above.{Above}
-use Rattle.memory.specs.declared.Above.TheVariants.{At, Nothing}
 use Rattle.memory.specs.Names.{scope_above}
 use Rattle.evaluator.proofs.Reading.{no_value, above, upward_step, upward_one}
+use Rattle.std.specs.Prelude.{Option as CodeOption, Some, None}
 
 -- the marks of the scopes above one, unless that has a value
 unfoldable unless_found : Option Labelled → (above : Labels) → Labels
@@ -53,12 +50,12 @@ module _ (cells : Cells) (n : ℕ) (classes : ℕ → Option DeclaredClass) (b :
     unfolding upward marks_in
     marks_out so_far z = sym (union_none_after marks) ∙ (rw z at so_far)
 
-    module _ (passed : marks ∪ beyond left s ≡ whole) {a : Above} (parent : scope_above a ≡ parent_of classes b s) where
-      pub marks_end : a ≡ Nothing → marks ≡ whole
+    module _ (passed : marks ∪ beyond left s ≡ whole) {a : CodeOption ℕ} (parent : scope_above a ≡ parent_of classes b s) where
+      pub marks_end : a ≡ None → marks ≡ whole
       unfolding scope_above above marks_in
       marks_end z = sym (union_none_after marks) ∙ (rw (sym parent, z) at passed)
 
-      pub marks_on : {q : ℕ} → a ≡ At q → marks ∪ marks_from (left - 1) (scope_of q) ≡ whole
+      pub marks_on : {q : ℕ} → a ≡ Some q → marks ∪ marks_from (left - 1) (scope_of q) ≡ whole
       unfolding scope_above above
       marks_on z = rw (sym parent, z) at passed
 
@@ -66,18 +63,18 @@ module _ (cells : Cells) (n : ℕ) (classes : ℕ → Option DeclaredClass) (b :
   marks_begin left s = union_none (marks_from left s)
 
 -- the ways of `marks_up` at one scope, by the slot that is found
-module _ (w : List ℕ) (n : ℕ) (b : Base) {whole : Labels} (marks : Labels) (left s : ℕ) (so_far : marks ∪ marks_from (cells_of w) n (classes_of w) b left (scope_of s) ≡ whole) (more : 0 < left) {q : SlotFound} (found : q ≡ slot_for (slots_of w) s n) where
+module _ (w : List ℕ) (n : ℕ) (b : Base) {whole : Labels} (marks : Labels) (left s : ℕ) (so_far : marks ∪ marks_from (cells_of w) n (classes_of w) b left (scope_of s) ≡ whole) (more : 0 < left) {q : CodeOption ℕ} (found : q ≡ slot_for (slots_of w) s n) where
   abbrev rest : Labels
   rest = beyond (cells_of w) n (classes_of w) b left (scope_of s)
 
   by_slot : marks ∪ ((cell_at (slots_of w) q).mark ∪ unless_found (cell_at (slots_of w) q).value rest) ≡ whole
   by_slot = rw (sym (cell_found w s n found)) (ap (λ (k : Labels). marks ∪ k) (sym (marks_step (cells_of w) n (classes_of w) b left (scope_of s) more)) ∙ so_far)
 
-  pub pass_none : {u : Labels} → q ≡ NoSlot → u ≡ marks → u ∪ rest ≡ whole
+  pub pass_none : {u : Labels} → q ≡ None → u ≡ marks → u ∪ rest ≡ whole
   unfolding cell_at no_cell unless_found
   pass_none none_there same = rw same (ap (λ (k : Labels). marks ∪ k) (sym (union_none rest)) ∙ (rw none_there at by_slot))
 
-  module _ (i : ℕ) {m u : Labels} {t : Bool} (is : q ≡ SlotAt i) (mark : m ≡ set_at w (body_at i + body_mark)) (joined : u ≡ marks ∪ m) (told : t ≡ is_some (value_in (slots_of w i))) where
+  module _ (i : ℕ) {m u : Labels} {t : Bool} (is : q ≡ Some i) (mark : m ≡ set_at w (body_at i + body_mark)) (joined : u ≡ marks ∪ m) (told : t ≡ is_some (value_in (slots_of w i))) where
     below : i < 512
     below = in_slots 1 (slots_of w) s n i found is
 

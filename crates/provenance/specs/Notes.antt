@@ -18,8 +18,7 @@ use Rattle.memory.specs.Words.{word_of, WordSet, asked_type, asked_title, asked_
 use Rattle.evaluator.specs.Known.{Ready}
 use Rattle.resources.specs.Entries.{titled_run}
 use Rattle.provenance.specs.Parts.{held_part}
-use Rattle.provenance.specs.declared.Note.{Note}
-use Rattle.provenance.specs.declared.Note.TheVariants.{Part, Kept}
+use Rattle.std.specs.Prelude.{Option as CodeOption, Some, None}
 
 -- ---- The question and the note
 
@@ -61,10 +60,14 @@ pub record Noted (w : List ℕ) (q : Question) (es : List Entry) : Type 0 where
 
 -- ---- A resource that is about to be added
 
+-- what is noted of it: the number of a part, or what was noted before stays
+abbrev pub Note : Type 0
+Note = CodeOption ℕ
+
 -- the note after it, from the note before
 unfoldable pub note_after : Note → ℕ → ℕ
-note_after (Part n) before = n
-note_after Kept before = before
+note_after (Some n) before = n
+note_after None before = before
 
 -- the attribute at q, whose expression has d levels, of a resource whose title has this set: the part that holds the label, if it has a value
 pub record NotesAttribute (m w out : List ℕ) (fill : ℕ) (here : Here) (d q : ℕ) (set : Labels) (part : ℕ) : Type 0 where

@@ -20,24 +20,14 @@ ghost use Rattle.provenance.specs.Parts.{held_part};
 ghost use Rattle.provenance.specs.Given.{Gives};
 ghost use Rattle.provenance.specs.Notes.{asked_of, NotesAttribute, NotesTitled, NotesRun, NotesResource};
 
-use catalog::Place;
-use evaluator::{Evaluated, Valued, value_of};
 use labels::Labels;
 use memory::{Context, Scope};
-use patterns::Choice;
-use values::{Labelled, SetPart, Value, place};
+use values::{Labelled, Refusal, SetPart, Value, place};
 
 // In place of a part's number where no part has the label, and where there is no such attribute.
 pub const NO_PART: u8 = 6;
 
 pub const NO_ATTRIBUTE: u8 = 0;
-
-// What is noted when a resource is added: the part of the attribute asked about, or what was noted before.
-#[derive(Clone, Copy)]
-pub enum Note {
-    Part(u8),
-    Kept,
-}
 
 // ---- Parts
 
@@ -81,17 +71,13 @@ fn marks_up(work: &[u8], scope: Scope, name: u16, tries: u16) -> Labels
     let mut at = scope.number;
     let mut left = tries;
     while 0 < left {
-        match cells::slot_for(work, at, name) {
-            cells::Found::At(i) => {
-                let joined = marks.union(cells::mark_at(work, i));
-                if cells::has_value(work, i) {
-                    return joined;
-                }
-                marks = joined;
+        if let Some(i) = cells::slot_for(work, at, name) {
+            marks = marks.union(cells::mark_at(work, i));
+            if cells::has_value(work, i) {
+                return marks;
             }
-            cells::Found::Nothing => {}
         }
-        let memory::Above::At(q) = memory::parent_of(work, scope.base_is_node, at) else {
+        let Some(q) = memory::parent_of(work, scope.base_is_node, at) else {
             return marks;
         };
         at = q;
@@ -131,12 +117,12 @@ fn variable_marks(m: &[u8], p: usize, work: &[u8], scope: Scope) -> Labels
 
 // ---- Operands that are skipped
 
-fn is_boolean(b: bool, e: Evaluated) -> bool
+fn is_boolean(b: bool, e: Result<Value, Refusal>) -> bool
     ensures { (k : Labels) → result ≡ is_boolean b (answered e k) }
 {
-    match value_of(e) {
-        Valued::Refused(_) => false,
-        Valued::Value(value) => values::same_value(Value::Boolean(b), value),
+    match e {
+        Ok(value) => values::same_value(Value::Boolean(b), value),
+        Err(_) => false,
     }
 }
 
@@ -203,11 +189,10 @@ fn chosen_marks(
     ensures { (d : ℕ) → d ≡ suc inner → Siblings m.now d Arm first end → Gives m.now work.now out.now fill scope result (λ k c st. chosen (arm_marks k c st (arms_at m.now d (fields_in m.now first end))) x no_labels) }
 {
     let mut tried = [0u64; 4];
-    let at = patterns::try_patterns(m, first, end, x, &mut tried);
-    match at {
-        Choice::Nothing => Labels::EMPTY,
-        Choice::At(q) => marks_read(m, inner, place(q), work, out, fill, scope),
-    }
+    let Some(q) = patterns::try_patterns(m, first, end, x, &mut tried) else {
+        return Labels::EMPTY;
+    };
+    marks_read(m, inner, place(q), work, out, fill, scope)
 }
 
 #[cycle(chosen_marks_marks_read_operation_marks_selector_marks)]
@@ -230,15 +215,13 @@ fn selector_marks(
     let marks = marks_read(m, below, scrutinee, work, out, fill, scope);
     let mut set = [0u64; 4];
     let a = evaluator::evaluate(m, below, scrutinee, work, out, fill, scope, &mut set);
-    match value_of(a) {
-        Valued::Refused(_) => marks,
-        Valued::Value(value) => {
-            let first = wire::end_of(m, p + 3);
-            let end = place(wire::end_of(m, p));
-            let chosen = chosen_marks(m, below - 1, first, end, value, work, out, fill, scope);
-            marks.union(chosen)
-        }
-    }
+    let Ok(value) = a else {
+        return marks;
+    };
+    let first = wire::end_of(m, p + 3);
+    let end = place(wire::end_of(m, p));
+    let chosen = chosen_marks(m, below - 1, first, end, value, work, out, fill, scope);
+    marks.union(chosen)
 }
 
 // The marks that evaluating the expression at p reads, with `depth` levels left for it. A part that decides what else is read is evaluated anew for
@@ -298,23 +281,20 @@ fn attribute_part(
     requires { Sized m.now work.now out.now fill q }
     ensures { NotesAttribute m.now work.now out.now fill here inner q set result }
 {
-    let scope = here.scope;
     let at = place(q + 5);
     let mut own = [0u64; 4];
-    let e = evaluator::evaluate(m, inner, at, work, out, fill, scope, &mut own);
-    match value_of(e) {
-        Valued::Refused(_) => NO_PART,
-        Valued::Value(_) => {
-            let path = here.path;
-            let value = Labels::in_words(&own);
-            let marks = marks_read(m, inner, at, work, out, fill, scope);
-            let label = asked_label(work);
-            part_held(set, path, memory::trail(work), marks, value, label)
-        }
-    }
+    let e = evaluator::evaluate(m, inner, at, work, out, fill, here.scope, &mut own);
+    let Ok(_) = e else {
+        return NO_PART;
+    };
+    let value = Labels::in_words(&own);
+    let marks = marks_read(m, inner, at, work, out, fill, here.scope);
+    let label = asked_label(work);
+    part_held(set, here.path, memory::trail(work), marks, value, label)
 }
 
-// What is noted of the resource at p, whose title is x; the expressions in its attributes have `inner` levels.
+// What is noted of the resource at p, whose title is x: the part of the attribute asked about, or none, and what was noted before stays. The expressions in
+// its attributes have `inner` levels.
 fn titled_note(
     m: &[u8],
     inner: u8,
@@ -324,28 +304,23 @@ fn titled_note(
     out: &[u8],
     fill: usize,
     here: Context,
-) -> Note
+) -> Option<u8>
     requires { Sized m.now work.now out.now fill p }
     ensures { NotesTitled m.now work.now out.now fill here inner p x result }
 {
-    let value = x.value;
-    let Value::String(title) = value else {
-        return Note::Kept;
+    let Value::String(title) = x.value else {
+        return None;
     };
     if title != memory::word(work, memory::ASKED_TITLE) {
-        return Note::Kept;
+        return None;
     }
     let first = wire::end_of(m, p + 5);
     let end = place(wire::end_of(m, p));
     let name = memory::word(work, memory::ASKED_NAME);
-    let found = attributes::find_named(m, first, end, name);
-    match found {
-        Place::Nothing => Note::Part(NO_ATTRIBUTE),
-        Place::At(q) => {
-            let set = x.labels;
-            Note::Part(attribute_part(m, inner, q, set, work, out, fill, here))
-        }
-    }
+    let Some(q) = attributes::find_named(m, first, end, name) else {
+        return Some(NO_ATTRIBUTE);
+    };
+    Some(attribute_part(m, inner, q, x.labels, work, out, fill, here))
 }
 
 // The same of the resource at p, with `depth` levels left for it.
@@ -357,24 +332,30 @@ fn resource_note(
     out: &[u8],
     fill: usize,
     here: Context,
-) -> Note
+) -> Option<u8>
     requires { Sized m.now work.now out.now fill p }
     ensures { NotesRun m.now work.now out.now fill here depth p result }
 {
     if depth < 2 {
-        return Note::Kept;
+        return None;
     }
-    let scope = here.scope;
     let mut set = [0u64; 4];
-    let t = evaluator::evaluate(m, depth - 1, place(p + 5), work, out, fill, scope, &mut set);
-    match value_of(t) {
-        Valued::Refused(_) => Note::Kept,
-        Valued::Value(value) => {
-            let labels = Labels::in_words(&set);
-            let x = Labelled { value, labels };
-            titled_note(m, depth - 2, p, x, work, out, fill, here)
-        }
-    }
+    let at = place(p + 5);
+    let t = evaluator::evaluate(m, depth - 1, at, work, out, fill, here.scope, &mut set);
+    let Ok(value) = t else {
+        return None;
+    };
+    let labels = Labels::in_words(&set);
+    titled_note(
+        m,
+        depth - 2,
+        p,
+        Labelled { value, labels },
+        work,
+        out,
+        fill,
+        here,
+    )
 }
 
 // Notes the part of the attribute asked about, if it is one of the resource at p, which is about to be added. In a compile nothing is asked about.
@@ -398,9 +379,7 @@ pub fn note_resource(
     if asked != kind + 1 {
         return;
     }
-    let note = resource_note(m, depth, p, work, out, fill, here);
-    match note {
-        Note::Kept => {}
-        Note::Part(part) => memory::set_word(work, memory::NOTE, part as u16),
+    if let Some(part) = resource_note(m, depth, p, work, out, fill, here) {
+        memory::set_word(work, memory::NOTE, part as u16);
     }
 }

@@ -12,11 +12,10 @@ use Rattle.rules.specs.Schedule.{before_feed, after_feed}
 use Rattle.input.specs.Reading.{has_feed}
 use Rattle.input.proofs.Feeding as feeding
 use Rattle.question.specs.declared.Lines.{Lines}
-use Rattle.question.specs.declared.Asked.{Asked}
-use Rattle.question.specs.declared.Asked.TheVariants.{Question, NotAQuestion}
 use Rattle.question.specs.Lines.{line_after, lines_of, line_between, behind_feeds, line_number, Parts}
 use Rattle.question.specs.Numbers.{with_digit, spelled, number_in}
-use Rattle.question.specs.Asking.{space_place, label_of, lends_types, with_line, asked_by, asked}
+use Rattle.input.specs.Places.{place_of}
+use Rattle.question.specs.Asking.{Asked, question, not_a_question, space_place, label_of, lends_types, with_line, asked_by, asked}
 use Rattle.question.proofs.NumberText.{spelled_digit}
 use Rattle.wire.specs.Bytes.{pick}
 
@@ -94,7 +93,7 @@ parts given =
     record { device = (feeding.split given).front; kind = kind.bytes; title = title.bytes; attribute = attribute.bytes; label = label.bytes; manifest = label.ends.behind; whole = label.ends.there }
 
 -- an input is a question precisely if it has five line feeds, the fifth line is a label or a label and a length, and so many bytes follow it
-pub asked_parts : (given : List ℕ) → asked given ≡ pick (has_feed (behind_feeds 4 given)) (with_line (lines_of given) (line_number 4 given) (length (behind_feeds 5 given))) NotAQuestion
+pub asked_parts : (given : List ℕ) → asked given ≡ pick (has_feed (behind_feeds 4 given)) (with_line (lines_of given) (line_number 4 given) (length (behind_feeds 5 given))) not_a_question
 unfolding asked asked_by
 asked_parts given =
     let p = parts given in
@@ -105,11 +104,11 @@ asked_parts given =
 
 -- the fifth line was a label then, and nothing else
 unfoldable pub asked_without_types : (given : List ℕ) → Asked
-asked_without_types given = pick (has_feed (behind_feeds 4 given)) (pick (ltb 255 (number_in 255 (line_number 4 given))) NotAQuestion (Question (lines_of given) (number_in 255 (line_number 4 given)))) NotAQuestion
+asked_without_types given = pick (has_feed (behind_feeds 4 given)) (pick (ltb 255 (number_in 255 (line_number 4 given))) not_a_question (question (lines_of given) (number_in 255 (line_number 4 given)))) not_a_question
 
 -- digits have no space among them
 no_space : (line : List ℕ) (n : ℕ) → spelled 255 line n ≤ 255 → space_place line ≡ length line
-unfolding space_place spelled
+unfolding space_place place_of spelled
 no_space [] n h = refl
 no_space (c ∷ cs) n h =
     let digit : 48 ≤ c = spelled_digit 255 c cs n h in
@@ -126,7 +125,7 @@ label_alone (c ∷ d ∷ cs) h = go (eqb c 48) h
     go true h = absurd (omega arith)
     go false h = no_space (c ∷ d ∷ cs) 0 h
 
-label_line : (lines : Lines) (line : List ℕ) (there : ℕ) → number_in 255 line ≤ 255 → with_line lines line there ≡ Question lines (number_in 255 line)
+label_line : (lines : Lines) (line : List ℕ) (there : ℕ) → number_in 255 line ≤ 255 → with_line lines line there ≡ question lines (number_in 255 line)
 unfolding with_line lends_types label_of
 label_line lines line there small =
     let end = label_alone line small in
@@ -134,14 +133,14 @@ label_line lines line there small =
     rw (whole, le-ltb 255 (number_in 255 line) small, le-ltb (space_place line) (length line) (omega (arith, end))) refl
 
 -- what was a question is the same question
-pub asked_as_before : (given : List ℕ) {lines : Lines} {label : ℕ} → asked_without_types given ≡ Question lines label → asked given ≡ Question lines label
+pub asked_as_before : (given : List ℕ) {lines : Lines} {label : ℕ} → asked_without_types given ≡ question lines label → asked given ≡ question lines label
 unfolding asked_without_types
 asked_as_before given {lines} {label} was = asked_parts given ∙ go (has_feed (behind_feeds 4 given)) (ltb 255 n) refl was
   where
     n : ℕ
     n = number_in 255 (line_number 4 given)
 
-    go : (b c : Bool) → ltb 255 n ≡ c → pick b (pick c NotAQuestion (Question (lines_of given) n)) NotAQuestion ≡ Question lines label → pick b (with_line (lines_of given) (line_number 4 given) (length (behind_feeds 5 given))) NotAQuestion ≡ Question lines label
+    go : (b c : Bool) → ltb 255 n ≡ c → pick b (pick c not_a_question (question (lines_of given) n)) not_a_question ≡ question lines label → pick b (with_line (lines_of given) (line_number 4 given) (length (behind_feeds 5 given))) not_a_question ≡ question lines label
     go true true e was = let z : ◌≡◌ {A = ℕ} 0 1 = cc in absurd (omega arith)
     go true false e was = label_line (lines_of given) (line_number 4 given) (length (behind_feeds 5 given)) (ltb-false 255 n e) ∙ was
     go false c e was = was

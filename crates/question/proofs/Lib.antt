@@ -1,5 +1,5 @@
 mod Reading
-mod Putting
+pub mod Putting
 pub mod NumberText
 pub mod Laws
 pub mod Lengths

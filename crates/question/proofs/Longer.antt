@@ -13,10 +13,8 @@ use Rattle.rules.specs.Schedule.{before_feed}
 use Rattle.input.specs.Reading.{has_feed}
 use Rattle.input.proofs.Feeding as feeding
 use Rattle.question.specs.declared.Lines.{Lines}
-use Rattle.question.specs.declared.Asked.{Asked}
-use Rattle.question.specs.declared.Asked.TheVariants.{Question, WithTypes, NotAQuestion}
 use Rattle.question.specs.Lines.{line_after, lines_of, line_between}
-use Rattle.question.specs.Asking.{label_of, lends_types, size_of, with_size, with_line, asked_by, asked}
+use Rattle.question.specs.Asking.{Asked, question, with_types, not_a_question, label_of, lends_types, size_of, with_size, with_line, asked_by, asked}
 use Rattle.question.proofs.Reading.{a_line, no_line, lines_are}
 
 -- a line that ends before the end has its line feed
@@ -70,18 +68,18 @@ module _ (given more : List ℕ) where
           ap (λ (k : ℕ). take k (drop (feed + 1) given)) none ∙ sym (ap (λ (k : ℕ). take k (drop (feed + 1) (given ++ more))) none)
 
   -- where more bytes follow the fifth line
-  line_longer : (lines : Lines) (line : List ℕ) (there further : ℕ) → there ≤ further → (with_line lines line there ≡ NotAQuestion → ⊥) → with_line lines line further ≡ with_line lines line there
+  line_longer : (lines : Lines) (line : List ℕ) (there further : ℕ) → there ≤ further → (with_line lines line there ≡ not_a_question → ⊥) → with_line lines line further ≡ with_line lines line there
   unfolding with_line with_size
   line_longer lines line there further less = go (ltb 255 (label_of line)) (lends_types line) (ltb 65535 (size_of line)) (ltb there (size_of line)) refl
     where
-      question : Asked
-      question = Question lines (label_of line)
+      alone : Asked
+      alone = question lines (label_of line)
 
       list : Asked
-      list = WithTypes lines (label_of line) (size_of line)
+      list = with_types lines (label_of line) (size_of line)
 
-      go : (a b c d : Bool) → ltb there (size_of line) ≡ d → (pick a NotAQuestion (pick b (pick c NotAQuestion (pick d NotAQuestion list)) question) ≡ NotAQuestion → ⊥)
-          → pick a NotAQuestion (pick b (pick c NotAQuestion (pick (ltb further (size_of line)) NotAQuestion list)) question) ≡ pick a NotAQuestion (pick b (pick c NotAQuestion (pick d NotAQuestion list)) question)
+      go : (a b c d : Bool) → ltb there (size_of line) ≡ d → (pick a not_a_question (pick b (pick c not_a_question (pick d not_a_question list)) alone) ≡ not_a_question → ⊥)
+          → pick a not_a_question (pick b (pick c not_a_question (pick (ltb further (size_of line)) not_a_question list)) alone) ≡ pick a not_a_question (pick b (pick c not_a_question (pick d not_a_question list)) alone)
       go true b c d e some = refl
       go false false c d e some = refl
       go false true true d e some = refl
@@ -89,7 +87,7 @@ module _ (given more : List ℕ) where
       go false true false false e some = rw (le-ltb further (size_of line) (omega (arith, ltb-false there (size_of line) e))) refl
 
   -- a question stays what it is
-  pub asked_longer : (asked given ≡ NotAQuestion → ⊥) → asked (given ++ more) ≡ asked given
+  pub asked_longer : (asked given ≡ not_a_question → ⊥) → asked (given ++ more) ≡ asked given
   unfolding asked asked_by
   asked_longer some = go (ltb ends.label (length given)) refl some
     where
@@ -102,7 +100,7 @@ module _ (given more : List ℕ) where
       there : ℕ
       there = length given - (ends.label + 1)
 
-      go : (b : Bool) → ltb ends.label (length given) ≡ b → (pick b (with_line ends line there) NotAQuestion ≡ NotAQuestion → ⊥) → asked_by (given ++ more) (lines_of (given ++ more)) ≡ pick b (with_line ends line there) NotAQuestion
+      go : (b : Bool) → ltb ends.label (length given) ≡ b → (pick b (with_line ends line there) not_a_question ≡ not_a_question → ⊥) → asked_by (given ++ more) (lines_of (given ++ more)) ≡ pick b (with_line ends line there) not_a_question
       go true e some =
           let inside : ends.label < length given = ltb-true ends.label (length given) e in
           rw (← same_lines inside, lt-ltb ends.label (length (given ++ more)) (omega (arith, longer)), ← same_between ends.attribute ends.label inside)

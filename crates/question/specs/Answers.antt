@@ -1,11 +1,10 @@
 -- The line that answers a question, and bytes that are put into a lent buffer.
-use Rattle.std.specs.Prelude.{ℕ, ◌+◌, ◌≡◌, List, [], ◌∷◌, ◌++◌, length}
-use Rattle.values.specs.declared.Explanation.{Explanation}
-use Rattle.values.specs.declared.Explanation.TheVariants.{Among, NotAmong, Refused}
+use Rattle.std.specs.Prelude.{ℕ, ◌+◌, ◌≡◌, List, [], ◌∷◌, ◌++◌, length, Ok, Err, Some, None}
 use Rattle.values.specs.Decimal.{decimal}
 use Rattle.values.specs.Numbers.{number_of, part_number}
 use Rattle.wire.specs.Runs.{over}
 use Rattle.rules.specs.Schedule.{refusal_line}
+use Rattle.values.specs.Answers.{Explanation}
 
 -- ---- Lines
 
@@ -16,9 +15,9 @@ unfoldable pub not_among_line : List ℕ
 not_among_line = 110 ∷ 111 ∷ 116 ∷ 32 ∷ 97 ∷ 109 ∷ 111 ∷ 110 ∷ 103 ∷ 10 ∷ []  -- "not among"
 
 unfoldable pub answer_line : Explanation → List ℕ
-answer_line (Among part place) = among_line (part_number part) place
-answer_line NotAmong = not_among_line
-answer_line (Refused reason place) = refusal_line (number_of reason) place
+answer_line (Ok (Some a)) = among_line (part_number a.part) a.place
+answer_line (Ok None) = not_among_line
+answer_line (Err f) = refusal_line (number_of f.reason) f.place
 
 -- for a wrong question
 unfoldable pub wrong_line : List ℕ

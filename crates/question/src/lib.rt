@@ -4,11 +4,13 @@
 ghost use Rattle.std.specs.Prelude.{◌≡◌, ◌≤◌, length};
 ghost use Rattle.values.specs.Decimal.{decimal};
 ghost use Rattle.question.specs.Lines.{line_after, lines_of, line_between};
-ghost use Rattle.question.specs.Numbers.{with_digit, spelled, number_in};
-ghost use Rattle.question.specs.Asking.{space_place, with_size, with_line, asked};
+ghost use Rattle.input.specs.Numbers.{up_to};
+ghost use Rattle.question.specs.Numbers.{number_in};
+ghost use Rattle.question.specs.Asking.{with_line, asked};
 ghost use Rattle.question.specs.Answers.{numbers_line, answer_line, wrong_line, Put};
 
-use input::{after, feed_place};
+use input::numbers::number_spelled;
+use input::{after, feed_place, place_of};
 use values::Explanation;
 use values::decimal::put_unsigned;
 
@@ -22,12 +24,12 @@ pub struct Lines {
     pub label: usize,
 }
 
-// What an input asks: its lines, and the label that the last one spells; with types, how many bytes their list has, which follows that line; or that it is no question.
+// What an input asks: its lines, the label that the last one spells, and how many bytes the list of types has that follows that line, if there is one.
 #[derive(Clone, Copy)]
-pub enum Asked {
-    Question { lines: Lines, label: u8 },
-    WithTypes { lines: Lines, label: u8, size: u16 },
-    NotAQuestion,
+pub struct Question {
+    pub lines: Lines,
+    pub label: u8,
+    pub types: Option<u16>,
 }
 
 // ---- Lines
@@ -76,117 +78,54 @@ pub fn line_between(given: &[u8], feed: usize, end: usize) -> &[u8]
     &given[from..end]
 }
 
-// ---- Numbers
+// ---- The fifth line
 
-// The number n with one digit more, or one above the limit.
-fn with_digit(most: u16, n: u32, byte: u8) -> u32
-    ensures { result ≡ with_digit most n byte }
+// The number that a text spells, if it spells one up to the limit.
+fn number_in(most: u32, text: &[u8]) -> Option<u32>
+    ensures { result ≡ up_to most (number_in most text.now) }
 {
-    let limit = most as u32;
-    let none = limit + 1;
-    if byte < 48 {
-        return none;
+    if text.is_empty() {
+        return None;
     }
-    if 57 < byte {
-        return none;
-    }
-    if limit < n {
-        return none;
-    }
-    let more = n * 10 + (byte - 48) as u32;
-    if limit < more {
-        return none;
-    }
-    more
-}
-
-fn number_spelled(most: u16, digits: &[u8]) -> u32
-    ensures { result ≡ spelled most digits.now 0 }
-{
-    let mut n: u32 = 0;
-    let mut i: usize = 0;
-    while i < digits.len() {
-        n = with_digit(most, n, digits[i]);
-        i += 1;
-    }
-    n
-}
-
-// The number that a text spells, or one above the limit.
-fn number_in(most: u16, text: &[u8]) -> u32
-    ensures { result ≡ number_in most text.now }
-{
-    if text.len() == 0 {
-        return most as u32 + 1;
-    }
-    if text.len() == 1 {
-        return number_spelled(most, text);
-    }
-    if text[0] == 48 {
-        return most as u32 + 1;
+    if 1 < text.len() && text[0] == b'0' {
+        return None;
     }
     number_spelled(most, text)
 }
 
-// ---- The fifth line
-
-// Where its first space stands; its length if there is none.
-fn space_place(line: &[u8]) -> usize
-    ensures { result ≡ space_place line.now }
-{
-    let mut i: usize = 0;
-    while i < line.len() {
-        if line[i] == 32 {
-            return i;
-        }
-        i += 1;
-    }
-    i
-}
-
-// A list of so many bytes, where so many are there behind the line.
-fn ask_with_types(lines: Lines, label: u8, size: u32, there: usize) -> Asked
-    ensures { result ≡ with_size lines label size there }
-{
-    if 65535 < size {
-        return Asked::NotAQuestion;
-    }
-    if there < size as usize {
-        return Asked::NotAQuestion;
-    }
-    Asked::WithTypes {
-        lines,
-        label,
-        size: size as u16,
-    }
-}
-
-fn ask(lines: Lines, line: &[u8], there: usize) -> Asked
+fn ask(lines: Lines, line: &[u8], there: usize) -> Option<Question>
     ensures { result ≡ with_line lines line.now there }
 {
-    let space = space_place(line);
-    let label = number_in(255, &line[..space]);
-    if 255 < label {
-        return Asked::NotAQuestion;
-    }
+    let space = place_of(line, b' ');
+    let label = number_in(255, &line[..space])?;
     if line.len() <= space {
-        return Asked::Question {
+        return Some(Question {
             lines,
             label: label as u8,
-        };
+            types: None,
+        });
     }
-    let size = number_in(65535, after(line, space));
-    ask_with_types(lines, label as u8, size, there)
+    let size = number_in(65535, after(line, space))?;
+    // so many bytes are there for the list
+    if there < size as usize {
+        return None;
+    }
+    Some(Question {
+        lines,
+        label: label as u8,
+        types: Some(size as u16),
+    })
 }
 
 // ---- The question
 
-pub fn split(given: &[u8]) -> Asked
+// What an input asks, if it is a question.
+pub fn split(given: &[u8]) -> Option<Question>
     ensures { result ≡ asked given.now }
 {
     let lines = lines_of(given);
     if given.len() <= lines.label {
-        return Asked::NotAQuestion;
+        return None;
     }
     let there = given.len() - lines.label - 1;
     ask(
@@ -231,20 +170,20 @@ pub fn write_answer(explanation: Explanation, out: &mut [u8]) -> usize
     ensures { Put 0 (answer_line explanation) out.old out.new result × (result ≤ 64) }
 {
     match explanation {
-        Explanation::Among { part, place } => put_numbers(
+        Ok(Some(among)) => put_numbers(
             out,
             b"among ",
-            values::part_number(part) as u16,
+            values::part_number(among.part) as u16,
             b" ",
-            place,
+            among.place,
         ),
-        Explanation::NotAmong => put_text(out, 0, b"not among\n"),
-        Explanation::Refused { reason, place } => put_numbers(
+        Ok(None) => put_text(out, 0, b"not among\n"),
+        Err(refusal) => put_numbers(
             out,
             b"refused ",
-            values::number_of(reason) as u16,
+            values::number_of(refusal.reason) as u16,
             b" at ",
-            place,
+            refusal.place,
         ),
     }
 }

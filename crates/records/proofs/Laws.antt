@@ -16,10 +16,9 @@ use Rattle.labels.specs.Bytes.{label_bytes, labels_from, set_at}
 use Rattle.labels.proofs.Laws.{label_length, label_back}
 use Rattle.labels.proofs.Places.{set_in}
 use Rattle.values.specs.declared.Labelled.{Labelled}
-use Rattle.records.specs.declared.Held.{Held}
-use Rattle.records.specs.declared.Held.TheVariants.{Empty, Holds}
 use Rattle.records.specs.Record.{kind_at, kind_of, payload_of, word_at, middle_bytes, record_bytes, record_in, held_of}
 use Rattle.records.proofs.Values.{Ranged, payload_lt, value_back, kind_some}
+use Rattle.std.specs.Prelude.{Option as CodeOption, Some, None}
 
 -- ---- A record by its bytes
 
@@ -83,12 +82,12 @@ record_emptied m p room = record_none (over m (kind_at p) (high_bytes 1 0)) p (s
 
 -- ---- What a read tells
 
-pub held_value : {h : Held} (o : Option Labelled) {x : Labelled} → h ≡ held_of o → h ≡ Holds x → o ≡ some x
+pub held_value : {h : CodeOption Labelled} (o : Option Labelled) {x : Labelled} → h ≡ held_of o → h ≡ Some x → o ≡ some x
 unfolding held_of
 held_value none read is = absurd (let z : ◌≡◌ {A = ℕ} 0 1 = cc in omega arith)
 held_value (some y) read is = ap some cc
 
-pub held_nothing : {h : Held} (o : Option Labelled) → h ≡ held_of o → h ≡ Empty → o ≡ none
+pub held_nothing : {h : CodeOption Labelled} (o : Option Labelled) → h ≡ held_of o → h ≡ None → o ≡ none
 unfolding held_of
 held_nothing none read is = refl
 held_nothing (some y) read is = absurd (let z : ◌≡◌ {A = ℕ} 0 1 = cc in omega arith)

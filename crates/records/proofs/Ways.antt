@@ -18,8 +18,8 @@ use Rattle.labels.specs.Bytes.{label_bytes, set_at}
 use Rattle.values.specs.declared.Value.{Value}
 use Rattle.values.specs.declared.Value.TheVariants.{Integer, String, Boolean}
 use Rattle.values.specs.declared.Labelled.{Labelled}
-use Rattle.records.specs.declared.Held.TheVariants.{Empty, Holds}
 use Rattle.records.specs.Record.{kind_at, content_set_at, labelled, kind_of, payload_of, value_from, word_at, middle_bytes, record_bytes, record_in, is_empty, held_of}
+use Rattle.std.specs.Prelude.{Some, None}
 
 -- value_at
 module _ (m : List ℕ) (t p : ℕ) where
@@ -37,11 +37,11 @@ module _ (m : List ℕ) (t p : ℕ) where
 
 -- record_at, is_empty
 module _ (m : List ℕ) (p : ℕ) {k : ℕ} (read : k ≡ byte m (kind_at p)) where
-  pub read_nothing : k ≡ 0 → Empty ≡ held_of (record_in m p)
+  pub read_nothing : k ≡ 0 → None ≡ held_of (record_in m p)
   unfolding held_of record_in
   read_nothing e = rw (sym read, e) refl
 
-  pub read_value : {v : Value} {s : Labels} → (k ≡ 0 → ⊥) → v ≡ value_from k (word_at m p) → s ≡ set_at m (content_set_at p) → Holds (labelled v s) ≡ held_of (record_in m p)
+  pub read_value : {v : Value} {s : Labels} → (k ≡ 0 → ⊥) → v ≡ value_from k (word_at m p) → s ≡ set_at m (content_set_at p) → Some (labelled v s) ≡ held_of (record_in m p)
   unfolding held_of record_in
   read_value ne ev es = rw (sym read, ne_eqb k 0 ne, ev, es) refl
 

@@ -1,5 +1,5 @@
 -- A labelled value in 48 bytes: payload 8, source 2, key 2, kind 1, spare 3, set 32. Source, key and spare have no meaning yet.
-use Rattle.std.specs.Prelude.{ℕ, ◌+◌, ◌%◌, Bool, true, false, List, [], ◌∷◌, ◌++◌, eqb}
+use Rattle.std.specs.Prelude.{ℕ, ◌+◌, ◌%◌, Bool, true, false, List, [], ◌∷◌, ◌++◌, eqb, Option as CodeOption, Some, None}
 use Rattle.std.proofs.Math.Option.{Option, none, some}
 use Rattle.wire.specs.Bytes.{pick, byte}
 use Rattle.wire.specs.Numbers.{number, high_bytes, signed64, word64}
@@ -9,8 +9,6 @@ use Rattle.labels.specs.Bytes.{label_bytes, set_at}
 use Rattle.values.specs.declared.Value.{Value}
 use Rattle.values.specs.declared.Value.TheVariants.{Integer, String, Boolean}
 use Rattle.values.specs.declared.Labelled.{Labelled}
-use Rattle.records.specs.declared.Held.{Held}
-use Rattle.records.specs.declared.Held.TheVariants.{Empty, Holds}
 
 -- ---- Places in the record at p
 
@@ -65,6 +63,6 @@ unfoldable pub is_empty : Option Labelled → Bool
 is_empty none = true
 is_empty (some x) = false
 
-unfoldable pub held_of : Option Labelled → Held
-held_of none = Empty
-held_of (some x) = Holds x
+unfoldable pub held_of : Option Labelled → CodeOption Labelled
+held_of none = None
+held_of (some x) = Some x

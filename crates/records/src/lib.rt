@@ -21,13 +21,6 @@ const KIND: usize = 12;
 
 const SET: usize = 16;
 
-// What a record holds.
-#[derive(Clone, Copy)]
-pub enum Held {
-    Empty,
-    Holds(Labelled),
-}
-
 // ---- Values by kind and payload
 
 #[tactic(auto, unfolding(crate::specs::Record::kind_of))]
@@ -92,17 +85,17 @@ pub fn labels_in(bytes: &[u8], at: usize) -> Labels
 }
 
 // What the record at a place holds.
-pub fn record_at(bytes: &[u8], at: usize) -> Held
+pub fn record_at(bytes: &[u8], at: usize) -> Option<Labelled>
     requires { at + record_size ≤ length bytes.now }
     ensures { result ≡ held_of (record_in bytes.now at) }
 {
     let kind = wire::byte_in(bytes, at + KIND);
     if kind == 0 {
-        return Held::Empty;
+        return None;
     }
     let value = value_at(bytes, kind, at);
     let labels = Labels::read_within(bytes, at + SET);
-    Held::Holds(Labelled { value, labels })
+    Some(Labelled { value, labels })
 }
 
 // Source, key, kind and spare.

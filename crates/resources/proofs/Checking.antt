@@ -20,20 +20,18 @@ use Rattle.rules.proofs.Lists.{Each}
 use Rattle.rules.proofs.ReadBack.{FitsAttribute}
 use Rattle.rules.proofs.Unique.{UniqueEntries, unique}
 use Rattle.cells.specs.Memory.{state_of}
-use Rattle.catalog.specs.declared.Place.{Place}
-use Rattle.catalog.specs.declared.Place.TheVariants.{At, Nothing}
 use Rattle.catalog.specs.Making.{entry, Holding}
 use Rattle.catalog.specs.Finding.{Written}
 use Rattle.catalog.proofs.Order.{onto_last, any_in_order}
 use Rattle.catalog_index.specs.Index.{Indexed}
 use Rattle.attributes.specs.Names.{repeated_in}
 use Rattle.attributes.proofs.Repeats.{repeated_outcome, named_places}
-use Rattle.resources.specs.declared.Filled.{Filled}
-use Rattle.resources.specs.declared.Filled.TheVariants.{Refused}
 use Rattle.resources.specs.Attributes.{attributes_for, Kept}
 use Rattle.resources.specs.Entries.{Within, Entered, full, entered, Means, refused_so, done_so, Checks}
 use Rattle.resources.proofs.Finishing.{kept_all, within_refused}
 use Rattle.rules.specs.Ranges.{Each, none_left, also, FitsEntry}
+use Rattle.std.specs.Prelude.{Option, Some, None, Result, Err}
+use Rattle.values.specs.declared.Refusal.{Refusal}
 
 -- ---- The checks one after the other
 
@@ -96,16 +94,16 @@ not_false false e = sym e
 -- ---- The ways
 
 module _ (m w out : List ℕ) (fill size room p first end : ℕ) (built : Bool) (title : ℕ) (own : Labels) where
-  pub check_unknown : {r : Filled} → not built ≡ true → r ≡ Refused (refusal_at Unknown p) → Checks m w out out fill size room p first end built title own r
+  pub check_unknown : {r : Result ℕ Refusal} → not built ≡ true → r ≡ Err (refusal_at Unknown p) → Checks m w out out fill size room p first end built title own r
   check_unknown {r} is answer = record {
     kept = kept_all out fill;
     within = within_refused fill room answer;
     says = λ k c es n gs labels outer marks b written i u o1 o2 h fits a.
-        subst (λ (v : Filled). Means w out fill room n es (add_resource k p (two m (p + 3)) title labels marks gs c (state_of w es n room)) v) (sym answer)
+        subst (λ (v : Result ℕ Refusal). Means w out fill room n es (add_resource k p (two m (p + 3)) title labels marks gs c (state_of w es n room)) v) (sym answer)
         (refused_so (not_known k p (two m (p + 3)) title labels marks gs c (state_of w es n room) (b ∙ not_true built is)));
   }
 
-  pub check_built : {out' : List ℕ} {r : Filled} → not built ≡ false → Checks m w out out' fill size room p first end true title own r → Checks m w out out' fill size room p first end built title own r
+  pub check_built : {out' : List ℕ} {r : Result ℕ Refusal} → not built ≡ false → Checks m w out out' fill size room p first end true title own r → Checks m w out out' fill size room p first end built title own r
   check_built known checks = rw (not_false built known) checks
 
   module _ (known : not built ≡ false) {kind : ℕ} (read : kind ≡ two m (p + 3)) {has : Bool} (looked : (es : List Entry) → Written out fill es → Indexed w es → has ≡ any (is_entry kind title) es) where
@@ -115,28 +113,28 @@ module _ (m w out : List ℕ) (fill size room p first end : ℕ) (built : Bool) 
     found : (es : List Entry) → Written out fill (onto es []) → Indexed w (onto es []) → UniqueEntries es → has ≡ any (is_entry (two m (p + 3)) title) es
     found es written i u = looked (onto es []) written i ∙ any_in_order kind title es u ∙ ap (λ (t : ℕ). any (is_entry t title) es) read
 
-    pub check_again : {r : Filled} → has ≡ true → r ≡ Refused (refusal_at ResourceAgain p) → Checks m w out out fill size room p first end built title own r
+    pub check_again : {r : Result ℕ Refusal} → has ≡ true → r ≡ Err (refusal_at ResourceAgain p) → Checks m w out out fill size room p first end built title own r
     unfolding state_of
     check_again {r} there answer = record {
       kept = kept_all out fill;
       within = within_refused fill room answer;
       says = λ k c es n gs labels outer marks b written i u o1 o2 h fits a.
-          subst (λ (v : Filled). Means w out fill room n es (add_resource k p (two m (p + 3)) title labels marks gs c (state_of w es n room)) v) (sym answer)
+          subst (λ (v : Result ℕ Refusal). Means w out fill room n es (add_resource k p (two m (p + 3)) title labels marks gs c (state_of w es n room)) v) (sym answer)
           (refused_so (there_already k p (two m (p + 3)) title labels marks gs c (state_of w es n room) (b ∙ is) (sym (found es written i u) ∙ there)));
     }
 
-    module _ (no : has ≡ false) {f : Place} (repeated : f ≡ repeated_in m [] (fields_in m first end)) where
-      pub check_twice : {q : ℕ} {r : Filled} → f ≡ At q → r ≡ Refused (refusal_at AttributeAgain q) → Checks m w out out fill size room p first end built title own r
+    module _ (no : has ≡ false) {f : Option ℕ} (repeated : f ≡ repeated_in m [] (fields_in m first end)) where
+      pub check_twice : {q : ℕ} {r : Result ℕ Refusal} → f ≡ Some q → r ≡ Err (refusal_at AttributeAgain q) → Checks m w out out fill size room p first end built title own r
       unfolding state_of repeated_outcome
       check_twice {q} {r} at answer = record {
         kept = kept_all out fill;
         within = within_refused fill room answer;
         says = λ k c es n gs labels outer marks b written i u o1 o2 h fits a.
-            subst (λ (v : Filled). Means w out fill room n es (add_resource k p (two m (p + 3)) title labels marks gs c (state_of w es n room)) v) (sym answer)
+            subst (λ (v : Result ℕ Refusal). Means w out fill room n es (add_resource k p (two m (p + 3)) title labels marks gs c (state_of w es n room)) v) (sym answer)
             (refused_so (named_twice k p (two m (p + 3)) title labels marks gs c (state_of w es n room) (b ∙ is) (sym (found es written i u) ∙ no) (named_places m repeated a ∙ ap repeated_outcome at)));
       }
 
-      means_entered : {out' : List ℕ} {r : Filled} (n : ℕ) (es : List Entry) (ats : List Attribute) (parts : ℕ → SetParts) → UniqueEntries es → any (is_entry kind title) es ≡ false → Entered out' fill room p (onto es []) (entry kind title own ats) r
+      means_entered : {out' : List ℕ} {r : Result ℕ Refusal} (n : ℕ) (es : List Entry) (ats : List Attribute) (parts : ℕ → SetParts) → UniqueEntries es → any (is_entry kind title) es ≡ false → Entered out' fill room p (onto es []) (entry kind title own ats) r
           → Means w out' fill room n es (add_entry p (entry_with kind title own ats parts) (state_of w es n room)) r
       unfolding add_entry state_of with_entry entry_bytes refuse_if ◌>>=◌
       means_entered n es ats parts u new (full e) = refused_so {why = refusal_at OutputFull p} (rw e)
@@ -144,7 +142,7 @@ module _ (m w out : List ℕ) (fill size room p first end : ℕ) (built : Bool) 
           let left : room - length (entry_bytes (entry_with kind title own ats parts)) ≡ room - (g - fill) = omega arith in
           done_so {f = g} (entry_with kind title own ats parts) (rw (e, left)) (subst (λ (l : List Entry). Written out' g l) (sym (onto_last (entry_with kind title own ats parts) es)) (written_with kind title own ats parts (onto es []) written)) (unique new u)
 
-      pub check_rest : {out' : List ℕ} {r : Filled} → f ≡ Nothing → Kept out out' fill → Within fill room r → ((ats : List Attribute) (es : List Entry) → Holding (drop fill out) size ats → Each FitsAttribute ats → Written out fill es → Entered out' fill room p es (entry kind title own ats) r)
+      pub check_rest : {out' : List ℕ} {r : Result ℕ Refusal} → f ≡ None → Kept out out' fill → Within fill room r → ((ats : List Attribute) (es : List Entry) → Holding (drop fill out) size ats → Each FitsAttribute ats → Written out fill es → Entered out' fill room p es (entry kind title own ats) r)
           → Checks m w out out' fill size room p first end built title own r
       unfolding state_of repeated_outcome
       check_rest {out'} {r} none kept within finished = record {

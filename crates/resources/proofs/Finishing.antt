@@ -15,16 +15,13 @@ use Rattle.rules.specs.State.{Attribute, Entry}
 use Rattle.rules.specs.Catalog.{entry_bytes}
 use Rattle.rules.proofs.Lists.{Each}
 use Rattle.rules.proofs.ReadBack.{FitsAttribute, FitsEntry}
-use Rattle.catalog.specs.declared.Finished.{Finished}
-use Rattle.catalog.specs.declared.Finished.TheVariants.{Fits, TooLong}
 use Rattle.catalog.specs.Making.{stored, entry, Holding, put_entry}
 use Rattle.catalog.specs.Finding.{Written}
 use Rattle.catalog.proofs.Making.{entry_size}
 use Rattle.catalog.proofs.Growing.{holding_lent, front_kept, entry_joined, entry_refused, written_more}
-use Rattle.resources.specs.declared.Filled.{Filled}
-use Rattle.resources.specs.declared.Filled.TheVariants.{Done, Refused}
 use Rattle.resources.specs.Attributes.{Kept}
 use Rattle.resources.specs.Entries.{Within, Entered, full, entered}
+use Rattle.std.specs.Prelude.{Option, Some, None, Result, Ok, Err}
 
 module _ (out : List ℕ) (fill size room p kind title : ℕ) (own : Labels) (within : fill ≤ length out) where
   -- what is before the fill point stays
@@ -32,25 +29,25 @@ module _ (out : List ℕ) (fill size room p kind title : ℕ) (own : Labels) (wi
   finish_kept rest' long = record { front = front_kept out fill within rest'; long = long }
 
   -- the test before: nothing is written
-  pub finish_early : {r : Filled} → room < size → r ≡ Refused (refusal_at OutputFull p) → (ats : List Attribute) (es : List Entry) → Holding (drop fill out) size ats → Each FitsAttribute ats → Written out fill es → Entered out fill room p es (entry kind title own ats) r
+  pub finish_early : {r : Result ℕ Refusal} → room < size → r ≡ Err (refusal_at OutputFull p) → (ats : List Attribute) (es : List Entry) → Holding (drop fill out) size ats → Each FitsAttribute ats → Written out fill es → Entered out fill room p es (entry kind title own ats) r
   finish_early less answer ats es h fits written =
-      subst (λ (v : Filled). Entered out fill room p es (entry kind title own ats) v) (sym answer) (full (lt-ltb room (length (entry_bytes (entry kind title own ats))) (omega (arith, entry_size size kind title own ats h.grown))))
+      subst (λ (v : Result ℕ Refusal). Entered out fill room p es (entry kind title own ats) v) (sym answer) (full (lt-ltb room (length (entry_bytes (entry kind title own ats))) (omega (arith, entry_size size kind title own ats h.grown))))
 
-  module _ (enough : room ≤ length out - fill) {rest' : List ℕ} {f : Finished} (finished : (ats : List Attribute) → Holding (mid_of fill (length out - fill) out) size ats → stored f rest' ≡ put_entry (mid_of fill (length out - fill) out) room (entry kind title own ats)) (long : length (put_mid fill (length out - fill) out rest') ≡ length out) where
+  module _ (enough : room ≤ length out - fill) {rest' : List ℕ} {f : Option ℕ} (finished : (ats : List Attribute) → Holding (mid_of fill (length out - fill) out) size ats → stored f rest' ≡ put_entry (mid_of fill (length out - fill) out) room (entry kind title own ats)) (long : length (put_mid fill (length out - fill) out rest') ≡ length out) where
     pub lent_kept : Kept out (put_mid fill (length out - fill) out rest') fill
     lent_kept = finish_kept rest' long
 
-    pub finish_full : {r : Filled} → f ≡ TooLong → r ≡ Refused (refusal_at OutputFull p) → (ats : List Attribute) (es : List Entry) → Holding (drop fill out) size ats → Each FitsAttribute ats → Written out fill es
+    pub finish_full : {r : Result ℕ Refusal} → f ≡ None → r ≡ Err (refusal_at OutputFull p) → (ats : List Attribute) (es : List Entry) → Holding (drop fill out) size ats → Each FitsAttribute ats → Written out fill es
         → Entered (put_mid fill (length out - fill) out rest') fill room p es (entry kind title own ats) r
     finish_full is answer ats es h fits written =
-        let g : stored TooLong rest' ≡ put_entry (mid_of fill (length out - fill) out) room (entry kind title own ats) = ap (λ (x : Finished). stored x rest') (sym is) ∙ finished ats (holding_lent out fill size ats h) in
-        subst (λ (v : Filled). Entered (put_mid fill (length out - fill) out rest') fill room p es (entry kind title own ats) v) (sym answer) (full (entry_refused out fill within rest' room (entry kind title own ats) enough g).long)
+        let g : stored None rest' ≡ put_entry (mid_of fill (length out - fill) out) room (entry kind title own ats) = ap (λ (x : Option ℕ). stored x rest') (sym is) ∙ finished ats (holding_lent out fill size ats h) in
+        subst (λ (v : Result ℕ Refusal). Entered (put_mid fill (length out - fill) out rest') fill room p es (entry kind title own ats) v) (sym answer) (full (entry_refused out fill within rest' room (entry kind title own ats) enough g).long)
 
-    pub finish_fits : {n : ℕ} → f ≡ Fits n → kind < 65536 → title < 65536 → Words64 own → (ats : List Attribute) (es : List Entry) → Holding (drop fill out) size ats → Each FitsAttribute ats → Written out fill es
-        → Entered (put_mid fill (length out - fill) out rest') fill room p es (entry kind title own ats) (Done (fill + size))
+    pub finish_fits : {n : ℕ} → f ≡ Some n → kind < 65536 → title < 65536 → Words64 own → (ats : List Attribute) (es : List Entry) → Holding (drop fill out) size ats → Each FitsAttribute ats → Written out fill es
+        → Entered (put_mid fill (length out - fill) out rest') fill room p es (entry kind title own ats) (Ok (fill + size))
     finish_fits {n} is small1 small2 words ats es h fits written =
         let e = entry kind title own ats in
-        let g : stored (Fits n) rest' ≡ put_entry (mid_of fill (length out - fill) out) room (entry kind title own ats) = ap (λ (x : Finished). stored x rest') (sym is) ∙ finished ats (holding_lent out fill size ats h) in
+        let g : stored (Some n) rest' ≡ put_entry (mid_of fill (length out - fill) out) room (entry kind title own ats) = ap (λ (x : Option ℕ). stored x rest') (sym is) ∙ finished ats (holding_lent out fill size ats h) in
         let j = entry_joined out fill within rest' room (entry kind title own ats) enough es written.bytes g in
         let wide : length (entry_bytes (entry kind title own ats)) ≡ size = entry_size size kind title own ats h.grown in
         let same : fill + n ≡ fill + size = omega (arith, j.size) in
@@ -63,10 +60,10 @@ kept_all out fill = record { front = refl; long = refl }
 
 -- ---- The fill point
 
-pub within_refused : (fill room : ℕ) {r : Filled} {why : Refusal} → r ≡ Refused why → Within fill room r
+pub within_refused : (fill room : ℕ) {r : Result ℕ Refusal} {why : Refusal} → r ≡ Err why → Within fill room r
 unfolding Within
-within_refused fill room e = subst (λ (v : Filled). Within fill room v) (sym e) tt
+within_refused fill room e = subst (λ (v : Result ℕ Refusal). Within fill room v) (sym e) tt
 
-pub within_done : (fill size room : ℕ) → size ≤ room → Within fill room (Done (fill + size))
+pub within_done : (fill size room : ℕ) → size ≤ room → Within fill room (Ok (fill + size))
 unfolding Within
 within_done fill size room l = (omega arith, omega arith)

@@ -34,9 +34,8 @@ use Rattle.evaluator.specs.Answers.{refused_by}
 use Rattle.evaluator.specs.Known.{Ready, Tells, Sized}
 use Rattle.evaluator.proofs.Expressions.{Small, operand_at}
 use Rattle.attributes.proofs.Evaluating.{Rest, rest_begins, rest_on, rest_stops, rest_ends}
-use Rattle.resources.specs.declared.Filled.{Filled}
-use Rattle.resources.specs.declared.Filled.TheVariants.{Done, Refused}
 use Rattle.resources.specs.Attributes.{under_both, attributes_for, Kept, Appended, Added, not_added, added, Gathered, not_gathered, gathered}
+use Rattle.std.specs.Prelude.{Result, Ok, Err}
 
 -- ---- The way of `append`
 
@@ -72,10 +71,10 @@ module _ (m w out : List ℕ) (fill size : ℕ) (scope : Scope) (d q : ℕ) (out
   told_there : {o' : Outcome Labelled} → o ≡ o' → StandsAs m d ExpressionKind (q + 5) → Tells m w out fill scope o' (λ k c st. evaluate k c st (expression_at m d (q + 5)))
   told_there is s = subst (λ (a : Outcome Labelled). Tells m w out fill scope a (λ k c st. evaluate k c st (expression_at m d (q + 5)))) is (operand_at (λ n. Tells m w out fill scope o (λ k c st. evaluate k c st (expression_at m d n))) short s small told)
 
-  pub attribute_stops : {why : Refusal} → o ≡ refused_by why → Added m w out out fill size scope d q outer own (Refused why)
+  pub attribute_stops : {why : Refusal} → o ≡ refused_by why → Added m w out out fill size scope d q outer own (Err why)
   attribute_stops is = not_added refl (told_there is)
 
-  pub attribute_goes_on : (x : Labelled) {n name : ℕ} {out' : List ℕ} → o ≡ done x → name ≡ two m (q + 3) → Appended out out' fill size n (attribute name (under_both outer own x)) → Added m w out out' fill size scope d q outer own (Done n)
+  pub attribute_goes_on : (x : Labelled) {n name : ℕ} {out' : List ℕ} → o ≡ done x → name ≡ two m (q + 3) → Appended out out' fill size n (attribute name (under_both outer own x)) → Added m w out out' fill size scope d q outer own (Ok n)
   attribute_goes_on x {n} {name} {out'} is named h = added x (subst (λ (k : ℕ). Appended out out' fill size n (attribute k (under_both outer own x))) named h) (told_there is)
 
 -- ---- The ways of `gather`
@@ -109,10 +108,10 @@ gathering_begins m w out fill scope d first end outer own = record { gs = []; ho
 
 module _ {m w out₀ out : List ℕ} {fill : ℕ} {scope : Scope} {d first end : ℕ} {outer own : Labels} {size q : ℕ} (so_far : Gathering m w out₀ out fill scope d first end outer own size q) where
   module _ (b : ℕ) (deep : d ≡ suc b) (more : q < end) where
-    pub gathering_on : {out' : List ℕ} {s : Filled} {n r : ℕ} → Added m w out out' fill size scope b q outer own s → s ≡ Done n → r ≡ end_of m q → Gathering m w out₀ out' fill scope d first end outer own n r
-    gathering_on {out'} {s} {n} {r} a is next = subst (λ (j : ℕ). Gathering m w out₀ out' fill scope d first end outer own n j) (sym next) (go (subst (λ (v : Filled). Added m w out out' fill size scope b q outer own v) is a))
+    pub gathering_on : {out' : List ℕ} {s : Result ℕ Refusal} {n r : ℕ} → Added m w out out' fill size scope b q outer own s → s ≡ Ok n → r ≡ end_of m q → Gathering m w out₀ out' fill scope d first end outer own n r
+    gathering_on {out'} {s} {n} {r} a is next = subst (λ (j : ℕ). Gathering m w out₀ out' fill scope d first end outer own n j) (sym next) (go (subst (λ (v : Result ℕ Refusal). Added m w out out' fill size scope b q outer own v) is a))
       where
-        go : Added m w out out' fill size scope b q outer own (Done n) → Gathering m w out₀ out' fill scope d first end outer own n (end_of m q)
+        go : Added m w out out' fill size scope b q outer own (Ok n) → Gathering m w out₀ out' fill scope d first end outer own n (end_of m q)
         go (added x h told) =
             let g : Given = record { place = q; name = two m (q + 3); content = x } in
             let l : attributes_for outer own (so_far.gs ++ (g ∷ [])) ≡ attributes_for outer own so_far.gs ++ (attribute (two m (q + 3)) (under_both outer own x) ∷ []) = attributes_more outer own so_far.gs g in
@@ -124,24 +123,24 @@ module _ {m w out₀ out : List ℕ} {fill : ℕ} {scope : Scope} {d first end :
               rest = λ s. rest_on (so_far.rest s) b deep more (λ stands. tells_kept so_far.kept.front (told stands)) x refl;
             }
 
-    pub gathering_stops : {out' : List ℕ} {s : Filled} {why : Refusal} → Added m w out out' fill size scope b q outer own s → s ≡ Refused why → Gathered m w out₀ out' fill scope d first end outer own s
-    gathering_stops {out'} {s} {why} a is = subst (λ (v : Filled). Gathered m w out₀ out' fill scope d first end outer own v) (sym is) (go (subst (λ (v : Filled). Added m w out out' fill size scope b q outer own v) is a))
+    pub gathering_stops : {out' : List ℕ} {s : Result ℕ Refusal} {why : Refusal} → Added m w out out' fill size scope b q outer own s → s ≡ Err why → Gathered m w out₀ out' fill scope d first end outer own s
+    gathering_stops {out'} {s} {why} a is = subst (λ (v : Result ℕ Refusal). Gathered m w out₀ out' fill scope d first end outer own v) (sym is) (go (subst (λ (v : Result ℕ Refusal). Added m w out out' fill size scope b q outer own v) is a))
       where
-        go : Added m w out out' fill size scope b q outer own (Refused why) → Gathered m w out₀ out' fill scope d first end outer own (Refused why)
+        go : Added m w out out' fill size scope b q outer own (Err why) → Gathered m w out₀ out' fill scope d first end outer own (Err why)
         go (not_added same told) = not_gathered (record { front = ap (take fill) same ∙ so_far.kept.front; long = ap length same ∙ so_far.kept.long }) (λ s. rest_stops (so_far.rest s) b deep more (λ stands. tells_kept so_far.kept.front (told stands)) refl)
 
-  pub gathering_ends : end ≤ q → Gathered m w out₀ out fill scope d first end outer own (Done size)
+  pub gathering_ends : end ≤ q → Gathered m w out₀ out fill scope d first end outer own (Ok size)
   gathering_ends over = gathered so_far.gs so_far.kept so_far.holding so_far.fits (λ s. rest_ends (so_far.rest s) over)
 
 -- the output is as long, and the entry grew by no more than 48 bytes
-pub added_kept : {m w out out' : List ℕ} {fill size : ℕ} {scope : Scope} {d q : ℕ} {outer own : Labels} {s : Filled} → Added m w out out' fill size scope d q outer own s → length out' ≡ length out
+pub added_kept : {m w out out' : List ℕ} {fill size : ℕ} {scope : Scope} {d q : ℕ} {outer own : Labels} {s : Result ℕ Refusal} → Added m w out out' fill size scope d q outer own s → length out' ≡ length out
 added_kept (not_added same told) = ap length same
 added_kept (added x h told) = h.kept.long
 
-pub added_most : {m w out out' : List ℕ} {fill size : ℕ} {scope : Scope} {d q : ℕ} {outer own : Labels} {s : Filled} {n : ℕ} → Added m w out out' fill size scope d q outer own s → s ≡ Done n → n ≤ size + 48
-added_most {m} {w} {out} {out'} {fill} {size} {scope} {d} {q} {outer} {own} {s} {n} a is = go (subst (λ (v : Filled). Added m w out out' fill size scope d q outer own v) is a)
+pub added_most : {m w out out' : List ℕ} {fill size : ℕ} {scope : Scope} {d q : ℕ} {outer own : Labels} {s : Result ℕ Refusal} {n : ℕ} → Added m w out out' fill size scope d q outer own s → s ≡ Ok n → n ≤ size + 48
+added_most {m} {w} {out} {out'} {fill} {size} {scope} {d} {q} {outer} {own} {s} {n} a is = go (subst (λ (v : Result ℕ Refusal). Added m w out out' fill size scope d q outer own v) is a)
   where
-    go : Added m w out out' fill size scope d q outer own (Done n) → n ≤ size + 48
+    go : Added m w out out' fill size scope d q outer own (Ok n) → n ≤ size + 48
     go (added x h told) = (attribute_grown (drop fill out) size (attribute (two m (q + 3)) (under_both outer own x)) h.rest).most
 
 -- the same lengths, at another place of the manifest and with the output as long

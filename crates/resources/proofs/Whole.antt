@@ -36,12 +36,11 @@ use Rattle.catalog.proofs.Growing.{written_kept}
 use Rattle.evaluator.specs.Answers.{refused_by}
 use Rattle.evaluator.specs.Known.{Ready, Tells}
 use Rattle.evaluator.proofs.Expressions.{Small, operand_at}
-use Rattle.resources.specs.declared.Filled.{Filled}
-use Rattle.resources.specs.declared.Filled.TheVariants.{Done, Refused}
 use Rattle.resources.specs.Attributes.{Kept, Gathered, not_gathered, gathered}
 use Rattle.attributes.specs.Names.{Alike, alike_none, alike}
 use Rattle.resources.specs.Entries.{Means, refused_so, Checks, titled_run, RunsTitled, Runs}
 use Rattle.resources.proofs.Finishing.{kept_all, within_refused}
+use Rattle.std.specs.Prelude.{Result, Ok, Err}
 
 -- what is evaluated stands at the places
 all_alike : (m : List ℕ) (d : ℕ) (k : Known) (c : Context) (st : State) (qs : List ℕ) → All (λ (gs : List Given). Alike m gs qs) (evaluate_all k c st (attributes_at m d qs))
@@ -68,14 +67,14 @@ module _ (m w out : List ℕ) (fill room : ℕ) (here : Here) (inner p : ℕ) (x
       go (String t) e = absurd (unlike t e)
       go (Boolean b) e = refl
 
-  pub titled_wrong : {q : ℕ} {r : Filled} → (tag_of the_type x.value ≡ 1 → ⊥) → Small q (p + 5) → r ≡ Refused (refusal_at WrongKind q) → RunsTitled m w out out fill room here inner p x built r
+  pub titled_wrong : {q : ℕ} {r : Result ℕ Refusal} → (tag_of the_type x.value ≡ 1 → ⊥) → Small q (p + 5) → r ≡ Err (refusal_at WrongKind q) → RunsTitled m w out out fill room here inner p x built r
   titled_wrong {q} {r} unlike small answer = record {
     kept = kept_all out fill;
     within = within_refused fill room answer;
-    says = λ s l e b k es n h. subst (λ (v : Filled). Means w out fill room n es (run_here k es n) v) (sym answer) (refused_so {why = refusal_at WrongKind q} (wrong_run k es n (λ t v. unlike (ap (tag_of the_type) v)) ∙ ap (refused WrongKind) (sym (small.1 l))));
+    says = λ s l e b k es n h. subst (λ (v : Result ℕ Refusal). Means w out fill room n es (run_here k es n) v) (sym answer) (refused_so {why = refusal_at WrongKind q} (wrong_run k es n (λ t v. unlike (ap (tag_of the_type) v)) ∙ ap (refused WrongKind) (sym (small.1 l))));
   }
 
-  module _ {title first e end : ℕ} {outer own : Labels} (is : x.value ≡ String title) (o1 : outer ≡ here.path ∪ trail_of w) (o2 : own ≡ outer ∪ x.labels) (first_is : first ≡ end_of m (p + 5)) (end_is : e ≡ end_of m p) (near : Small end e) {out1 : List ℕ} {g : Filled}
+  module _ {title first e end : ℕ} {outer own : Labels} (is : x.value ≡ String title) (o1 : outer ≡ here.path ∪ trail_of w) (o2 : own ≡ outer ∪ x.labels) (first_is : first ≡ end_of m (p + 5)) (end_is : e ≡ end_of m p) (near : Small end e) {out1 : List ℕ} {g : Result ℕ Refusal}
       (gather : (d : ℕ) → d ≡ suc inner → Gathered m w out out1 fill here.scope d first end outer own g) where
     gathered_here : end_of m p ≤ 65535 → Gathered m w out out1 fill here.scope (suc inner) (end_of m (p + 5)) (end_of m p) outer own g
     gathered_here l =
@@ -85,14 +84,14 @@ module _ (m w out : List ℕ) (fill room : ℕ) (here : Here) (inner p : ℕ) (x
     pub gathered_kept : Kept out out1 fill
     gathered_kept = go (gather (suc inner) refl)
       where
-        go : {r : Filled} → Gathered m w out out1 fill here.scope (suc inner) first end outer own r → Kept out out1 fill
+        go : {r : Result ℕ Refusal} → Gathered m w out out1 fill here.scope (suc inner) first end outer own r → Kept out out1 fill
         go (not_gathered k t) = k
         go (gathered gs k h f t) = k
 
-    pub gathered_least : {size : ℕ} → g ≡ Done size → entry_attributes ≤ size
-    gathered_least {size} went = go (subst (λ (v : Filled). Gathered m w out out1 fill here.scope (suc inner) first end outer own v) went (gather (suc inner) refl))
+    pub gathered_least : {size : ℕ} → g ≡ Ok size → entry_attributes ≤ size
+    gathered_least {size} went = go (subst (λ (v : Result ℕ Refusal). Gathered m w out out1 fill here.scope (suc inner) first end outer own v) went (gather (suc inner) refl))
       where
-        go : Gathered m w out out1 fill here.scope (suc inner) first end outer own (Done size) → entry_attributes ≤ size
+        go : Gathered m w out out1 fill here.scope (suc inner) first end outer own (Ok size) → entry_attributes ≤ size
         go (gathered gs k h f t) = omega (arith, h.grown)
 
     string_run : (k : Known) (es : List Entry) (n : ℕ) {o : Outcome (List Given)} → o ≡ evaluate_all k (context_of here) (state_of w es n room) (attributes_at m (suc inner) (fields_in m (end_of m (p + 5)) (end_of m p)))
@@ -102,27 +101,27 @@ module _ (m w out : List ℕ) (fill room : ℕ) (here : Here) (inner p : ℕ) (x
         ap (λ (u : Outcome (List Given)). u >>= λ gs. add_resource k p (two m (p + 3)) title x.labels (marks_here k es n) gs (context_of here) (state_of w es n room)) told
         ∙ ap (λ (v : Value). at (p + 5) (string_in v) >>= λ t. evaluate_all k (context_of here) (state_of w es n room) (attributes_at m (suc inner) (fields_in m (end_of m (p + 5)) (end_of m p))) >>= λ gs. add_resource k p (two m (p + 3)) t x.labels (marks_here k es n) gs (context_of here) (state_of w es n room)) (sym is)
 
-    pub titled_stops : {why : Refusal} → g ≡ Refused why → RunsTitled m w out out1 fill room here inner p x built g
+    pub titled_stops : {why : Refusal} → g ≡ Err why → RunsTitled m w out out1 fill room here inner p x built g
     unfolding ◌>>=◌
     titled_stops {why} stop = record {
       kept = gathered_kept;
       within = within_refused fill room stop;
-      says = λ s l e b k es n h. subst (λ (v : Filled). Means w out1 fill room n es (run_here k es n) v) (sym stop) (refused_so {why = why} (sym (string_run k es n (told (subst (λ (v : Filled). Gathered m w out out1 fill here.scope (suc inner) (end_of m (p + 5)) (end_of m p) outer own v) stop (gathered_here e)) s k es n h))));
+      says = λ s l e b k es n h. subst (λ (v : Result ℕ Refusal). Means w out1 fill room n es (run_here k es n) v) (sym stop) (refused_so {why = why} (sym (string_run k es n (told (subst (λ (v : Result ℕ Refusal). Gathered m w out out1 fill here.scope (suc inner) (end_of m (p + 5)) (end_of m p) outer own v) stop (gathered_here e)) s k es n h))));
     }
       where
-        told : Gathered m w out out1 fill here.scope (suc inner) (end_of m (p + 5)) (end_of m p) outer own (Refused why) → Siblings m (suc inner) AttributeKind (end_of m (p + 5)) (end_of m p) → (k : Known) (es : List Entry) (n : ℕ) → Ready m w out fill k es
+        told : Gathered m w out out1 fill here.scope (suc inner) (end_of m (p + 5)) (end_of m p) outer own (Err why) → Siblings m (suc inner) AttributeKind (end_of m (p + 5)) (end_of m p) → (k : Known) (es : List Entry) (n : ℕ) → Ready m w out fill k es
             → refused_by why ≡ evaluate_all k (context_of here) (state_of w es n room) (attributes_at m (suc inner) (fields_in m (end_of m (p + 5)) (end_of m p)))
         told (not_gathered kept t) s k es n h = (t s).says k here.path es n room h
 
-    pub titled_goes_on : {size : ℕ} {out2 : List ℕ} {r : Filled} → g ≡ Done size → Checks m w out1 out2 fill size room p first end built title own r → RunsTitled m w out out2 fill room here inner p x built r
+    pub titled_goes_on : {size : ℕ} {out2 : List ℕ} {r : Result ℕ Refusal} → g ≡ Ok size → Checks m w out1 out2 fill size room p first end built title own r → RunsTitled m w out out2 fill room here inner p x built r
     unfolding ◌>>=◌
     titled_goes_on {size} {out2} {r} went checks = record {
       kept = record { front = checks.kept.front ∙ gathered_kept.front; long = checks.kept.long ∙ gathered_kept.long };
       within = checks.within;
-      says = λ s l e b k es n h. go (subst (λ (v : Filled). Gathered m w out out1 fill here.scope (suc inner) (end_of m (p + 5)) (end_of m p) outer own v) went (gathered_here e)) e s b k es n h;
+      says = λ s l e b k es n h. go (subst (λ (v : Result ℕ Refusal). Gathered m w out out1 fill here.scope (suc inner) (end_of m (p + 5)) (end_of m p) outer own v) went (gathered_here e)) e s b k es n h;
     }
       where
-        go : Gathered m w out out1 fill here.scope (suc inner) (end_of m (p + 5)) (end_of m p) outer own (Done size) → end_of m p ≤ 65535 → Siblings m (suc inner) AttributeKind (end_of m (p + 5)) (end_of m p) → built ≡ built_in_of w (two m (p + 3))
+        go : Gathered m w out out1 fill here.scope (suc inner) (end_of m (p + 5)) (end_of m p) outer own (Ok size) → end_of m p ≤ 65535 → Siblings m (suc inner) AttributeKind (end_of m (p + 5)) (end_of m p) → built ≡ built_in_of w (two m (p + 3))
             → (k : Known) (es : List Entry) (n : ℕ) → Ready m w out fill k es → Means w out2 fill room n es (run_here k es n) r
         go (gathered gs kept holding fits t) l s b k es n h =
             let same : end ≡ end_of m p = near.1 (omega arith) ∙ end_is in
@@ -136,7 +135,7 @@ module _ (m w out : List ℕ) (fill room : ℕ) (here : Here) (inner p : ℕ) (x
 
 module _ (m w out : List ℕ) (fill room : ℕ) (here : Here) (d p : ℕ) (built : Bool) where
   -- a resource and its title have a level each
-  pub resource_flat : {r : Filled} → d < 2 → r ≡ Refused (refusal_at Malformed p) → Runs m w out out fill room here d p built r
+  pub resource_flat : {r : Result ℕ Refusal} → d < 2 → r ≡ Err (refusal_at Malformed p) → Runs m w out out fill room here d p built r
   resource_flat flat answer = record {
     kept = kept_all out fill;
     within = within_refused fill room answer;
@@ -155,7 +154,7 @@ module _ (m w out : List ℕ) (fill room : ℕ) (here : Here) (d p : ℕ) (built
         ((operand_at (λ l. Tells m w out fill here.scope u (λ k c st. evaluate k c st (expression_at m b l))) short o.title small told).says k here.path es n room h) (sym (expression_place m b (p + 5)))
         ∙ ap (λ (z : _). run k declare z (context_of here) (state_of w es n room)) (sym o.tree)
 
-    pub resource_stops : {why : Refusal} → u ≡ refused_by why → Runs m w out out fill room here d p built (Refused why)
+    pub resource_stops : {why : Refusal} → u ≡ refused_by why → Runs m w out out fill room here d p built (Err why)
     unfolding ◌>>=◌
     resource_stops {why} is = record {
       kept = kept_all out fill;
@@ -163,7 +162,7 @@ module _ (m w out : List ℕ) (fill room : ℕ) (here : Here) (d p : ℕ) (built
       says = λ s by b k declare es n h. refused_so {why = why} (sym (rw is at (resource_run s by k declare es n h)));
     }
 
-    pub resource_goes_on : (x : Labelled) {out' : List ℕ} {r : Filled} {inner : ℕ} → u ≡ done x → b ≡ suc inner → RunsTitled m w out out' fill room here inner p x built r → Runs m w out out' fill room here d p built r
+    pub resource_goes_on : (x : Labelled) {out' : List ℕ} {r : Result ℕ Refusal} {inner : ℕ} → u ≡ done x → b ≡ suc inner → RunsTitled m w out out' fill room here inner p x built r → Runs m w out out' fill room here d p built r
     unfolding ◌>>=◌
     resource_goes_on x {out'} {r} {inner} is above titled = record {
       kept = titled.kept;

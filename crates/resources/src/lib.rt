@@ -12,17 +12,9 @@ ghost use Rattle.resources.specs.Attributes.{under_both, Kept, Appended, Added, 
 ghost use Rattle.resources.specs.Entries.{Within, Entered, Checks, RunsTitled, Runs};
 
 use attributes::Span;
-use evaluator::{Valued, value_of};
 use labels::Labels;
 use memory::{Context, Scope};
 use values::{Labelled, Reason, Refusal, Value, place};
-
-// The new fill point, or the size of the entry so far; or why not.
-#[derive(Clone, Copy)]
-pub enum Filled {
-    Done(usize),
-    Refused(Refusal),
-}
 
 // ---- Attributes
 
@@ -55,21 +47,15 @@ fn add_attribute(
     scope: Scope,
     outer: Labels,
     own: Labels,
-) -> Filled
+) -> Result<usize, Refusal>
     requires { (Sized m.now work.now out.old fill q) × (size ≤ 4294967296) }
     ensures { Added m.now work.now out.old out.new fill size scope inner q outer own result }
 {
     let mut set = [0u64; 4];
-    let e = evaluator::evaluate(m, inner, place(q + 5), work, out, fill, scope, &mut set);
-    match value_of(e) {
-        Valued::Refused(refusal) => Filled::Refused(refusal),
-        Valued::Value(value) => {
-            let labels = Labels::in_words(&set);
-            let name = wire::two_at(m, q + 3);
-            let x = Labelled { value, labels };
-            Filled::Done(append(out, fill, size, name, x, outer, own))
-        }
-    }
+    let value = evaluator::evaluate(m, inner, place(q + 5), work, out, fill, scope, &mut set)?;
+    let labels = Labels::in_words(&set);
+    let x = Labelled { value, labels };
+    Ok(append(out, fill, size, wire::two_at(m, q + 3), x, outer, own))
 }
 
 // The attributes of a span; an attribute has one level more than its expression.
@@ -83,7 +69,7 @@ fn gather(
     scope: Scope,
     outer: Labels,
     own: Labels,
-) -> Filled
+) -> Result<usize, Refusal>
     requires { Sized m.now work.now out.old fill span.end }
     ensures { (d : ℕ) → d ≡ suc inner → Gathered m.now work.now out.old out.new fill scope d span.first span.end outer own result }
 {
@@ -91,14 +77,10 @@ fn gather(
     let mut size: usize = catalog::layout::ENTRY_ATTRIBUTES;
     let mut q = span.first;
     while q < end {
-        let step = add_attribute(m, inner, q, work, out, fill, size, scope, outer, own);
-        let Filled::Done(more) = step else {
-            return step;
-        };
-        size = more;
+        size = add_attribute(m, inner, q, work, out, fill, size, scope, outer, own)?;
         q = wire::end_of(m, q);
     }
-    Filled::Done(size)
+    Ok(size)
 }
 
 // ---- The entry
@@ -113,18 +95,16 @@ fn finish(
     kind: u16,
     title: u16,
     own: Labels,
-) -> Filled
+) -> Result<usize, Refusal>
     requires { (fill ≤ length out.old) × ((fill ≤ 65535) × ((entry_attributes ≤ size) × ((room ≤ 65535) × ((room ≤ length out.old - fill) × (p ≤ 65535))))) }
     ensures { Kept out.old out.new fill × (Within fill room result × ((ats : List Attribute) (es : List Entry) → Holding (drop fill out.old) size ats → Each FitsAttribute ats → Written out.old fill es → Entered out.new fill room p es (entry kind title own ats) result)) }
 {
     if room < size {
-        return Filled::Refused(Refusal::at(Reason::OutputFull, p));
+        return Err(Refusal::at(Reason::OutputFull, p));
     }
-    let f = catalog::finish_entry(&mut out[fill..], size, room, kind, title, own);
-    match f {
-        catalog::Finished::TooLong => Filled::Refused(Refusal::at(Reason::OutputFull, p)),
-        catalog::Finished::Fits(_) => Filled::Done(fill + size),
-    }
+    let finished = catalog::finish_entry(&mut out[fill..], size, room, kind, title, own);
+    finished.ok_or(Refusal::at(Reason::OutputFull, p))?;
+    Ok(fill + size)
 }
 
 // The checks of the resource at p, whose type is built in and whose attributes are those of the span, by rising number, and its entry.
@@ -139,19 +119,18 @@ fn check(
     room: usize,
     title: u16,
     own: Labels,
-) -> Filled
+) -> Result<usize, Refusal>
     requires { (65536 ≤ length work.now) × ((fill ≤ length out.old) × ((fill ≤ 65535) × ((entry_attributes ≤ size) × ((room ≤ 65535) × ((room ≤ length out.old - fill) × ((p ≤ 65535) × (span.end ≤ 65535))))))) }
     ensures { Checks m.now work.now out.old out.new fill size room p span.first span.end true title own result }
 {
     let kind = wire::two_at(m, p + 3);
     if catalog_index::has_entry(work, out, fill, kind, title) {
-        return Filled::Refused(Refusal::at(Reason::ResourceAgain, p));
+        return Err(Refusal::at(Reason::ResourceAgain, p));
     }
-    let again = attributes::find_repeated(m, span.first, span.end);
-    match again {
-        catalog::Place::At(q) => Filled::Refused(Refusal::at(Reason::AttributeAgain, q)),
-        catalog::Place::Nothing => finish(out, fill, size, room, p, kind, title, own),
+    if let Some(q) = attributes::find_repeated(m, span.first, span.end) {
+        return Err(Refusal::at(Reason::AttributeAgain, q));
     }
+    finish(out, fill, size, room, p, kind, title, own)
 }
 
 // ---- The whole
@@ -168,29 +147,22 @@ fn add_titled(
     room: usize,
     here: Context,
     built_in: bool,
-) -> Filled
+) -> Result<usize, Refusal>
     requires { (Sized m.now work.now out.old fill p) × ((room ≤ 65535) × (room ≤ length out.old - fill)) }
     ensures { RunsTitled m.now work.now out.old out.new fill room here inner p x built_in result }
 {
-    let value = x.value;
-    let Value::String(title) = value else {
-        return Filled::Refused(Refusal::at(Reason::WrongKind, place(p + 5)));
+    let Value::String(title) = x.value else {
+        return Err(Refusal::at(Reason::WrongKind, place(p + 5)));
     };
-    let path = here.path;
-    let outer = memory::path_and_trail(work, path);
-    let set = x.labels;
-    let own = outer.union(set);
-    let scope = here.scope;
+    let outer = memory::path_and_trail(work, here.path);
+    let own = outer.union(x.labels);
     let span = Span {
         first: wire::end_of(m, p + 5),
         end: place(wire::end_of(m, p)),
     };
-    let g = gather(m, inner, span, work, out, fill, scope, outer, own);
-    let Filled::Done(size) = g else {
-        return g;
-    };
+    let size = gather(m, inner, span, work, out, fill, here.scope, outer, own)?;
     if !built_in {
-        return Filled::Refused(Refusal::at(Reason::Unknown, p));
+        return Err(Refusal::at(Reason::Unknown, p));
     }
     check(m, p, span, work, out, fill, size, room, title, own)
 }
@@ -206,22 +178,17 @@ pub fn add_resource(
     room: usize,
     here: Context,
     built_in: bool,
-) -> Filled
+) -> Result<usize, Refusal>
     requires { (Sized m.now work.now out.old fill p) × ((room ≤ 65535) × (room ≤ length out.old - fill)) }
     ensures { Runs m.now work.now out.old out.new fill room here depth p built_in result }
 {
     if depth < 2 {
-        return Filled::Refused(Refusal::at(Reason::Malformed, p));
+        return Err(Refusal::at(Reason::Malformed, p));
     }
-    let scope = here.scope;
     let mut set = [0u64; 4];
-    let t = evaluator::evaluate(m, depth - 1, place(p + 5), work, out, fill, scope, &mut set);
-    match value_of(t) {
-        Valued::Refused(refusal) => Filled::Refused(refusal),
-        Valued::Value(value) => {
-            let labels = Labels::in_words(&set);
-            let x = Labelled { value, labels };
-            add_titled(m, depth - 2, p, x, work, out, fill, room, here, built_in)
-        }
-    }
+    let at = place(p + 5);
+    let value = evaluator::evaluate(m, depth - 1, at, work, out, fill, here.scope, &mut set)?;
+    let labels = Labels::in_words(&set);
+    let x = Labelled { value, labels };
+    add_titled(m, depth - 2, p, x, work, out, fill, room, here, built_in)
 }

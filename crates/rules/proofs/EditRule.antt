@@ -8,8 +8,6 @@ use lib.ListN.{length, take, replicate}
 use lib.Seq.{take-append_seam}
 use Rattle.labels.specs.declared.Labels.{Labels}
 use Rattle.values.specs.declared.Reason.{Reason}
-use Rattle.values.specs.declared.Answer.{Answer}
-use Rattle.values.specs.declared.Answer.TheVariants.{Catalog, Refused}
 use Rattle.rules.specs.Outcome.{Outcome, refused, done, ◌>>=◌}
 use Rattle.rules.specs.Tree.{Constant, Definition, Item}
 use Rattle.rules.specs.Read.{manifest_of}
@@ -29,6 +27,8 @@ use Rattle.rules.proofs.Lockstep.{low, Related, related_low, related_high}
 use Rattle.rules.proofs.Declarations.{same_known, items_related, items_for_same, start_related}
 use Rattle.rules.proofs.OneTree.{one_tree_lem, one_table}
 use Rattle.rules.proofs.Laws.{catalog_reads_back, type_and_title_once, names_once_lem}
+use Rattle.std.specs.Prelude.{Ok, Err}
+use Rattle.values.specs.Answers.{Answer, catalog_with, refused_for}
 
 module _ (D : Edit) where
   -- ---- Two whole runs end in related states
@@ -201,18 +201,18 @@ edit_rule types m m' device b b' t limit limit' output output' memory memory' c 
 
 -- a refusal names no catalog, and an answer that does has its length
 is_catalog : Answer → Type 0
-is_catalog (Catalog n s) = Unit {0}
-is_catalog (Refused r p) = ⊥
+is_catalog (Ok c) = Unit {0}
+is_catalog (Err f) = ⊥
 
-catalog_only : {r : Reason} {p n s : ℕ} → Refused r p ≡ Catalog n s → ⊥
+catalog_only : {r : Reason} {p n s : ℕ} → refused_for r p ≡ catalog_with n s → ⊥
 unfolding is_catalog
 catalog_only h = subst (λ (a : Answer). is_catalog a) (sym h) tt
 
 length_said : Answer → ℕ
-length_said (Catalog n s) = n
-length_said (Refused r p) = 0
+length_said (Ok c) = c.length
+length_said (Err f) = 0
 
-length_said_lem : {n k s j : ℕ} → Catalog n s ≡ Catalog k j → n ≡ k
+length_said_lem : {n k s j : ℕ} → catalog_with n s ≡ catalog_with k j → n ≡ k
 unfolding length_said
 length_said_lem h = ap length_said h
 
@@ -222,11 +222,11 @@ record Written (types : Types) (m device : List ℕ) (limit output memory n : �
   accepts : compiled types m device limit output memory ≡ done result
   begins : take n (compile types m device limit output memory).output_after ≡ result.catalog
 
-written : (types : Types) (m device : List ℕ) (limit output memory n s : ℕ) → (compile types m device limit output memory).answer ≡ Catalog n s → Written types m device limit output memory n
+written : (types : Types) (m device : List ℕ) (limit output memory n s : ℕ) → (compile types m device limit output memory).answer ≡ catalog_with n s → Written types m device limit output memory n
 unfolding compile answer_of output_of
 written types m device limit output memory n s h = go (compiled types m device limit output memory) refl h
   where
-    go : (o : Outcome Compiled) → compiled types m device limit output memory ≡ o → answer_of o ≡ Catalog n s → Written types m device limit output memory n
+    go : (o : Outcome Compiled) → compiled types m device limit output memory ≡ o → answer_of o ≡ catalog_with n s → Written types m device limit output memory n
     go (refused r p) e h = absurd (catalog_only h)
     go (done c) e h = record {
       result = c;
@@ -236,7 +236,7 @@ written types m device limit output memory n s h = go (compiled types m device l
 
 -- what two calls answered and left, in full: if each is what the definition says and both name a catalog, the claim holds of what the outputs begin with
 pub edit_rule_calls : (types : Types) (m m' device : List ℕ) → IsBytes m → IsBytes m' → one_tree m m' ≡ true → (limit limit' output output' memory memory' n n' s s' : ℕ) (e e' : Effect)
-    → e ≡ compile types m device limit output memory → e' ≡ compile types m' device limit' output' memory' → e.answer ≡ Catalog n s → e'.answer ≡ Catalog n' s'
+    → e ≡ compile types m device limit output memory → e' ≡ compile types m' device limit' output' memory' → e.answer ≡ catalog_with n s → e'.answer ≡ catalog_with n' s'
     → Claim m m' (read_catalog (take n e.output_after)) (read_catalog (take n' e'.output_after))
 edit_rule_calls types m m' device b b' t limit limit' output output' memory memory' n n' s s' e e' q q' h h' =
     let w = written types m device limit output memory n s (rw q at h) in

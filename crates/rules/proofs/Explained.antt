@@ -13,8 +13,6 @@ use Rattle.values.specs.declared.Value.TheVariants.{Boolean}
 use Rattle.values.specs.declared.Reason.{Reason}
 use Rattle.values.specs.declared.Reason.TheVariants.{Malformed, NoSuchAttribute}
 use Rattle.values.specs.declared.SetPart.{SetPart}
-use Rattle.values.specs.declared.Explanation.{Explanation}
-use Rattle.values.specs.declared.Explanation.TheVariants.{Among, NotAmong, Refused}
 use Rattle.values.specs.Numbers.{number_of}
 use Rattle.rules.specs.Outcome.{Outcome, refused, done, ◌>>=◌, refuse_if, at, joining}
 use Rattle.rules.specs.Arithmetic.{boolean_in}
@@ -32,6 +30,8 @@ use Rattle.rules.proofs.Refusals.{IfRefused, accepts, refusal_bind, refusal_miss
 use Rattle.rules.proofs.Strikes.{struck_same, Lowest}
 use Rattle.rules.proofs.SetParts.{First, Asked, Explained, explained_says, explained_answer}
 use Rattle.rules.proofs.LabelsMet.{place_met}
+use Rattle.std.specs.Prelude.{Ok, Err, Some, None}
+use Rattle.values.specs.Answers.{Explanation, among_none, among_part, refused_for}
 
 -- ---- "a constant with that label that the compile evaluated or tried as a pattern"
 
@@ -133,9 +133,9 @@ module _ (types : Types) (m device type title attribute : List ℕ) (label memor
     pub lowest : IsBytes m → label < 256 → Lowest types m device label place
 
   abbrev pub Tells : Explanation → Type 0
-  Tells (Among part place) = TellsAmong part place
-  Tells NotAmong = TellsNot
-  Tells (Refused r p) = TellsRefused r p
+  Tells (Ok (Some a)) = TellsAmong a.part a.place
+  Tells (Ok None) = TellsNot
+  Tells (Err f) = TellsRefused f.reason f.place
 
   explained_refused : IfRefused TellsRefused (explained types m device type title attribute label memory)
   unfolding explained
@@ -151,9 +151,9 @@ module _ (types : Types) (m device type title attribute : List ℕ) (label memor
       place_met types m device label bytes small memory asked.ended s.type s.title s.name s.entry_there s.attribute_there holds
 
   explanation_tells : (x : Explanation) → Explained types m device type title attribute label memory x → Tells x
-  explanation_tells (Among part place) e = record { asked = e.asked; holds = e.says.holds; first = e.says.first; lowest = λ bytes small. rw e.says.place_lowest (asked_lowest e.asked e.says.holds bytes small) }
-  explanation_tells NotAmong e = record { asked = e.asked; lacks = e.says }
-  explanation_tells (Refused r p) e = absurd e.says
+  explanation_tells (Ok (Some a)) e = record { asked = e.asked; holds = e.says.holds; first = e.says.first; lowest = λ bytes small. rw e.says.place_lowest (asked_lowest e.asked e.says.holds bytes small) }
+  explanation_tells (Ok None) e = record { asked = e.asked; lacks = e.says }
+  explanation_tells (Err f) e = absurd e.says
 
   -- THE FIRST LAW: what is told is so.
   pub told_so : {x : Explanation} → told ≡ x → Tells x
@@ -172,16 +172,16 @@ module _ (types : Types) (m device type title attribute : List ℕ) (label memor
     answered = ap explanation_of (explained_answer types m device type title attribute label memory ended there)
 
     -- THE SECOND LAW: where the set has the label, its first part and the lowest place are told.
-    pub among : has f.attribute.content.labels label ≡ true → told ≡ Among (first_part f.parts label) (lowest_place types m device label)
+    pub among : has f.attribute.content.labels label ≡ true → told ≡ among_part (first_part f.parts label) (lowest_place types m device label)
     unfolding answer_for
     among holds = answered ∙ when_true _ _ _ holds
 
     -- THE THIRD LAW: ""Not among them" comes back precisely when the set lacks the label." It does then, and at no other time.
-    pub not_among : has f.attribute.content.labels label ≡ false → told ≡ NotAmong
+    pub not_among : has f.attribute.content.labels label ≡ false → told ≡ among_none
     unfolding answer_for
     not_among lacks = answered ∙ when_false _ _ _ lacks
 
-    pub not_among_only : told ≡ NotAmong → has f.attribute.content.labels label ≡ false
+    pub not_among_only : told ≡ among_none → has f.attribute.content.labels label ≡ false
     not_among_only e = go (has f.attribute.content.labels label) refl
       where
         go : (b : Bool) → has f.attribute.content.labels label ≡ b → b ≡ false
@@ -189,11 +189,11 @@ module _ (types : Types) (m device type title attribute : List ℕ) (label memor
         go false lacks = refl
 
   -- THE FOURTH LAW: "27, the catalog has no such attribute". It is told where the compile is accepted and that is so, and at no other time.
-  pub no_attribute : {st : State} → ending ≡ done st → NoSuch st → told ≡ Refused NoSuchAttribute 0
+  pub no_attribute : {st : State} → ending ≡ done st → NoSuch st → told ≡ refused_for NoSuchAttribute 0
   unfolding why explained explanation_of ◌>>=◌
   no_attribute {st} ended none = rw ended (go (attribute_in st) refl)
     where
-      go : (o : Outcome Found) → attribute_in st ≡ o → explanation_of (o >>= λ f. done (answer_for label (lowest_place types m device label) f)) ≡ Refused NoSuchAttribute 0
+      go : (o : Outcome Found) → attribute_in st ≡ o → explanation_of (o >>= λ f. done (answer_for label (lowest_place types m device label) f)) ≡ refused_for NoSuchAttribute 0
       go (refused r p) e = let is : Is27 r p = refusal_get (found_refusal (manifest_of m).strings st.entries type title attribute) e in rw (is.reason, is.place) refl
       go (done f) e = absurd (none.missing f e)
 
@@ -202,7 +202,7 @@ module _ (types : Types) (m device type title attribute : List ℕ) (label memor
     pub ended : ending ≡ done st
     pub none : NoSuch st
 
-  pub no_attribute_only : {p : ℕ} → told ≡ Refused NoSuchAttribute p → NoAttribute
+  pub no_attribute_only : {p : ℕ} → told ≡ refused_for NoSuchAttribute p → NoAttribute
   unfolding number_of
   no_attribute_only {p} e = go (told_so e)
     where
@@ -212,11 +212,11 @@ module _ (types : Types) (m device type title attribute : List ℕ) (label memor
       go (no_such ended none is at_zero) = record { st = _; ended = ended; none = none }
 
   -- THE FIFTH LAW: 27 "follows all of the compile's own refusals". These are told as they are, with number and place, and no other refusal is.
-  pub compile_refused : {r : Reason} {p : ℕ} → ending ≡ refused r p → told ≡ Refused r p
+  pub compile_refused : {r : Reason} {p : ℕ} → ending ≡ refused r p → told ≡ refused_for r p
   unfolding why explained explanation_of ◌>>=◌
   compile_refused e = rw e refl
 
-  pub compile_refused_only : {r : Reason} {p : ℕ} → told ≡ Refused r p → (r ≡ NoSuchAttribute → ⊥) → ending ≡ refused r p
+  pub compile_refused_only : {r : Reason} {p : ℕ} → told ≡ refused_for r p → (r ≡ NoSuchAttribute → ⊥) → ending ≡ refused r p
   compile_refused_only {r} {p} e other = go (told_so e)
     where
       go : TellsRefused r p → ending ≡ refused r p

@@ -19,7 +19,6 @@ use Rattle.rules.specs.Check.{walk, inside, shape, check}
 use Rattle.rules.specs.declared.Kind.TheVariants.{Table, Item as AnItem}
 use Rattle.rules.specs.declared.Part.TheVariants.{Over, One, Many}
 use Rattle.rules.specs.declared.Parts.{Parts}
-use Rattle.rules.specs.declared.Verdict.TheVariants.{Sound}
 use Rattle.rules.specs.declared.Rest.{Rest}
 use Rattle.rules.specs.declared.Rest.TheVariants.{Only, Text, Fields as Inner}
 use Rattle.rules.specs.Arithmetic.{fits64}
@@ -32,6 +31,7 @@ use Rattle.rules.specs.EditRule.{IsBytes}
 use Rattle.rules.proofs.Lists.{Perhaps, not_there, there, Each, none_left, also}
 use Rattle.rules.proofs.Within.{each_within, inside_sound, check_sound, shape_sound}
 use Rattle.rules.proofs.ReadBack.{FitsValue, fits_integer, fits_string, fits_boolean}
+use Rattle.rules.specs.Verdicts.{no_fault}
 
 pub record ConstantInRange (v : Constant) : Type 0 where
   pub label : v.label < 256
@@ -217,12 +217,12 @@ value_fits t h b = go (eqb t 0x10) (eqb t 0x11)
 -- a constant that is read from a manifest
 pub record ConstantRead (m : List ℕ) (v : Constant) : Type 0 where
   pub fits : FitsConstant (IsBytes m) v
-  pub place : check m ≡ Sound → v.place < length m
+  pub place : check m ≡ no_fault → v.place < length m
 
 module _ (m : List ℕ) where
   -- a place in the manifest, if the check finds no fault there
   abbrev Placed : ℕ → Type 0
-  Placed p = check m ≡ Sound → p < length m
+  Placed p = check m ≡ no_fault → p < length m
 
   mutual
     data FitsField : Field → Type 0 where
@@ -235,13 +235,13 @@ module _ (m : List ℕ) where
   -- the field at p, with d levels left for it, is without fault and ends in the manifest
   record Stands (d p : ℕ) : Type 0 where
     ends : end_of m p ≤ length m
-    sound : inside m d p ≡ Sound
+    sound : inside m d p ≡ no_fault
 
-  stands_placed : {d p : ℕ} → (check m ≡ Sound → Stands d p) → Placed p
+  stands_placed : {d p : ℕ} → (check m ≡ no_fault → Stands d p) → Placed p
   stands_placed s ok = omega (arith, (s ok).ends)
 
   -- so does each field of a walk without fault
-  walk_stands : (d p : ℕ) (ps : Parts) (from e : ℕ) → e ≤ length m → walk m (inside m d) p ps e (fields_in m from e) ≡ Sound → (q : ℕ) → Memᴰ q (fields_in m from e) → Stands d q
+  walk_stands : (d p : ℕ) (ps : Parts) (from e : ℕ) → e ≤ length m → walk m (inside m d) p ps e (fields_in m from e) ≡ no_fault → (q : ℕ) → Memᴰ q (fields_in m from e) → Stands d q
   walk_stands d p ps from e h w q i = let there = each_within m (inside m d) p ps from e w q i in record { ends = omega (arith, h, there.ends); sound = there.sound }
 
   each_fits : (f : ℕ → Field) (ps : List ℕ) → ((p : ℕ) → Memᴰ p ps → FitsField (f p)) → FitsFields (read_each f ps)
@@ -249,7 +249,7 @@ module _ (m : List ℕ) where
   each_fits f [] h = fits_none
   each_fits f (p ∷ ps) h = fits_more (h p (Memᴰ.head refl)) (each_fits f ps λ q i. h q (Memᴰ.tail i))
 
-  body_fits : (d p : ℕ) → ((q : ℕ) → (check m ≡ Sound → Stands d q) → FitsField (read_field m d q)) → (check m ≡ Sound → Stands (suc d) p)
+  body_fits : (d p : ℕ) → ((q : ℕ) → (check m ≡ no_fault → Stands d q) → FitsField (read_field m d q)) → (check m ≡ no_fault → Stands (suc d) p)
       → (r : Rest) → (form_of (byte m p)).rest ≡ r → FitsField (read_body m (read_field m d) p (head_size (form_of (byte m p))) r)
   unfolding read_body
   body_fits d p g s Only e = fits_field (stands_placed s) (slice_bytes (p + 3) (end_of m p) m) fits_none
@@ -259,7 +259,7 @@ module _ (m : List ℕ) where
       fits_field (stands_placed s) (slice_bytes (p + 3) from m)
       (each_fits (read_field m d) (fields_in m from (end_of m p)) λ q i. g q λ ok. walk_stands d p ps from (end_of m p) (s ok).ends ((inside_sound m d p (s ok).sound).fields ps e) q i)
 
-  field_fits : (d p : ℕ) → (check m ≡ Sound → Stands d p) → FitsField (read_field m d p)
+  field_fits : (d p : ℕ) → (check m ≡ no_fault → Stands d p) → FitsField (read_field m d p)
   unfolding read_field
   field_fits zero p s = fits_field (stands_placed s) (λ y. no_bytes) fits_none
   field_fits (suc d) p s = body_fits d p (λ q t. field_fits d q t) s (form_of (byte m p)).rest refl

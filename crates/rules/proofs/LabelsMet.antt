@@ -24,8 +24,6 @@ use Rattle.rules.specs.Patterns.{Patterns, no_pattern, constant_pattern, default
 use Rattle.rules.specs.State.{Scope, top_scope, class_scope, body_scope, same_scope, DeclaredClass, Cell, Cells, no_cell, value_into, mark_into, freed, Attribute, Entry, State, Context, Known, scopes_tried, is_declared, assign, trail_with, tested, mark_declared, free, with_entry}
 use Rattle.rules.specs.Evaluate.{first_with, is_entry, is_attribute, or_else, read_in, read_attribute, integers, booleans, equality, operate, of_constant, come_to, come_to_all, select, evaluate, arm_patterns}
 use Rattle.rules.specs.Run.{assigns_in, assigns_any, declares_in, declares_any, path_and_trail, with_path_and_trail, in_branch, stored, store, Given as GivenValue, is_given, evaluate_all, default_of, given_or, parameter_values, taken_default, taken_defaults, store_all, store_title, attributes_under, marks_for, entry_from, add_entry, add_resource, after_test, Declaration, of_type, of_class, included, Declare, run, run_block, branch_patterns, placed_under, in_class, in_body, parent_first, enter_class, declaration, run_at_top, top_context, node_context, run_items}
-use Rattle.rules.specs.declared.Verdict.{Verdict}
-use Rattle.rules.specs.declared.Verdict.TheVariants.{Sound, Fault}
 use Rattle.rules.specs.Check.{check}
 use Rattle.rules.specs.Types.{Types}
 use Rattle.rules.specs.Compile.{is_built_in, known_with, none_struck_out, start, run_manifest, checked, final_state}
@@ -38,6 +36,8 @@ use Rattle.rules.proofs.Gathering.{gathered_each}
 use Rattle.rules.proofs.Fits.{ConstantRead, InExpression, fits_constant, fits_variable, fits_top_variable, fits_class_variable, fits_operation, fits_negation, fits_attribute_read, fits_selector, fits_unreadable, InArms, fits_no_arm, fits_arm, fits_default_arm, InAttributeField, InStatement, fits_assignment, fits_conditional, fits_choice, fits_resource, fits_defined, fits_class, fits_include, fits_unreadable_statement, InBlock, fits_end, fits_next, InBranches, fits_no_branch, fits_branch, fits_default_branch, InParameter, InDefinition, InItem, fits_statement_item, fits_node, fits_definition_item, in_definition, type_found, class_found, manifest_read}
 use Rattle.rules.proofs.Laws.{items_for_each}
 use Rattle.rules.proofs.Strikes.{labelled_below, struck_same, Lowest, lowest_place_lem}
+use Rattle.std.specs.Prelude.{Ok, Err}
+use Rattle.rules.specs.Verdicts.{Verdict, no_fault}
 
 -- ---- Patterns
 
@@ -441,13 +441,13 @@ one_result {A} {a} e = all_get {P = λ (x : A). a ≡ x} (all_done refl) e
 
 -- an accepted compile: the check before it found no fault, and the run of the manifest ended so
 pub record Accepted (types : Types) (m device : List ℕ) (limit output : ℕ) (st : State) : Type 0 where
-  pub sound : check m ≡ Sound
+  pub sound : check m ≡ no_fault
   pub run : run_manifest none_struck_out types (manifest_of m) device limit output ≡ done st
 
-sound_passed : (v : Verdict) → All (λ (u : Unit {0}). v ≡ Sound) (checked v)
+sound_passed : (v : Verdict) → All (λ (u : Unit {0}). v ≡ no_fault) (checked v)
 unfolding checked
-sound_passed Sound = all_done refl
-sound_passed (Fault r p) = all_refused
+sound_passed (Ok tt) = all_done refl
+sound_passed (Err f) = all_refused
 
 pub accepted : (types : Types) (m device : List ℕ) (limit output memory : ℕ) {st : State} → final_state types m device limit output memory ≡ done st → Accepted types m device limit output st
 unfolding final_state
@@ -462,7 +462,7 @@ abbrev pub Lacks : ℕ → Labels → Type 0
 Lacks l k = has k l ≡ false
 
 -- the sets of a compile that comes to no constant of a label lack it
-lacks_joins : (m : List ℕ) (l : ℕ) → IsBytes m → check m ≡ Sound → l < 256 → Joins (IsBytes m) (ConstantRead m) (labelled_in m l) (Lacks l)
+lacks_joins : (m : List ℕ) (l : ℕ) → IsBytes m → check m ≡ no_fault → l < 256 → Joins (IsBytes m) (ConstantRead m) (labelled_in m l) (Lacks l)
 unfolding labelled_below
 lacks_joins m l bytes sound small = record {
   none = has_none_lem l;
@@ -471,7 +471,7 @@ lacks_joins m l bytes sound small = record {
 }
 
 -- THE FIRST LAW: a compile in which all constants of a label are struck out ends without the label in any set, or is refused
-pub labels_met : (types : Types) (m device : List ℕ) (limit output l : ℕ) → IsBytes m → check m ≡ Sound → l < 256
+pub labels_met : (types : Types) (m device : List ℕ) (limit output l : ℕ) → IsBytes m → check m ≡ no_fault → l < 256
     → All (StateHas (IsBytes m) (ConstantRead m) (labelled_in m l) (Lacks l)) (run_manifest (labelled_in m l) types (manifest_of m) device limit output)
 labels_met types m device limit output l bytes sound small =
     manifest_has (IsBytes m) (ConstantRead m) (labelled_in m l) (Lacks l) (lacks_joins m l bytes sound small) types (manifest_of m) device limit output (manifest_read m)

@@ -27,9 +27,9 @@ use Rattle.rules.specs.declared.Form.{Form}
 use Rattle.rules.specs.declared.Took.{Took}
 use Rattle.rules.specs.declared.Took.TheVariants.{Takes, Passes, Refuses}
 use Rattle.rules.specs.declared.Next.TheVariants.{Go, Wrong}
-use Rattle.rules.specs.declared.Verdict.TheVariants.{Sound}
 use Rattle.wire.proofs.Fields.{no_fields, field_first}
 use Rattle.rules.proofs.Within.{fault_not_sound, false_not_true, wrong_not_go, first_field, none_missing, SoundBody, inside_sound, check_sound}
+use Rattle.rules.specs.Verdicts.{no_fault}
 
 -- ---- What a part takes of the fields: those before the second list. P holds of each
 
@@ -278,9 +278,9 @@ head_is m b p l w h =
 module _ (m : List ℕ) (bytes : IsBytes m) where
   -- a sound field whose length is right, read with d levels left, is as listed
   abbrev ListedAt : ℕ → Type 0
-  ListedAt d = (p : ℕ) → inside m d p ≡ Sound → end_of m p ≤ length m → length_right (form_of (byte m p)) (two m (p + 1)) ≡ true → Listed d (read_field m d p)
+  ListedAt d = (p : ℕ) → inside m d p ≡ no_fault → end_of m p ≤ length m → length_right (form_of (byte m p)) (two m (p + 1)) ≡ true → Listed d (read_field m d p)
 
-  tag_read : (d p : ℕ) → inside m d p ≡ Sound → tag_of (read_field m d p) ≡ byte m p
+  tag_read : (d p : ℕ) → inside m d p ≡ no_fault → tag_of (read_field m d p) ≡ byte m p
   unfolding inside read_field read_body tag_of
   tag_read zero p w = fault_not_sound w
   tag_read (suc d) p w = go (head_size (form_of (byte m p))) (form_of (byte m p)).rest
@@ -291,17 +291,17 @@ module _ (m : List ℕ) (bytes : IsBytes m) where
       go h (Inner ps) = refl
 
   -- at the end no field is read, and no part is missing
-  none_read : (d p : ℕ) (ps : Parts) (q e : ℕ) → e ≤ q → walk m (inside m d) p ps e (fields_in m q e) ≡ Sound → PartsAre (Listed d) ps (read_each (read_field m d) (fields_in m q e))
+  none_read : (d p : ℕ) (ps : Parts) (q e : ℕ) → e ≤ q → walk m (inside m d) p ps e (fields_in m q e) ≡ no_fault → PartsAre (Listed d) ps (read_each (read_field m d) (fields_in m q e))
   unfolding read_each
   none_read d p ps q e l w = rw (no_fields m q e l) (parts_end (Listed d) ps (none_missing m (inside m d) p ps q e l w))
 
   -- the fields from q to e, of which there are at most k
-  parts_read : (k d p : ℕ) (ps : Parts) (q e : ℕ) → ListedAt d → e - q ≤ k → e ≤ length m → walk m (inside m d) p ps e (fields_in m q e) ≡ Sound → PartsAre (Listed d) ps (read_each (read_field m d) (fields_in m q e))
+  parts_read : (k d p : ℕ) (ps : Parts) (q e : ℕ) → ListedAt d → e - q ≤ k → e ≤ length m → walk m (inside m d) p ps e (fields_in m q e) ≡ no_fault → PartsAre (Listed d) ps (read_each (read_field m d) (fields_in m q e))
   unfolding read_each
   parts_read zero d p ps q e each b h w = none_read d p ps q e (omega arith) w
   parts_read (suc k) d p ps q e each b h w = go (λ x y b w. parts_read k d p x y e each b h w) (ltb q e) refl
     where
-      go : ((ps : Parts) (q : ℕ) → e - q ≤ k → walk m (inside m d) p ps e (fields_in m q e) ≡ Sound → PartsAre (Listed d) ps (read_each (read_field m d) (fields_in m q e))) → (t : Bool) → ltb q e ≡ t → PartsAre (Listed d) ps (read_each (read_field m d) (fields_in m q e))
+      go : ((ps : Parts) (q : ℕ) → e - q ≤ k → walk m (inside m d) p ps e (fields_in m q e) ≡ no_fault → PartsAre (Listed d) ps (read_each (read_field m d) (fields_in m q e))) → (t : Bool) → ltb q e ≡ t → PartsAre (Listed d) ps (read_each (read_field m d) (fields_in m q e))
       go others_read false t = none_read d p ps q e (ltb-false q e t) w
       go others_read true t =
           let before : q < e = ltb-true q e t in
@@ -330,15 +330,15 @@ module _ (m : List ℕ) (bytes : IsBytes m) where
       let there = s.pieces in
       as_listed (Listed d) l (slice (p + 3) from m) (read_each (read_field m d) (fields_in m from (end_of m p))) (Inner ps) x (head_is m bytes p l s.bytes (omega arith)) (parts_read (end_of m p) d p ps from (end_of m p) each (omega arith) h (s.fields ps x))
 
-  pub field_listed : (d p : ℕ) → inside m d p ≡ Sound → end_of m p ≤ length m → length_right (form_of (byte m p)) (two m (p + 1)) ≡ true → Listed d (read_field m d p)
+  pub field_listed : (d p : ℕ) → inside m d p ≡ no_fault → end_of m p ≤ length m → length_right (form_of (byte m p)) (two m (p + 1)) ≡ true → Listed d (read_field m d p)
   unfolding read_field inside
   field_listed zero p w h n = fault_not_sound w
   field_listed (suc d) p w h n = body_read d p (λ q w h n. field_listed d q w h n) (inside_sound m d p w) h n (form_of (byte m p)).rest refl
 
   -- the fields of a sound manifest: one 01, then items, none deeper than 32
-  pub shape_listed : shape m ≡ Sound → PartsAre (Listed 32) (three (One Table) (Many Item) Over) (read_all m)
+  pub shape_listed : shape m ≡ no_fault → PartsAre (Listed 32) (three (One Table) (Many Item) Over) (read_all m)
   unfolding shape read_all
   shape_listed w = parts_read (length m) 32 0 (three (One Table) (Many Item) Over) 0 (length m) (λ p w h n. field_listed 32 p w h n) (omega arith) (omega arith) w
 
-pub all_listed : (m : List ℕ) → IsBytes m → check m ≡ Sound → PartsAre (Listed 32) (three (One Table) (Many Item) Over) (read_all m)
+pub all_listed : (m : List ℕ) → IsBytes m → check m ≡ no_fault → PartsAre (Listed 32) (three (One Table) (Many Item) Over) (read_all m)
 all_listed m bytes w = shape_listed m bytes (check_sound m w).shaped

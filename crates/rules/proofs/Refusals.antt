@@ -27,8 +27,6 @@ use Rattle.rules.specs.declared.Next.TheVariants.{Go, Wrong}
 use Rattle.rules.specs.declared.Parts.{Parts}
 use Rattle.rules.specs.declared.Rest.{Rest}
 use Rattle.rules.specs.declared.Rest.TheVariants.{Only, Text, Fields}
-use Rattle.rules.specs.declared.Verdict.{Verdict}
-use Rattle.rules.specs.declared.Verdict.TheVariants.{Sound, Fault}
 use Rattle.rules.specs.Check.{header, and_then, allowing, walk, rest, body, inside, shape, ascends, text, rising_from, rising, names_known, check}
 use Rattle.rules.specs.Patterns.{Patterns}
 use Rattle.rules.specs.State.{Scope, top_scope, class_scope, Cells, Entry, State, Context, Known, scopes_tried, is_declared, take_step, cells_for, assign}
@@ -38,6 +36,7 @@ use Rattle.rules.specs.Types.{Types, the_eight, lent, type_places, field_right, 
 use Rattle.rules.specs.Compile.{run_manifest, checked, final_state}
 use Rattle.rules.proofs.Outcome.{with_steps}
 use Rattle.rules.proofs.Patterns.{Every, every_none, every_constant, every_default, chosen_holds}
+use Rattle.rules.specs.Verdicts.{Verdict, fault_at, no_fault}
 
 -- of its refusal, if there is one
 pub data IfRefused {A : Type 0} (R : Reason → ℕ → Type 0) : Outcome A → Type 0 where
@@ -330,8 +329,8 @@ own_gathering built_in earlier (definition d ∷ items) = refusal_bind (refusal_
 -- ---- The check before running
 
 data OwnVerdict : Verdict → Type 0 where
-  own_sound : OwnVerdict Sound
-  own_fault : {r : Reason} {p : ℕ} → Own r p → OwnVerdict (Fault r p)
+  own_sound : OwnVerdict no_fault
+  own_fault : {r : Reason} {p : ℕ} → Own r p → OwnVerdict (fault_at r p)
 
 own_pick : (b : Bool) {u v : Verdict} → OwnVerdict u → OwnVerdict v → OwnVerdict (pick b u v)
 own_pick true h g = h
@@ -391,10 +390,10 @@ own_checked (own_fault h) = refuses h
 -- ---- The list of types
 
 data OfList : Verdict → Type 0 where
-  list_sound : OfList Sound
-  list_fault : {p : ℕ} → OfList (Fault TypeList p)
+  list_sound : OfList no_fault
+  list_fault : {p : ℕ} → OfList (fault_at TypeList p)
 
-of_pick : (b : Bool) (p : ℕ) {v : Verdict} → OfList v → OfList (pick b v (Fault TypeList p))
+of_pick : (b : Bool) (p : ℕ) {v : Verdict} → OfList v → OfList (pick b v (fault_at TypeList p))
 of_pick true p h = h
 of_pick false p h = list_fault
 
@@ -413,7 +412,7 @@ of_list (lent (b ∷ bs)) = of_fields (b ∷ bs) 64 [] (type_places (b ∷ bs))
 -- a refusal of a compile: one of document 01's, or 28 where the list lent is at fault there
 pub data OfCompile (types : Types) (r : Reason) (p : ℕ) : Type 0 where
   of_paper : number_of r < 24 → OfCompile types r p
-  of_types : r ≡ TypeList → check_types types ≡ Fault TypeList p → OfCompile types r p
+  of_types : r ≡ TypeList → check_types types ≡ fault_at TypeList p → OfCompile types r p
 
 of_paper_lem : {A : Type 0} (types : Types) {o : Outcome A} → IfRefused Own o → IfRefused (OfCompile types) o
 of_paper_lem types accepts = accepts

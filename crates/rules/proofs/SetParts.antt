@@ -17,8 +17,6 @@ use Rattle.values.specs.declared.Value.TheVariants.{Integer, String, Boolean}
 use Rattle.values.specs.declared.Labelled.{Labelled}
 use Rattle.values.specs.declared.SetPart.{SetPart}
 use Rattle.values.specs.declared.SetPart.TheVariants.{Title, Path, Trail, Marks, Value as Rest}
-use Rattle.values.specs.declared.Explanation.{Explanation}
-use Rattle.values.specs.declared.Explanation.TheVariants.{Among, NotAmong, Refused}
 use Rattle.values.specs.Numbers.{part_number}
 use Rattle.rules.specs.Outcome.{Outcome, refused, done, ◌>>=◌, Result, at, joining}
 use Rattle.rules.specs.Arithmetic.{integer_in, boolean_in, same_value}
@@ -35,6 +33,8 @@ use Rattle.rules.specs.Why.{set_of, first_part, without_limits, lowest_place, Fo
 use Rattle.rules.proofs.Lists.{Perhaps, not_there, there, perhaps_map, perhaps_get, Each, also, found, eqb_true, or_true_left, or_true_right, either_true}
 use Rattle.rules.proofs.Outcome.{All, all_refused, all_done, all_bind, all_any, all_both, all_found, all_get, all_itself}
 use Rattle.rules.proofs.Entries.{Entries, final_entries}
+use Rattle.std.specs.Prelude.{Ok, Err, Some, None}
+use Rattle.values.specs.Answers.{Explanation, among_none, among_part}
 
 -- ---- A set within a set
 
@@ -348,9 +348,9 @@ pub record SaysAmong (found : Found) (label lowest : ℕ) (part : SetPart) (plac
 
 -- ""Not among them" comes back precisely when the set lacks the label"
 abbrev pub Says : (found : Found) (label lowest : ℕ) → Explanation → Type 0
-Says found label lowest (Among part place) = SaysAmong found label lowest part place
-Says found label lowest NotAmong = has found.attribute.content.labels label ≡ false
-Says found label lowest (Refused r p) = ⊥
+Says found label lowest (Ok (Some a)) = SaysAmong found label lowest a.part a.place
+Says found label lowest (Ok None) = has found.attribute.content.labels label ≡ false
+Says found label lowest (Err f) = ⊥
 
 -- what is found in a catalog has the parts of its set
 found_parts : (strings : List (List ℕ)) {entries : List Entry} (type title attribute : List ℕ) → Each PartsMakeSet entries
@@ -363,7 +363,7 @@ answer_says : (found : Found) (label lowest : ℕ) → SameLabels (set_of found.
 unfolding answer_for
 answer_says found label lowest union = go (has found.attribute.content.labels label) refl
   where
-    go : (t : Bool) → has found.attribute.content.labels label ≡ t → Says found label lowest (elim t [ true ↦ Among (first_part found.parts label) lowest | false ↦ NotAmong ])
+    go : (t : Bool) → has found.attribute.content.labels label ≡ t → Says found label lowest (elim t [ true ↦ among_part (first_part found.parts label) lowest | false ↦ among_none ])
     go true e = record { holds = e; first = first_part_holds found.parts label (union label ∙ e); place_lowest = refl }
     go false e = e
 

@@ -24,11 +24,11 @@ use Rattle.rules.specs.EditRule.{IsBytes}
 use Rattle.rules.specs.declared.Kind.{Kind}
 use Rattle.rules.specs.declared.Kind.TheVariants.{Table, Text, Constant as ConstantKind, Expression as ExpressionKind, Pattern, Arm, Statement as StatementKind, Block as BlockKind, Branch, Attribute, Parameter as ParameterKind, Parent as ParentKind, Item as ItemKind, Device}
 use Rattle.rules.specs.declared.Part.TheVariants.{Over, One, Many}
-use Rattle.rules.specs.declared.Verdict.TheVariants.{Sound}
 use Rattle.rules.proofs.Listed.{Same, same, OneOf, one, ManyOf, none_of_many, one_of_many, AtMost, no_further, further, NamesOf, default_name, device_names, PartsAre, AsListed, Listed, both_left, both_right, all_listed}
 use Rattle.rules.proofs.HighBytes.{eight_back, name_back, names_back, label_name_back}
 use Rattle.rules.proofs.WriteBack.{written_back}
 use Rattle.rules.proofs.Lists.{when_true, when_false}
+use Rattle.rules.specs.Verdicts.{no_fault}
 
 -- ---- From the typed tree to fields. All places are 0, since the tree does not keep every one
 
@@ -714,10 +714,10 @@ unfolding fields_of manifest_from items_written
 manifest_back ks s = one_written (λ f. bare 0x01 [] (string_fields (strings_from (inner f)))) items_written (table_back 32) s.in_first (many_written items_written (items_back 32 (omega arith)) s.in_second (none_written items_written no_items s.in_third same))
 
 -- the typed tree of a sound manifest gives back the tree of fields, but for the places
-pub typed_back : (m : List ℕ) → IsBytes m → check m ≡ Sound → fields_of (manifest_of m) ≡ unplaced_all (read_all m)
+pub typed_back : (m : List ℕ) → IsBytes m → check m ≡ no_fault → fields_of (manifest_of m) ≡ unplaced_all (read_all m)
 unfolding manifest_of
 typed_back m bytes w = manifest_back (read_all m) (all_listed m bytes w)
 
 -- and so the manifest
-pub typed_written_back : (m : List ℕ) → IsBytes m → check m ≡ Sound → write_all (fields_of (manifest_of m)) ≡ m
+pub typed_written_back : (m : List ℕ) → IsBytes m → check m ≡ no_fault → write_all (fields_of (manifest_of m)) ≡ m
 typed_written_back m bytes w = ap write_all (typed_back m bytes w) ∙ write_unplaced_all (read_all m) ∙ written_back m bytes w

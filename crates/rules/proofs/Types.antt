@@ -6,7 +6,6 @@ use mathlib.Core.List.{List, [], ◌∷◌, map}
 use lib.Dec.{eqb, leb, ltb}
 use lib.ListN.{length, take, drop, get_or}
 use Rattle.values.specs.declared.Reason.TheVariants.{MemoryTooShort, ManifestLength}
-use Rattle.rules.specs.declared.Verdict.TheVariants.{Sound}
 use Rattle.rules.specs.Bytes.{two, fields_up, fields_in}
 use Rattle.rules.specs.Check.{ascends, text, check}
 use Rattle.rules.specs.Tree.{Constant, Definition, Manifest}
@@ -18,6 +17,7 @@ use Rattle.rules.specs.Run.{gather_definitions, run_items}
 use Rattle.rules.specs.Types.{Types, the_eight, lent, eight_types, eight_as_list, type_places, types_in, lower_case, field_right, types_right, check_list, built_in_types, check_types}
 use Rattle.rules.specs.Compile.{same_bytes, string_at, string_number, title_text, is_built_in, known_with, none_struck_out, items_for, start, run_manifest, checked, final_state, compiled, Effect, compile}
 use Rattle.rules.specs.Why.{without_limits, is_refused, labelled_at, first_from, comes_to_one, lowest_place, found_in, answer_for, explained, Told, why}
+use Rattle.rules.specs.Verdicts.{no_fault}
 
 -- ---- What is built in, of the strings of a table, is all that counts
 
@@ -65,7 +65,7 @@ moved : (a b c d x y : Bool) → (a || (b || (c || (d || (x || y))))) ≡ (x || 
 moved a b c d true y = last_true a b c d
 moved a b c d false y = refl
 
-eight_sound : check_list eight_as_list ≡ Sound
+eight_sound : check_list eight_as_list ≡ no_fault
 unfolding check_list eight_as_list types_right type_places field_right lower_case ascends text fields_in fields_up two take drop
 eight_sound = refl
 

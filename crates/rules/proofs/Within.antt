@@ -26,13 +26,13 @@ use Rattle.rules.specs.declared.Form.{Form}
 use Rattle.rules.specs.declared.Took.TheVariants.{Takes, Refuses}
 use Rattle.rules.specs.declared.Next.{Next}
 use Rattle.rules.specs.declared.Next.TheVariants.{Go, Wrong}
-use Rattle.rules.specs.declared.Verdict.{Verdict}
-use Rattle.rules.specs.declared.Verdict.TheVariants.{Sound, Fault}
 use Rattle.wire.proofs.Fields.{no_fields, field_first}
+use Rattle.std.specs.Prelude.{Ok, Err}
+use Rattle.rules.specs.Verdicts.{Verdict, fault_at, no_fault}
 
 -- ---- Answers that differ
 
-pub fault_not_sound : {A : Type 0} {r : Reason} {p : ℕ} → Fault r p ≡ Sound → A
+pub fault_not_sound : {A : Type 0} {r : Reason} {p : ℕ} → fault_at r p ≡ no_fault → A
 fault_not_sound e = let z : ◌≡◌ {A = ℕ} 0 1 = cc in absurd (omega arith)
 
 pub false_not_true : {A : Type 0} → false ≡ true → A
@@ -42,13 +42,13 @@ pub wrong_not_go : {A : Type 0} {ps : Parts} → Wrong ≡ Go ps → A
 wrong_not_go e = let z : ◌≡◌ {A = ℕ} 0 1 = cc in absurd (omega arith)
 
 -- two checks one after the other are Sound if both are
-pub first_sound : (u v : Verdict) → and_then u v ≡ Sound → u ≡ Sound
-first_sound Sound v w = refl
-first_sound (Fault r p) v w = w
+pub first_sound : (u v : Verdict) → and_then u v ≡ no_fault → u ≡ no_fault
+first_sound (Ok tt) v w = refl
+first_sound (Err f) v w = w
 
-pub second_sound : (u v : Verdict) → and_then u v ≡ Sound → v ≡ Sound
-second_sound Sound v w = w
-second_sound (Fault r p) v w = fault_not_sound w
+pub second_sound : (u v : Verdict) → and_then u v ≡ no_fault → v ≡ no_fault
+second_sound (Ok tt) v w = w
+second_sound (Err f) v w = fault_not_sound w
 
 either : {A B C : Type 0} → (A → C) → (B → C) → A ⊎ B → C
 either f g (inl a) = f a
@@ -79,24 +79,24 @@ header_right m ps q e n h = go (leb (q + 3) e) refl (leb (end_of m q) e) refl (l
 pub record FirstField (m : List ℕ) (inner : ℕ → Verdict) (p : ℕ) (ps : Parts) (q e : ℕ) : Type 0 where
   pub next : Parts
   pub right : RightHeader m ps q e next
-  pub sound : inner q ≡ Sound
-  pub others : walk m inner p next e (fields_in m (end_of m q) e) ≡ Sound
+  pub sound : inner q ≡ no_fault
+  pub others : walk m inner p next e (fields_in m (end_of m q) e) ≡ no_fault
 
-pub first_field : (m : List ℕ) (inner : ℕ → Verdict) (p : ℕ) (ps : Parts) (q e : ℕ) → q < e → walk m inner p ps e (fields_in m q e) ≡ Sound → FirstField m inner p ps q e
+pub first_field : (m : List ℕ) (inner : ℕ → Verdict) (p : ℕ) (ps : Parts) (q e : ℕ) → q < e → walk m inner p ps e (fields_in m q e) ≡ no_fault → FirstField m inner p ps q e
 unfolding walk
 first_field m inner p ps q e l w = go (header m ps q e) refl (inner q) refl (rw (field_first m q e l) at w)
   where
-    go : (n : Next) → header m ps q e ≡ n → (v : Verdict) → inner q ≡ v → allowing n (λ x. and_then v (walk m inner p x e (fields_in m (end_of m q) e))) (Fault Malformed q) ≡ Sound → FirstField m inner p ps q e
-    go (Go x) hn Sound hv w = record { next = x; right = header_right m ps q e x hn; sound = hv; others = w }
-    go (Go x) hn (Fault r k) hv w = fault_not_sound w
+    go : (n : Next) → header m ps q e ≡ n → (v : Verdict) → inner q ≡ v → allowing n (λ x. and_then v (walk m inner p x e (fields_in m (end_of m q) e))) (fault_at Malformed q) ≡ no_fault → FirstField m inner p ps q e
+    go (Go x) hn (Ok tt) hv w = record { next = x; right = header_right m ps q e x hn; sound = hv; others = w }
+    go (Go x) hn (Err f) hv w = fault_not_sound w
     go Wrong hn v hv w = fault_not_sound w
 
 -- the walk is Sound and at its end: no part is missing
-pub none_missing : (m : List ℕ) (inner : ℕ → Verdict) (p : ℕ) (ps : Parts) (q e : ℕ) → e ≤ q → walk m inner p ps e (fields_in m q e) ≡ Sound → may_end ps ≡ true
+pub none_missing : (m : List ℕ) (inner : ℕ → Verdict) (p : ℕ) (ps : Parts) (q e : ℕ) → e ≤ q → walk m inner p ps e (fields_in m q e) ≡ no_fault → may_end ps ≡ true
 unfolding walk
 none_missing m inner p ps q e l w = go (may_end ps) refl (rw (no_fields m q e l) at w)
   where
-    go : (b : Bool) → may_end ps ≡ b → pick b Sound (Fault Malformed p) ≡ Sound → may_end ps ≡ true
+    go : (b : Bool) → may_end ps ≡ b → pick b no_fault (fault_at Malformed p) ≡ no_fault → may_end ps ≡ true
     go true hb w = hb
     go false hb w = fault_not_sound w
 
@@ -105,24 +105,24 @@ pub record Within (m : List ℕ) (inner : ℕ → Verdict) (q e r : ℕ) : Type 
   pub starts : q ≤ r
   pub there : r + 3 ≤ e
   pub ends : end_of m r ≤ e
-  pub sound : inner r ≡ Sound
+  pub sound : inner r ≡ no_fault
 
 -- a field that starts later among them
 later : {m : List ℕ} {inner : ℕ → Verdict} {q s e r : ℕ} → q ≤ s → Within m inner s e r → Within m inner q e r
 later l i = record { starts = omega arith; there = i.there; ends = i.ends; sound = i.sound }
 
 -- each field of a Sound walk is so
-pub each_within : (m : List ℕ) (inner : ℕ → Verdict) (p : ℕ) (ps : Parts) (q e : ℕ) → walk m inner p ps e (fields_in m q e) ≡ Sound → (r : ℕ) → Memᴰ r (fields_in m q e) → Within m inner q e r
+pub each_within : (m : List ℕ) (inner : ℕ → Verdict) (p : ℕ) (ps : Parts) (q e : ℕ) → walk m inner p ps e (fields_in m q e) ≡ no_fault → (r : ℕ) → Memᴰ r (fields_in m q e) → Within m inner q e r
 each_within m inner p ps q e w r i = up_to (e - q) ps q (omega arith) w i
   where
     at_end_lem : (q : ℕ) → e ≤ q → Memᴰ r (fields_in m q e) → Within m inner q e r
     at_end_lem q l i = absurd (not-mem-nil (∣ rw (no_fields m q e l) at i ∣₁))
 
-    up_to : (k : ℕ) (ps : Parts) (q : ℕ) → e - q ≤ k → walk m inner p ps e (fields_in m q e) ≡ Sound → Memᴰ r (fields_in m q e) → Within m inner q e r
+    up_to : (k : ℕ) (ps : Parts) (q : ℕ) → e - q ≤ k → walk m inner p ps e (fields_in m q e) ≡ no_fault → Memᴰ r (fields_in m q e) → Within m inner q e r
     up_to zero ps q b w i = at_end_lem q (omega arith) i
     up_to (suc k) ps q b w i = go (λ x y b w i. up_to k x y b w i) (ltb q e) refl
       where
-        go : ((ps : Parts) (q : ℕ) → e - q ≤ k → walk m inner p ps e (fields_in m q e) ≡ Sound → Memᴰ r (fields_in m q e) → Within m inner q e r) → (t : Bool) → ltb q e ≡ t → Within m inner q e r
+        go : ((ps : Parts) (q : ℕ) → e - q ≤ k → walk m inner p ps e (fields_in m q e) ≡ no_fault → Memᴰ r (fields_in m q e) → Within m inner q e r) → (t : Bool) → ltb q e ≡ t → Within m inner q e r
         go among_others false t = at_end_lem q (ltb-false q e t) i
         go among_others true t =
             let l : q < e = ltb-true q e t in
@@ -137,16 +137,16 @@ each_within m inner p ps q e w r i = up_to (e - q) ps q (omega arith) w i
 pub record SoundBody (m : List ℕ) (inner : ℕ → Verdict) (p : ℕ) (l : Form) : Type 0 where
   pub pieces : head_size l ≤ two m (p + 1)
   pub bytes : bytes_right m p l ≡ true
-  pub fields : (ps : Parts) → l.rest ≡ Fields ps → walk m inner p ps (end_of m p) (fields_in m (p + 3 + head_size l) (end_of m p)) ≡ Sound
+  pub fields : (ps : Parts) → l.rest ≡ Fields ps → walk m inner p ps (end_of m p) (fields_in m (p + 3 + head_size l) (end_of m p)) ≡ no_fault
 
-pub body_sound : (m : List ℕ) (inner : ℕ → Verdict) (p : ℕ) (l : Form) → body m inner p l ≡ Sound → SoundBody m inner p l
+pub body_sound : (m : List ℕ) (inner : ℕ → Verdict) (p : ℕ) (l : Form) → body m inner p l ≡ no_fault → SoundBody m inner p l
 unfolding body rest
 body_sound m inner p l w = go (leb (head_size l) (two m (p + 1))) refl (bytes_right m p l) refl w
   where
-    walked : (ps : Parts) {r : Rest} → r ≡ Fields ps → rest m inner p (p + 3 + head_size l) r ≡ Sound → walk m inner p ps (end_of m p) (fields_in m (p + 3 + head_size l) (end_of m p)) ≡ Sound
+    walked : (ps : Parts) {r : Rest} → r ≡ Fields ps → rest m inner p (p + 3 + head_size l) r ≡ no_fault → walk m inner p ps (end_of m p) (fields_in m (p + 3 + head_size l) (end_of m p)) ≡ no_fault
     walked ps f w = rw f at w
 
-    go : (a : Bool) → leb (head_size l) (two m (p + 1)) ≡ a → (b : Bool) → bytes_right m p l ≡ b → pick (a && b) (rest m inner p (p + 3 + head_size l) l.rest) (Fault Malformed p) ≡ Sound → SoundBody m inner p l
+    go : (a : Bool) → leb (head_size l) (two m (p + 1)) ≡ a → (b : Bool) → bytes_right m p l ≡ b → pick (a && b) (rest m inner p (p + 3 + head_size l) l.rest) (fault_at Malformed p) ≡ no_fault → SoundBody m inner p l
     go true ha true hb w = record { pieces = leb-true _ _ ha; bytes = hb; fields = λ ps f. walked ps f w }
     go true ha false hb w = fault_not_sound w
     go false ha b hb w = fault_not_sound w
@@ -154,17 +154,17 @@ body_sound m inner p l w = go (leb (head_size l) (two m (p + 1))) refl (bytes_ri
 -- ---- One field with the levels left for it
 
 -- what is inside the field at p, with d levels left, is Sound: there is a level for it, and its body is Sound with one level less
-pub level_left : (m : List ℕ) (d p : ℕ) → inside m d p ≡ Sound → 0 < d
+pub level_left : (m : List ℕ) (d p : ℕ) → inside m d p ≡ no_fault → 0 < d
 unfolding inside
 level_left m zero p w = fault_not_sound w
 level_left m (suc d) p w = omega arith
 
-pub inside_sound : (m : List ℕ) (d p : ℕ) → inside m (suc d) p ≡ Sound → SoundBody m (inside m d) p (form_of (byte m p))
+pub inside_sound : (m : List ℕ) (d p : ℕ) → inside m (suc d) p ≡ no_fault → SoundBody m (inside m d) p (form_of (byte m p))
 unfolding inside
 inside_sound m d p w = body_sound m (inside m d) p (form_of (byte m p)) w
 
 -- the same where the level is not known to be a successor
-pub inside_sound' : (m : List ℕ) (d p : ℕ) → inside m d p ≡ Sound → SoundBody m (inside m (d - 1)) p (form_of (byte m p))
+pub inside_sound' : (m : List ℕ) (d p : ℕ) → inside m d p ≡ no_fault → SoundBody m (inside m (d - 1)) p (form_of (byte m p))
 unfolding inside
 inside_sound' m zero p w = fault_not_sound w
 inside_sound' m (suc d) p w = rw sub-one (inside_sound m d p w)
@@ -188,9 +188,9 @@ one_came k t b c n e = go (allowed k t) refl e
 pub record OneThere (m : List ℕ) (inner : ℕ → Verdict) (p : ℕ) (k : Kind) (b c : Part) (q e : ℕ) : Type 0 where
   pub kind : allowed k (byte m q) ≡ true
   pub within : Within m inner q e q
-  pub others : walk m inner p (three Over b c) e (fields_in m (end_of m q) e) ≡ Sound
+  pub others : walk m inner p (three Over b c) e (fields_in m (end_of m q) e) ≡ no_fault
 
-pub one_there : (m : List ℕ) (inner : ℕ → Verdict) (p : ℕ) (k : Kind) (b c : Part) (q e : ℕ) → walk m inner p (three (One k) b c) e (fields_in m q e) ≡ Sound → OneThere m inner p k b c q e
+pub one_there : (m : List ℕ) (inner : ℕ → Verdict) (p : ℕ) (k : Kind) (b c : Part) (q e : ℕ) → walk m inner p (three (One k) b c) e (fields_in m q e) ≡ no_fault → OneThere m inner p k b c q e
 unfolding may_end part_may_end
 one_there m inner p k b c q e w = go (ltb q e) refl
   where
@@ -205,11 +205,11 @@ one_there m inner p k b c q e w = go (ltb q e) refl
 
 -- the check of a manifest is Sound: so are its three parts
 pub record SoundManifest (m : List ℕ) : Type 0 where
-  pub shaped : shape m ≡ Sound
-  pub strings : rising m (string_places m) ≡ Sound
-  pub names : names_known m (length (string_places m)) (places_in m (end_of m 0) (length m)) ≡ Sound
+  pub shaped : shape m ≡ no_fault
+  pub strings : rising m (string_places m) ≡ no_fault
+  pub names : names_known m (length (string_places m)) (places_in m (end_of m 0) (length m)) ≡ no_fault
 
-pub check_sound : (m : List ℕ) → check m ≡ Sound → SoundManifest m
+pub check_sound : (m : List ℕ) → check m ≡ no_fault → SoundManifest m
 unfolding check
 check_sound m w =
     let s = rising m (string_places m) in
@@ -218,6 +218,6 @@ check_sound m w =
     record { shaped = first_sound (shape m) (and_then s n) w; strings = first_sound s n t; names = second_sound s n t }
 
 -- the fields outside others: one 01 at place 0, then items
-pub shape_sound : (m : List ℕ) → shape m ≡ Sound → OneThere m (inside m 32) 0 Table (Many Item) Over 0 (length m)
+pub shape_sound : (m : List ℕ) → shape m ≡ no_fault → OneThere m (inside m 32) 0 Table (Many Item) Over 0 (length m)
 unfolding shape
 shape_sound m w = one_there m (inside m 32) 0 Table (Many Item) Over 0 (length m) w

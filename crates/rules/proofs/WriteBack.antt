@@ -20,9 +20,9 @@ use Rattle.rules.specs.declared.Parts.{Parts}
 use Rattle.rules.specs.declared.Rest.{Rest}
 use Rattle.rules.specs.declared.Rest.TheVariants.{Only, Text, Fields}
 use Rattle.rules.specs.declared.Form.{Form}
-use Rattle.rules.specs.declared.Verdict.TheVariants.{Sound}
 use Rattle.wire.proofs.Fields.{no_fields, field_first}
 use Rattle.rules.proofs.Within.{fault_not_sound, first_field, SoundBody, inside_sound, check_sound}
+use Rattle.rules.specs.Verdicts.{no_fault}
 
 -- ---- Bytes from a place up to another
 
@@ -68,15 +68,15 @@ module _ (m : List ℕ) (bytes : IsBytes m) where
 
   -- a sound field, read with d levels left and written back, is its bytes
   abbrev WrittenAt : ℕ → Type 0
-  WrittenAt d = (p : ℕ) → inside m d p ≡ Sound → end_of m p ≤ length m → write (read_field m d p) ≡ slice p (end_of m p) m
+  WrittenAt d = (p : ℕ) → inside m d p ≡ no_fault → end_of m p ≤ length m → write (read_field m d p) ≡ slice p (end_of m p) m
 
   -- so are the fields from q to e, of which there are at most k
-  fields_written : (k d p : ℕ) (ps : Parts) (q e : ℕ) → WrittenAt d → e - q ≤ k → q ≤ e → e ≤ length m → walk m (inside m d) p ps e (fields_in m q e) ≡ Sound → write_all (read_each (read_field m d) (fields_in m q e)) ≡ slice q e m
+  fields_written : (k d p : ℕ) (ps : Parts) (q e : ℕ) → WrittenAt d → e - q ≤ k → q ≤ e → e ≤ length m → walk m (inside m d) p ps e (fields_in m q e) ≡ no_fault → write_all (read_each (read_field m d) (fields_in m q e)) ≡ slice q e m
   unfolding read_each write_all
   fields_written zero d p ps q e each b l h w = no_field_written (read_field m d) q e l (omega arith)
   fields_written (suc k) d p ps q e each b l h w = go (λ x y b l w. fields_written k d p x y e each b l h w) (ltb q e) refl
     where
-      go : ((ps : Parts) (q : ℕ) → e - q ≤ k → q ≤ e → walk m (inside m d) p ps e (fields_in m q e) ≡ Sound → write_all (read_each (read_field m d) (fields_in m q e)) ≡ slice q e m) → (t : Bool) → ltb q e ≡ t → write_all (read_each (read_field m d) (fields_in m q e)) ≡ slice q e m
+      go : ((ps : Parts) (q : ℕ) → e - q ≤ k → q ≤ e → walk m (inside m d) p ps e (fields_in m q e) ≡ no_fault → write_all (read_each (read_field m d) (fields_in m q e)) ≡ slice q e m) → (t : Bool) → ltb q e ≡ t → write_all (read_each (read_field m d) (fields_in m q e)) ≡ slice q e m
       go others-written false t = no_field_written (read_field m d) q e l (ltb-false q e t)
       go others-written true t =
           let before : q < e = ltb-true q e t in
@@ -97,17 +97,17 @@ module _ (m : List ℕ) (bytes : IsBytes m) where
       let fields = fields_written (end_of m p) d p ps from (end_of m p) each (omega arith) (omega arith) h (s.fields ps e) in
       ap (λ (x : List ℕ). wrap (byte m p) (slice (p + 3) from m ++ x)) fields ∙ ap (λ (x : List ℕ). wrap (byte m p) x) (slice_joined m (p + 3) from (end_of m p) (omega arith) (omega arith) h) ∙ wrap_body p h
 
-  pub field_written : (d p : ℕ) → inside m d p ≡ Sound → end_of m p ≤ length m → write (read_field m d p) ≡ slice p (end_of m p) m
+  pub field_written : (d p : ℕ) → inside m d p ≡ no_fault → end_of m p ≤ length m → write (read_field m d p) ≡ slice p (end_of m p) m
   unfolding read_field inside
   field_written zero p w h = fault_not_sound w
   field_written (suc d) p w h = body_written d p (form_of (byte m p)) (λ q w h. field_written d q w h) (inside_sound m d p w) h (form_of (byte m p)).rest refl
 
   -- ---- The whole manifest
 
-  pub shape_written : shape m ≡ Sound → write_all (read_all m) ≡ m
+  pub shape_written : shape m ≡ no_fault → write_all (read_all m) ≡ m
   unfolding shape read_all
   shape_written w = fields_written (length m) 32 0 (three (One Table) (Many Item) Over) 0 (length m) (λ p w h. field_written 32 p w h) (omega arith) (omega arith) (omega arith) w ∙ take-length m
 
 -- what is read of a manifest in which the check finds no fault, written back, is the manifest
-pub written_back : (m : List ℕ) → IsBytes m → check m ≡ Sound → write_all (read_all m) ≡ m
+pub written_back : (m : List ℕ) → IsBytes m → check m ≡ no_fault → write_all (read_all m) ≡ m
 written_back m bytes w = shape_written m bytes (check_sound m w).shaped

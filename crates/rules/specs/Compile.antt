@@ -1,12 +1,8 @@
 -- A whole compile: what it answers and what it leaves in every byte lent.
-use Rattle.std.specs.Prelude.{ℕ, suc, ◌-◌, min, Bool, true, false, ◌&&◌, ◌||◌, List, [], ◌∷◌, ◌++◌, eqb, ltb, length, get_or, replicate}
+use Rattle.std.specs.Prelude.{ℕ, suc, ◌-◌, min, Bool, true, false, ◌&&◌, ◌||◌, List, [], ◌∷◌, ◌++◌, eqb, ltb, length, get_or, replicate, Ok, Err}
 use Rattle.std.proofs.Math.Option.{Option, none, some}
 use Rattle.labels.specs.Sets.{no_labels}
-use Rattle.values.specs.declared.Answer.{Answer}
-use Rattle.values.specs.declared.Answer.TheVariants.{Catalog, Refused}
 use Rattle.values.specs.declared.Reason.TheVariants.{MemoryTooShort, ManifestLength}
-use Rattle.rules.specs.declared.Verdict.{Verdict}
-use Rattle.rules.specs.declared.Verdict.TheVariants.{Sound, Fault}
 use Rattle.rules.specs.Check.{check}
 use Rattle.rules.specs.Tree.{Constant, Devices, named, by_default, Definition, Item, statement, node, definition, Manifest}
 use Rattle.rules.specs.Read.{manifest_of}
@@ -16,6 +12,8 @@ use Rattle.rules.specs.State.{Entry, State, Known, no_cell}
 use Rattle.rules.specs.Evaluate.{any}
 use Rattle.rules.specs.Run.{gather_definitions, run_items}
 use Rattle.rules.specs.Catalog.{catalog_bytes}
+use Rattle.rules.specs.Verdicts.{Verdict}
+use Rattle.values.specs.Answers.{Answer, catalog_with, refused_for}
 
 -- ---- Strings
 
@@ -109,8 +107,8 @@ run_manifest struck_out types manifest device limit output_length = do
 -- ---- The whole
 
 unfoldable pub checked : Verdict → Outcome (Unit {0})
-checked Sound = done tt
-checked (Fault reason place) = refused reason place
+checked (Ok tt) = done tt
+checked (Err f) = refused f.reason f.place
 
 -- 1, 28, 2, then 3 to 5, then 8 and the run
 unfoldable pub final_state : Types → (manifest device : List ℕ) → (limit output_length memory_length : ℕ) → Outcome State
@@ -144,8 +142,8 @@ compiled types manifest device limit output_length memory_length = do
 
 -- the answer: number and place, or the catalog's length and the steps
 unfoldable pub answer_of : Outcome Compiled → Answer
-answer_of (refused reason place) = Refused reason place
-answer_of (done c) = Catalog (length c.catalog) c.steps
+answer_of (refused reason place) = refused_for reason place
+answer_of (done c) = catalog_with (length c.catalog) c.steps
 
 -- "Bytes after the catalog are zero"; "after a refusal the output and the working memory are zero throughout"
 unfoldable pub output_of : (output_length : ℕ) → Outcome Compiled → List ℕ

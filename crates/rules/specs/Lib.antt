@@ -18,3 +18,4 @@ pub mod Schedule
 pub mod EditRule
 pub mod Ranges
 pub mod Once
+pub mod Verdicts

@@ -2,10 +2,9 @@
 -- replaces the eight built-in types: 1 to 64 fields 02, each 1 to 32 lower-case letters, strictly rising."
 use Rattle.std.specs.Prelude.{ℕ, zero, suc, ◌+◌, Bool, true, false, ◌&&◌, List, [], ◌∷◌, map, eqb, leb, length}
 use Rattle.values.specs.declared.Reason.TheVariants.{TypeList}
-use Rattle.rules.specs.declared.Verdict.{Verdict}
-use Rattle.rules.specs.declared.Verdict.TheVariants.{Sound, Fault}
 use Rattle.rules.specs.Bytes.{pick, byte, two, fields_in}
 use Rattle.rules.specs.Check.{header_there, body_within, ascends, text}
+use Rattle.rules.specs.Verdicts.{Verdict, fault_at, no_fault}
 
 -- "Built-in types: kiosk, tablet, printer, scanner, gate, screen, plan, wall."
 unfoldable pub eight_types : List (List ℕ)
@@ -48,13 +47,13 @@ field_right list before q =
 
 -- each field in turn, of which there may be so many more: "28, the list breaks one of these rules, at its first faulty field, a 65th included"
 unfoldable pub types_right : (list : List ℕ) → (more : ℕ) → (before : List ℕ) → (places : List ℕ) → Verdict
-types_right list more before [] = Sound
-types_right list zero before (q ∷ qs) = Fault TypeList q
-types_right list (suc more) before (q ∷ qs) = pick (field_right list before q) (types_right list more (text list q) qs) (Fault TypeList q)
+types_right list more before [] = no_fault
+types_right list zero before (q ∷ qs) = fault_at TypeList q
+types_right list (suc more) before (q ∷ qs) = pick (field_right list before q) (types_right list more (text list q) qs) (fault_at TypeList q)
 
 -- "or 0 if empty"
 unfoldable pub check_list : (list : List ℕ) → Verdict
-check_list [] = Fault TypeList 0
+check_list [] = fault_at TypeList 0
 check_list (b ∷ bs) = types_right (b ∷ bs) 64 [] (type_places (b ∷ bs))
 
 -- the eight as such a list
@@ -82,5 +81,5 @@ built_in_types the_eight = eight_types
 built_in_types (lent list) = types_in list
 
 unfoldable pub check_types : Types → Verdict
-check_types the_eight = Sound
+check_types the_eight = no_fault
 check_types (lent list) = check_list list

@@ -7,8 +7,6 @@ use Rattle.labels.specs.Sets.{has, ◌∪◌}
 use Rattle.values.specs.declared.Reason.TheVariants.{NoSuchAttribute}
 use Rattle.values.specs.declared.SetPart.{SetPart}
 use Rattle.values.specs.declared.SetPart.TheVariants.{Title, Path, Trail, Marks, Value}
-use Rattle.values.specs.declared.Explanation.{Explanation}
-use Rattle.values.specs.declared.Explanation.TheVariants.{Among, NotAmong, Refused}
 use Rattle.rules.specs.Tree.{Constant}
 use Rattle.rules.specs.Read.{manifest_of}
 use Rattle.rules.specs.Outcome.{Outcome, refused, done, ◌>>=◌, or_refuse}
@@ -16,6 +14,7 @@ use Rattle.rules.specs.State.{Attribute, SetParts, Entry, State}
 use Rattle.rules.specs.Evaluate.{first_with, is_entry, is_attribute}
 use Rattle.rules.specs.Types.{Types}
 use Rattle.rules.specs.Compile.{string_number, run_manifest, final_state, memory_of}
+use Rattle.values.specs.Answers.{Explanation, among_none, among_part, refused_for}
 
 -- ---- The part
 
@@ -83,7 +82,7 @@ found_in strings entries type title attribute = do
 
 -- ""Not among them" comes back precisely when the set lacks the label."
 unfoldable pub answer_for : (label place : ℕ) → Found → Explanation
-answer_for label place found = elim (has found.attribute.content.labels label) [ true ↦ Among (first_part found.parts label) place | false ↦ NotAmong ]
+answer_for label place found = elim (has found.attribute.content.labels label) [ true ↦ among_part (first_part found.parts label) place | false ↦ among_none ]
 
 unfoldable pub explained : Types → (manifest device type title attribute : List ℕ) → (label memory_length : ℕ) → Outcome Explanation
 explained types manifest device type title attribute label memory_length = do
@@ -92,7 +91,7 @@ explained types manifest device type title attribute label memory_length = do
   done (answer_for label (lowest_place types manifest device label) found)
 
 unfoldable pub explanation_of : Outcome Explanation → Explanation
-explanation_of (refused reason place) = Refused reason place
+explanation_of (refused reason place) = refused_for reason place
 explanation_of (done explanation) = explanation
 
 -- what a call answers, and all bytes of the memory lent to it, as they are after it

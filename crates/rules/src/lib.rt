@@ -1,7 +1,10 @@
-// The types of document 01's list of fields. What they mean, and the rules themselves, stand in specs/; nothing runs here.
+// The types of document 01's list of fields, and a fault. What they mean, and the rules themselves, stand in specs/; but for the making of a fault nothing runs here.
 #![tactic(auto)]
 
-use values::Reason;
+ghost use Rattle.std.specs.Prelude.{◌≡◌, ◌≤◌, Err};
+ghost use Rattle.rules.specs.Verdicts.{fault_at};
+
+use values::{Reason, Refusal};
 
 // What may stand at a position of a manifest.
 #[derive(Clone, Copy)]
@@ -83,9 +86,30 @@ pub enum Next {
     Wrong,
 }
 
-// What the check before running finds: no fault, or the first one with its place.
+// The first fault that the check before running finds, with its place.
 #[derive(Clone, Copy)]
-pub enum Verdict {
-    Sound,
-    Fault { reason: Reason, place: usize },
+pub struct Fault {
+    pub reason: Reason,
+    pub place: usize,
 }
+
+impl Fault {
+    // The fault of this kind at a place.
+    pub fn at(reason: Reason, place: usize) -> Self
+        ensures { Err result ≡ fault_at reason place }
+    {
+        Self { reason, place }
+    }
+}
+
+// The refusal of a manifest, or of a list of types, with this fault: its place is one that a refusal can name.
+impl From<Fault> for Refusal {
+    ghost from_gives = { λ f r. (r.reason ≡ f.reason) × (f.place ≤ 65535 → r.place ≡ f.place) };
+
+    fn from(fault: Fault) -> Refusal {
+        Refusal::at(fault.reason, values::place(fault.place))
+    }
+}
+
+// What that check finds: no fault, or the first one.
+pub type Verdict = Result<(), Fault>;

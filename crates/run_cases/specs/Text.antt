@@ -1,24 +1,10 @@
--- Places in a text, and numbers and bytes as text.
+-- Numbers and bytes as text.
 use Rattle.std.specs.Prelude.{ℕ, zero, suc, ◌+◌, ◌*◌, ◌-◌, ◌/◌, ◌%◌, ◌≤◌, ◌<◌, min, ◌≡◌, List, [], ◌∷◌, ltb, leb, length, take}
 use Rattle.wire.specs.Bytes.{byte, pick}
 
 -- the first n of the bytes are n
 abbrev pub IsPrefixLen : ℕ → List ℕ → Type 0
 IsPrefixLen n xs = (n ≤ length xs) × (n ≡ length (take n xs))
-
--- r is the place of the first byte b from p on, or the end
-pub record FirstAt (text : List ℕ) (p b r : ℕ) : Type 0 where
-  pub from : p ≤ r
-  pub within : r ≤ length text
-  pub before : (k : ℕ) → k < r → p ≤ k → byte text k ≡ b → ⊥
-  pub found : r < length text → byte text r ≡ b
-
--- r is the place after the first space from p on, or the end where there is none
-pub record AfterSpace (text : List ℕ) (p r : ℕ) : Type 0 where
-  pub space : ℕ
-  pub first : FirstAt text p 32 space
-  pub after : r ≡ min (space + 1) (length text)
-  pub within : r ≤ length text
 
 -- the value of a hexadecimal digit, 0 to 9 and a to f; 16 for any other byte
 unfoldable pub hex_value : ℕ → ℕ

@@ -1,33 +1,7 @@
-// Places in a text, and numbers and bytes as text.
+// Numbers and bytes as text.
 ghost use Rattle.std.specs.Prelude.{◌≡◌, ◌+◌, ◌*◌, ◌/◌, ◌≤◌, ◌<◌, min, length};
 ghost use Rattle.wire.specs.Runs.{over};
-ghost use Rattle.run_cases.specs.Text.{IsPrefixLen, FirstAt, AfterSpace, hex_value, hex_digit, pair_at, pairs, hex_text, number_up_to};
-
-// ---- Places
-
-// The place of the first `wanted` from `from` on, or the end.
-pub fn find(text: &[u8], from: usize, wanted: u8) -> usize
-    requires { from ≤ length text.now }
-    ensures { FirstAt text.now from wanted result }
-{
-    let mut at = from;
-    while at < text.len() {
-        if text[at] == wanted {
-            return at;
-        }
-        at += 1;
-    }
-    at
-}
-
-// The place after the next space, or the end.
-pub fn next_part(line: &[u8], from: usize) -> usize
-    requires { from ≤ length line.now }
-    ensures { AfterSpace line.now from result }
-{
-    let end = find(line, from, b' ');
-    if end < line.len() { end + 1 } else { end }
-}
+ghost use Rattle.run_cases.specs.Text.{IsPrefixLen, hex_value, hex_digit, pair_at, pairs, hex_text, number_up_to};
 
 // ---- Reading
 
@@ -54,14 +28,9 @@ fn hex_value(b: u8) -> u8
 fn with_digit(n: usize, digit: u8, most: usize) -> usize
     ensures { result ≡ min most (n * 10 + digit) }
 {
-    if most / 10 < n {
-        return most;
-    }
-    let ten = n * 10;
-    if most - ten < digit as usize {
-        return most;
-    }
-    ten + digit as usize
+    n.saturating_mul(10)
+        .saturating_add(digit as usize)
+        .min(most)
 }
 
 // The decimal number at the start, or `most` where it is larger.
@@ -70,14 +39,12 @@ pub fn read_number(text: &[u8], most: usize) -> usize
     ensures upper_bound { result ≤ most }
 {
     let mut n: usize = 0;
-    let mut i = 0;
-    while i < text.len() {
-        let digit = hex_value(text[i]);
+    for byte in text {
+        let digit = hex_value(*byte);
         if 9 < digit {
             return n;
         }
         n = with_digit(n, digit, most);
-        i += 1;
     }
     n
 }
@@ -138,26 +105,17 @@ fn hex_digit(value: u8) -> u8
     if value < 10 { 48 + value } else { 87 + value }
 }
 
-fn least(a: usize, b: usize) -> usize
-    ensures { result ≡ min a b }
-{
-    if a < b { a } else { b }
-}
-
 // Two digits for each of the first `count` bytes, as far as there are bytes and `into` holds the digits. Answers how many digits.
 pub fn put_hex(into: &mut [u8], bytes: &[u8], count: usize) -> usize
     ensures into_after { into.new ≡ over into.old 0 (hex_text (min (min count (length bytes.now)) (length into.old / 2)) bytes.now 0) }
     ensures prefix_len { IsPrefixLen result into.new }
     ensures value { result ≡ 2 * min (min count (length bytes.now)) (length into.old / 2) }
 {
-    let some = least(count, bytes.len());
-    let all = least(some, into.len() / 2);
-    let mut n: usize = 0;
-    while n < all {
+    let all = count.min(bytes.len()).min(into.len() / 2);
+    for n in 0..all {
         let b = bytes[n];
         into[2 * n] = hex_digit(b / 16);
         into[2 * n + 1] = hex_digit(b % 16);
-        n += 1;
     }
-    2 * n
+    2 * all
 }

@@ -17,9 +17,8 @@ use Rattle.values.specs.Decimal.{decimal, signed_decimal, wrote, write_text}
 use Rattle.values.proofs.Parts.{in_range_lem}
 use Rattle.values.proofs.Digits.{text_fits, decimal_short, signed_short}
 use Rattle.catalog.specs.Making.{stored, cleared_from}
-use Rattle.schedule.specs.declared.Written.{Written}
-use Rattle.schedule.specs.declared.Written.TheVariants.{Length, TooLong}
 use Rattle.schedule.specs.Appending.{length_with, appended, finished, fitted}
+use Rattle.std.specs.Prelude.{Option, Some, None}
 
 -- an answer and bytes that are stored are known by what they are stored with
 pub answer_same : {A : Type 0} {r s : A} {b c : List ℕ} → stored r b ≡ stored s c → r ≡ s
@@ -88,11 +87,11 @@ no_piece_lem at line = let e : at ≡ length_with 0 at (length line) = omega ari
 
 -- ---- A line is finished
 
-pub finished_long : (at : ℕ) (line : List ℕ) {b : List ℕ} → length line < at → b ≡ cleared_from 0 line → stored TooLong b ≡ finished at line
+pub finished_long : (at : ℕ) (line : List ℕ) {b : List ℕ} → length line < at → b ≡ cleared_from 0 line → stored None b ≡ finished at line
 unfolding finished
 finished_long at line h e = rw (lt-ltb (length line) at h, e)
 
-pub finished_whole : (at : ℕ) (line : List ℕ) {b : List ℕ} → at ≤ length line → b ≡ cleared_from at line → stored (Length at) b ≡ finished at line
+pub finished_whole : (at : ℕ) (line : List ℕ) {b : List ℕ} → at ≤ length line → b ≡ cleared_from at line → stored (Some at) b ≡ finished at line
 unfolding finished
 finished_whole at line h e = rw (le-ltb (length line) at h, e)
 
@@ -100,7 +99,7 @@ pub cleared_all : (line : List ℕ) → cleared_from 0 line ≡ zeros (length li
 unfolding cleared_from
 cleared_all line = let e : length line - 0 ≡ length line = omega arith in ap zeros e
 
-pub line_finished : (text line : List ℕ) {at : ℕ} {r : Written} {b c : List ℕ} → stored at b ≡ appended text 0 line → stored r c ≡ finished at b → stored r c ≡ fitted text (length line)
+pub line_finished : (text line : List ℕ) {at : ℕ} {r : Option ℕ} {b c : List ℕ} → stored at b ≡ appended text 0 line → stored r c ≡ finished at b → stored r c ≡ fitted text (length line)
 unfolding appended length_with finished fitted cleared_from
 line_finished text line {at} {r} {b} {c} whole end = end ∙ go (ltb (length line) (length text)) refl
   where
@@ -116,14 +115,14 @@ line_finished text line {at} {r} {b} {c} whole end = end ∙ go (ltb (length lin
     go : (x : Bool) → ltb (length line) (length text) ≡ x → finished at b ≡ fitted text (length line)
     go true h =
         let long : length line < length text = ltb-true (length line) (length text) h in
-        rw (lt-ltb (length b) at (omega (arith, ea, room)), h) (ap (stored TooLong) (cleared_all b ∙ ap zeros room))
+        rw (lt-ltb (length b) at (omega (arith, ea, room)), h) (ap (stored None) (cleared_all b ∙ ap zeros room))
     go false h =
         let fits : length text ≤ length line = ltb-false (length line) (length text) h in
         let n : at ≡ length text = omega (arith, ea) in
         let none : length text ≡ 0 + length text = omega arith in
         let front : take (length text) b ≡ text = ap (λ (k : ℕ). take k b) none ∙ ap (take (0 + length text)) eb ∙ over_front line 0 text (omega arith) in
         let bytes : cleared_from at b ≡ text ++ zeros (length line - length text) = rw (n, room) (ap (λ (l : List ℕ). l ++ zeros (length line - length text)) front) in
-        rw (le-ltb (length b) at (omega (arith, room)), h) (ap (λ (l : List ℕ). stored (Length at) l) bytes ∙ ap (λ (k : ℕ). stored (Length k) (text ++ zeros (length line - length text))) n)
+        rw (le-ltb (length b) at (omega (arith, room)), h) (ap (λ (l : List ℕ). stored (Some at) l) bytes ∙ ap (λ (k : ℕ). stored (Some k) (text ++ zeros (length line - length text))) n)
 
 -- ---- The pieces of a line
 

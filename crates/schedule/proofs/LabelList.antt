@@ -8,8 +8,6 @@ use native.Mathlib.Omega.{arith}
 use borrow.Author.Tests.{ne_eqb}
 use lib.Dec.{eqb}
 use Rattle.labels.specs.declared.Labels.{Labels}
-use Rattle.labels.specs.declared.NextLabel.{NextLabel}
-use Rattle.labels.specs.declared.NextLabel.TheVariants.{At, Nothing}
 use Rattle.labels.specs.Sets.{has}
 use Rattle.labels.specs.Search.{first_of, next_from}
 use Rattle.wire.specs.Bytes.{pick}
@@ -17,6 +15,7 @@ use Rattle.rules.specs.Schedule.{decimal, labels_up, with_commas}
 use Rattle.catalog.specs.Making.{Stored, stored}
 use Rattle.schedule.specs.Appending.{appended, one_label_text}
 use Rattle.schedule.proofs.Appending.{pieces_join, no_piece_lem}
+use Rattle.std.specs.Prelude.{Option, Some, None}
 
 -- ---- The label found
 
@@ -26,12 +25,12 @@ record FirstUp (s : Labels) (k n j : ℕ) : Type 0 where
   below : j < n + k
   up : labels_up s k n ≡ j ∷ labels_up s (n + k - suc j) (suc j)
 
-first_up : (s : Labels) (k n j : ℕ) → first_of s k n ≡ At j → FirstUp s k n j
+first_up : (s : Labels) (k n j : ℕ) → first_of s k n ≡ Some j → FirstUp s k n j
 unfolding first_of labels_up
 first_up s zero n j e = let z : ◌≡◌ {A = ℕ} 0 1 = cc in absurd (omega arith)
 first_up s (suc k) n j e = go (λ h. first_up s k (suc n) j h) (has s n) refl e
   where
-    go : (first_of s k (suc n) ≡ At j → FirstUp s k (suc n) j) → (b : Bool) → has s n ≡ b → elim b [ true ↦ At n | false ↦ first_of s k (suc n) ] ≡ At j → FirstUp s (suc k) n j
+    go : (first_of s k (suc n) ≡ Some j → FirstUp s k (suc n) j) → (b : Bool) → has s n ≡ b → elim b [ true ↦ Some n | false ↦ first_of s k (suc n) ] ≡ Some j → FirstUp s (suc k) n j
     go later true h e =
         let same : n ≡ j = cc in
         let left : k ≡ n + suc k - suc n = omega arith in
@@ -51,12 +50,12 @@ first_up s (suc k) n j e = go (λ h. first_up s k (suc n) j h) (has s n) refl e
           up = ap (λ (b : Bool). elim b [ true ↦ n ∷ labels_up s k (suc n) | false ↦ labels_up s k (suc n) ]) h ∙ f.up ∙ ap (λ (i : ℕ). j ∷ labels_up s i (suc j)) left;
         }
 
-none_up : (s : Labels) (k n : ℕ) → first_of s k n ≡ Nothing → labels_up s k n ≡ []
+none_up : (s : Labels) (k n : ℕ) → first_of s k n ≡ None → labels_up s k n ≡ []
 unfolding first_of labels_up
 none_up s zero n e = refl
 none_up s (suc k) n e = go (none_up s k (suc n)) (has s n) e
   where
-    go : (first_of s k (suc n) ≡ Nothing → labels_up s k (suc n) ≡ []) → (b : Bool) → elim b [ true ↦ At n | false ↦ first_of s k (suc n) ] ≡ Nothing → ◌≡◌ {A = List ℕ} (elim b [ true ↦ n ∷ labels_up s k (suc n) | false ↦ labels_up s k (suc n) ]) []
+    go : (first_of s k (suc n) ≡ None → labels_up s k (suc n) ≡ []) → (b : Bool) → ◌≡◌ {A = Option ℕ} (elim b [ true ↦ Some n | false ↦ first_of s k (suc n) ]) None → ◌≡◌ {A = List ℕ} (elim b [ true ↦ n ∷ labels_up s k (suc n) | false ↦ labels_up s k (suc n) ]) []
     go later true e = let z : ◌≡◌ {A = ℕ} 0 1 = cc in absurd (omega arith)
     go later false e = later e
 
@@ -80,8 +79,8 @@ pub list_whole : (s : Labels) → list_from s 0 ≡ with_commas (labels_up s 256
 unfolding list_from
 list_whole s = refl
 
-module _ (s : Labels) (from : ℕ) {r : NextLabel} (found : r ≡ next_from s from) where
-  module _ (n : ℕ) (is : r ≡ At n) where
+module _ (s : Labels) (from : ℕ) {r : Option ℕ} (found : r ≡ next_from s from) where
+  module _ (n : ℕ) (is : r ≡ Some n) where
     its_first : FirstUp s (256 - from) from n
     unfolding next_from
     its_first = first_up s (256 - from) from n (sym found ∙ is)
@@ -109,7 +108,7 @@ module _ (s : Labels) (from : ℕ) {r : NextLabel} (found : r ≡ next_from s fr
         pieces_join (one_label_text (eqb from 0) n) (list_from s (n + 1)) at line put ∙ ap (λ (t : List ℕ). appended t at line) (sym list_more) ∙ inv
 
   -- and its end
-  pub labels_done : {whole : Stored ℕ} (at : ℕ) (line : List ℕ) → r ≡ Nothing → appended (list_from s from) at line ≡ whole → stored at line ≡ whole
+  pub labels_done : {whole : Stored ℕ} (at : ℕ) (line : List ℕ) → r ≡ None → appended (list_from s from) at line ≡ whole → stored at line ≡ whole
   unfolding list_from next_from each_with_comma with_commas
   labels_done {whole} at line is inv =
       let none : labels_up s (256 - from) from ≡ [] = none_up s (256 - from) from (sym found ∙ is) in

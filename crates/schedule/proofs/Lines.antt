@@ -21,14 +21,14 @@ use Rattle.catalog.specs.Making.{stored, cleared_from}
 use Rattle.schedule.specs.declared.Position.{Position}
 use Rattle.schedule.specs.declared.Subject.{Subject}
 use Rattle.schedule.specs.declared.Subject.TheVariants.{AnAttribute, NoAttributes, End as NoMore, NotACatalog as Unreadable}
-use Rattle.schedule.specs.declared.Written.{Written}
-use Rattle.schedule.specs.declared.Line.{Line}
-use Rattle.schedule.specs.declared.Line.TheVariants.{End, NotACatalog}
+use Rattle.schedule.specs.declared.LineError.{LineError}
+use Rattle.schedule.specs.declared.LineError.TheVariants.{TooLong}
 use Rattle.schedule.specs.Appending.{fitted}
 use Rattle.schedule.specs.Subjects.{entry_position, position, entry_stands, attribute_stands, next_in, subject_in, subject_at, attribute_at, head_at}
-use Rattle.schedule.specs.Lines.{line_of, with_next, line_for, next_line}
+use Rattle.schedule.specs.Lines.{Line, text, no_more, not_a_catalog, line_of, with_next, line_for, next_line}
 use Rattle.schedule.proofs.Appending.{cleared_all}
 use Rattle.schedule.proofs.Tests.{stands_within, stands_sized, attribute_within}
+use Rattle.std.specs.Prelude.{Option, Some, None, Result, Ok, Err, ok_or}
 
 -- ---- The texts, piece by piece
 
@@ -48,12 +48,23 @@ module _ (ss : List (List ℕ)) (m : List ℕ) (p : ℕ) where
 
 -- ---- The ways of `next_line`
 
+-- a line that was written, or that did not fit
+pub line_written : (next : Position) (w : Option ℕ) {a : Result ℕ LineError} {n : ℕ} → a ≡ ok_or w TooLong → a ≡ Ok n → text n next ≡ line_of next w
+unfolding line_of
+line_written next (Some m) {a} {n} asked is = let same : n ≡ m = cc in rw same
+line_written next None asked is = let z : ◌≡◌ {A = ℕ} 0 1 = cc in absurd (omega arith)
+
+pub line_too_long : (next : Position) (w : Option ℕ) {a : Result ℕ LineError} {e : LineError} → a ≡ ok_or w TooLong → a ≡ Err e → ◌≡◌ {A = Line} (Err e) (line_of next w)
+unfolding line_of
+line_too_long next (Some m) asked is = let z : ◌≡◌ {A = ℕ} 0 1 = cc in absurd (omega arith)
+line_too_long next None {a} {e} asked is = let same : e ≡ TooLong = cc in rw same
+
 module _ (ss : List (List ℕ)) (m : List ℕ) (at : Position) (room : ℕ) {s : Subject} (found : s ≡ subject_at m at) where
   by_subject : {t : Subject} → s ≡ t → line_for ss m at room t ≡ next_line ss m at room
   unfolding next_line
   by_subject is = ap (line_for ss m at room) (sym is ∙ found)
 
-  module _ (next : Position) {w : Written} {r : Line} {b : List ℕ} (joined : r ≡ line_of next w) where
+  module _ (next : Position) {w : Option ℕ} {r : Line} {b : List ℕ} (joined : r ≡ line_of next w) where
     pub attribute_shown : s ≡ AnAttribute next → stored w b ≡ fitted (attribute_line ss (head_at m at.entry) (attribute_at m at.attribute)) room → stored r b ≡ next_line ss m at room
     unfolding line_for with_next
     attribute_shown is line = ap (λ (x : Line). stored x b) joined ∙ ap (with_next next) line ∙ by_subject is
@@ -66,13 +77,13 @@ module _ (ss : List (List ℕ)) (m : List ℕ) (at : Position) (room : ℕ) {s :
     no_line : b ≡ zeros room
     no_line = cleared ∙ cleared_all line ∙ ap zeros same
 
-    pub end_shown : s ≡ NoMore → stored End b ≡ next_line ss m at room
+    pub end_shown : s ≡ NoMore → stored no_more b ≡ next_line ss m at room
     unfolding line_for
-    end_shown is = ap (stored End) no_line ∙ by_subject is
+    end_shown is = ap (stored no_more) no_line ∙ by_subject is
 
-    pub unreadable_shown : s ≡ Unreadable → stored NotACatalog b ≡ next_line ss m at room
+    pub unreadable_shown : s ≡ Unreadable → stored not_a_catalog b ≡ next_line ss m at room
     unfolding line_for
-    unreadable_shown is = ap (stored NotACatalog) no_line ∙ by_subject is
+    unreadable_shown is = ap (stored not_a_catalog) no_line ∙ by_subject is
 
 -- ---- A line stands within the bytes, and the next position is further on
 

@@ -30,10 +30,9 @@ use Rattle.catalog.proofs.Making.{attribute_size}
 use Rattle.catalog.proofs.Entries.{entry_body_lem, after_type, after_title_lem, attribute_body_lem, after_labels, attributes_listed, labels_back, content_back, entry_first, attribute_first}
 use Rattle.schedule.specs.declared.Position.{Position}
 use Rattle.schedule.specs.declared.Subject.{Subject}
-use Rattle.schedule.specs.declared.Line.TheVariants.{Text}
 use Rattle.schedule.specs.Appending.{fitted}
 use Rattle.schedule.specs.Subjects.{position, entry_position, start, value_right, entry_stands, attribute_stands, next_in, subject_in, subject_at, attribute_at, head_at}
-use Rattle.schedule.specs.Lines.{line_of, with_next, line_for, next_line, Prints, ends, more}
+use Rattle.schedule.specs.Lines.{text, line_of, with_next, line_for, next_line, Prints, ends, more}
 use Rattle.schedule.proofs.Tests.{entry_end, value_tested, next_entry, next_attribute, no_attributes, an_attribute, at_end_lem, in_entry}
 use Rattle.schedule.proofs.Sizes.{attribute_line_short, resource_line_short}
 
@@ -123,7 +122,7 @@ module _ (ss : List (List ℕ)) (m : List ℕ) (room : ℕ) where
   shown : (t : List ℕ) {at next : Position} {rest : List ℕ} → length t ≤ room → next_line ss m at room ≡ with_next next (fitted t room) → Prints ss m room next rest → Prints ss m room at (t ++ rest)
   unfolding with_next fitted line_of
   shown t {at} {next} h e p =
-      let line : next_line ss m at room ≡ stored (Text (length t) next) (t ++ zeros (room - length t)) = e ∙ rw (le-ltb room (length t) h) in
+      let line : next_line ss m at room ≡ stored (text (length t) next) (t ++ zeros (room - length t)) = e ∙ rw (le-ltb room (length t) h) in
       rw (take-append_seam t (zeros (room - length t))) at (more line p)
 
   module _ (short : Each Short ss) (wide : 2048 ≤ room) (size : length m ≤ 65535) where

@@ -14,7 +14,7 @@ use Rattle.values.proofs.Digits.{decimal_short, signed_short}
 use Rattle.rules.specs.State.{Attribute, Entry}
 use Rattle.rules.specs.Compile.{string_at}
 use Rattle.rules.specs.Schedule.{boolean_text, value_text, labels_up, with_commas, labels_text, line_start, attribute_line, entry_lines_by, steps_line, refusal_line}
-use Rattle.rules.proofs.Lists.{Each, none_left, also}
+use Rattle.rules.proofs.Lists.{Each}
 use Rattle.rules.proofs.ReadBack.{FitsValue, fits_integer, fits_string, fits_boolean}
 use Rattle.syntax.proofs.StringsRead.{Short, numbered_short}
 use Rattle.schedule.proofs.LabelList.{each_with_comma, with_commas_lem}

@@ -3,7 +3,7 @@
 use mathlib.Core.Path.{◌≡◌, refl, sym, ap, subst⁻¹, ◌∙◌}
 use mathlib.Core.Bool.{◌||◌}
 use mathlib.Core.List.{List, [], ◌∷◌, ◌++◌}
-use Prim.Native.Nat.{ℕ, suc, ◌+◌, ◌*◌, ◌-◌, ◌≤◌, ◌<◌}
+use Prim.Native.Nat.{ℕ, suc, ◌+◌, ◌*◌, ◌≤◌, ◌<◌}
 use native.Mathlib.Omega.{arith}
 use borrow.Author.Tests.{ltb-false}
 use lib.Dec.{eqb, ltb}
@@ -12,8 +12,6 @@ use lib.Seq.{take-append_seam}
 use Rattle.values.specs.declared.Reason.{Reason}
 use Rattle.values.specs.Numbers.{number_of}
 use Rattle.values.proofs.Reasons.{number_range}
-use Rattle.rules.specs.declared.Verdict.{Verdict}
-use Rattle.rules.specs.declared.Verdict.TheVariants.{Sound, Fault}
 use Rattle.rules.specs.Bytes.{two}
 use Rattle.rules.specs.Check.{check, string_places}
 use Rattle.rules.specs.Read.{manifest_of}
@@ -35,6 +33,8 @@ use Rattle.schedule.specs.Subjects.{start}
 use Rattle.schedule.specs.Lines.{Prints}
 use Rattle.schedule.proofs.Sizes.{refusal_line_short}
 use Rattle.schedule.proofs.Printing.{catalog_prints}
+use Rattle.std.specs.Prelude.{Ok, Err}
+use Rattle.rules.specs.Verdicts.{Verdict, no_fault}
 
 -- ---- The strings by an index
 
@@ -58,7 +58,7 @@ strings_indexed m index strings i =
     ap (λ (k : ℕ). texts_at m (places_from index k 0)) count ∙ ap (texts_at m) places
 
 -- those of the index that `index_strings` leaves in a table with room for 1,024 places
-pub index_right : (m table : List ℕ) → check m ≡ Sound → length m ≤ 65535 → 2048 ≤ length table → strings_by m (indexed m table) (length (string_places m)) ≡ (manifest_of m).strings
+pub index_right : (m table : List ℕ) → check m ≡ no_fault → length m ≤ 65535 → 2048 ≤ length table → strings_by m (indexed m table) (length (string_places m)) ≡ (manifest_of m).strings
 index_right m table w short room = strings_indexed m (indexed m table) (length (string_places m)) (table_holds m table w short room) ∙ sym (strings_read m w)
 
 -- ---- The line of a refusal is short
@@ -69,17 +69,17 @@ refusal_short r p h = refusal_line_short (number_of r) p (omega (arith, number_r
 
 -- ---- What is accepted was checked
 
-checked_sound : (v : Verdict) → All (λ (u : Unit {0}). v ≡ Sound) (checked v)
+checked_sound : (v : Verdict) → All (λ (u : Unit {0}). v ≡ no_fault) (checked v)
 unfolding checked
-checked_sound Sound = all_done refl
-checked_sound (Fault r p) = all_refused
+checked_sound (Ok tt) = all_done refl
+checked_sound (Err f) = all_refused
 
 always : {A : Type 0} {P : Type 0} (o : Outcome A) → P → All (λ (a : A). P) o
 always (refused r p) h = all_refused
 always (done a) h = all_done h
 
 pub record Checked (m : List ℕ) : Type 0 where
-  pub sound : check m ≡ Sound
+  pub sound : check m ≡ no_fault
   pub short : length m ≤ 65535
 
 final_checked : (m device : List ℕ) (limit output memory : ℕ) → All (λ (st : State). Checked m) (final_state the_eight m device limit output memory)

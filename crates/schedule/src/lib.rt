@@ -8,9 +8,9 @@ ghost use Rattle.values.specs.Numbers.{number_of};
 ghost use Rattle.schedule.specs.Appending.{appended, fitted};
 ghost use Rattle.schedule.specs.Strings.{strings_by};
 ghost use Rattle.schedule.specs.Subjects.{attribute_at, head_at};
-ghost use Rattle.schedule.specs.Lines.{line_of, next_line};
+ghost use Rattle.schedule.specs.Lines.{next_line};
 
-use crate::pieces::{finish, put_labels, put_number, put_text, put_value, put_word};
+use crate::pieces::{Strings, finish, put_labels, put_number, put_text, put_value, put_word};
 use crate::subjects::subject_at;
 use catalog::layout::{ATTRIBUTE_NAME, ENTRY_ATTRIBUTES, ENTRY_LABELS, ENTRY_TITLE, ENTRY_TYPE};
 use labels::Labels;
@@ -34,13 +34,6 @@ impl Position {
     };
 }
 
-// What writing a line answers: how long it is, or that it does not fit.
-#[derive(Clone, Copy)]
-pub enum Written {
-    Length(usize),
-    TooLong,
-}
-
 // What a line tells of, with the position of the next line.
 #[derive(Clone, Copy)]
 enum Subject {
@@ -50,12 +43,16 @@ enum Subject {
     NotACatalog,
 }
 
-// What asking for a line answers: its length and where the next one is; that there are no more; that the buffer is too short for it; or that
-// what stands at the position is no entry or attribute of a catalog.
+// A line that was written: its length, and where the next one is.
 #[derive(Clone, Copy)]
-pub enum Line {
-    Text { length: usize, next: Position },
-    End,
+pub struct Text {
+    pub length: usize,
+    pub next: Position,
+}
+
+// Why a line was not written: the buffer is too short for it, or what stands at the position is no entry or attribute of a catalog.
+#[derive(Clone, Copy)]
+pub enum LineError {
     TooLong,
     NotACatalog,
 }
@@ -63,21 +60,14 @@ pub enum Line {
 // ---- The lines of entries
 
 // The type and the title of the entry at `p`, at the start of its line.
-fn put_start(
-    catalog: &[u8],
-    p: usize,
-    manifest: &[u8],
-    index: &[u8],
-    strings: u16,
-    line: &mut [u8],
-) -> usize
+fn put_start(catalog: &[u8], p: usize, strings: Strings<'_>, line: &mut [u8]) -> usize
     requires { p ≤ 65535 }
-    ensures { stored result line.new ≡ appended (line_start (strings_by manifest.now index.now strings) (head_at catalog.now p)) 0 line.old }
+    ensures { stored result line.new ≡ appended (line_start (strings_by strings.entry.manifest.now strings.entry.index.now strings.entry.count) (head_at catalog.now p)) 0 line.old }
 {
     let kind = wire::two_at(catalog, p + ENTRY_TYPE);
     let title = wire::two_at(catalog, p + ENTRY_TITLE);
-    let end = put_word(line, 0, manifest, index, strings, kind);
-    put_word(line, end, manifest, index, strings, title)
+    let end = put_word(line, 0, strings, kind);
+    put_word(line, end, strings, title)
 }
 
 // The line of the attribute at `q`, in the entry at `p`.
@@ -85,54 +75,36 @@ fn attribute_line(
     catalog: &[u8],
     p: usize,
     q: usize,
-    manifest: &[u8],
-    index: &[u8],
-    strings: u16,
+    strings: Strings<'_>,
     line: &mut [u8],
-) -> Written
+) -> Option<usize>
     requires { (p ≤ 65535) × (q ≤ 65535) }
-    ensures { stored result line.new ≡ fitted (attribute_line (strings_by manifest.now index.now strings) (head_at catalog.now p) (attribute_at catalog.now q)) (length line.old) }
+    ensures { stored result line.new ≡ fitted (attribute_line (strings_by strings.entry.manifest.now strings.entry.index.now strings.entry.count) (head_at catalog.now p) (attribute_at catalog.now q)) (length line.old) }
 {
     let name = wire::two_at(catalog, q + ATTRIBUTE_NAME);
     let content = catalog::read_attribute(catalog, q);
     let value = content.value;
     let labels = content.labels;
-    let start = put_start(catalog, p, manifest, index, strings, line);
-    let named = put_word(line, start, manifest, index, strings, name);
-    let shown = put_value(line, named, manifest, index, strings, value);
+    let start = put_start(catalog, p, strings, line);
+    let named = put_word(line, start, strings, name);
+    let shown = put_value(line, named, strings, value);
     let end = put_labels(line, shown, labels);
     finish(line, end)
 }
 
 // "A resource without attributes has "-" for attribute and value."
-fn resource_line(
-    catalog: &[u8],
-    p: usize,
-    manifest: &[u8],
-    index: &[u8],
-    strings: u16,
-    line: &mut [u8],
-) -> Written
+fn resource_line(catalog: &[u8], p: usize, strings: Strings<'_>, line: &mut [u8]) -> Option<usize>
     requires { p ≤ 65535 }
-    ensures { stored result line.new ≡ fitted (entry_lines_by (strings_by manifest.now index.now strings) (head_at catalog.now p) []) (length line.old) }
+    ensures { stored result line.new ≡ fitted (entry_lines_by (strings_by strings.entry.manifest.now strings.entry.index.now strings.entry.count) (head_at catalog.now p) []) (length line.old) }
 {
     let labels = Labels::read_at(catalog, p + ENTRY_LABELS);
-    let start = put_start(catalog, p, manifest, index, strings, line);
+    let start = put_start(catalog, p, strings, line);
     let none = put_text(line, start, b"- -");
     let end = put_labels(line, none, labels);
     finish(line, end)
 }
 
-fn with_next(written: Written, next: Position) -> Line
-    ensures { result ≡ line_of next written }
-{
-    match written {
-        Written::Length(length) => Line::Text { length, next },
-        Written::TooLong => Line::TooLong,
-    }
-}
-
-// The line at a position of a catalog. The strings are those of the manifest at the places that the index has; `syntax::strings::index_strings`
+// The line at a position of a catalog, or none behind the last one. The strings are those of the manifest at the places that the index has; `syntax::strings::index_strings`
 // fills it.
 pub fn next_line(
     catalog: &[u8],
@@ -141,27 +113,34 @@ pub fn next_line(
     index: &[u8],
     strings: u16,
     line: &mut [u8],
-) -> Line
+) -> Result<Option<Text>, LineError>
     ensures { stored result line.new ≡ next_line (strings_by manifest.now index.now strings) catalog.now at (length line.old) }
 {
     let p = at.entry;
     let q = at.attribute;
+    let texts = Strings {
+        manifest,
+        index,
+        count: strings,
+    };
     match subject_at(catalog, at) {
         Subject::AnAttribute(next) => {
-            let written = attribute_line(catalog, p, q, manifest, index, strings, line);
-            with_next(written, next)
+            let written = attribute_line(catalog, p, q, texts, line);
+            let length = written.ok_or(LineError::TooLong)?;
+            Ok(Some(Text { length, next }))
         }
         Subject::NoAttributes(next) => {
-            let written = resource_line(catalog, p, manifest, index, strings, line);
-            with_next(written, next)
+            let written = resource_line(catalog, p, texts, line);
+            let length = written.ok_or(LineError::TooLong)?;
+            Ok(Some(Text { length, next }))
         }
         Subject::End => {
             catalog::clear_rest(line, 0);
-            Line::End
+            Ok(None)
         }
         Subject::NotACatalog => {
             catalog::clear_rest(line, 0);
-            Line::NotACatalog
+            Err(LineError::NotACatalog)
         }
     }
 }
@@ -169,7 +148,7 @@ pub fn next_line(
 // ---- The last line, and the only one of a refusal
 
 // "The last line is "steps" and their number."
-pub fn steps_line(steps: u16, line: &mut [u8]) -> Written
+pub fn steps_line(steps: u16, line: &mut [u8]) -> Option<usize>
     ensures { stored result line.new ≡ fitted (steps_line steps) (length line.old) }
 {
     let word = put_text(line, 0, b"steps ");
@@ -179,7 +158,7 @@ pub fn steps_line(steps: u16, line: &mut [u8]) -> Written
 }
 
 // "A refusal prints only "refused", number, "at", place."
-pub fn refusal_line(reason: Reason, place: u16, line: &mut [u8]) -> Written
+pub fn refusal_line(reason: Reason, place: u16, line: &mut [u8]) -> Option<usize>
     ensures { stored result line.new ≡ fitted (refusal_line (number_of reason) place) (length line.old) }
 {
     let word = put_text(line, 0, b"refused ");

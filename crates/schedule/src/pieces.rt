@@ -6,8 +6,7 @@ ghost use Rattle.rules.specs.Schedule.{decimal, signed_decimal, boolean_text, va
 ghost use Rattle.schedule.specs.Appending.{appended, finished, one_label_text};
 ghost use Rattle.schedule.specs.Strings.{strings_by};
 
-use crate::Written;
-use labels::{Labels, NextLabel};
+use labels::Labels;
 use values::Value;
 use values::decimal::{put_signed, put_unsigned};
 
@@ -40,28 +39,34 @@ fn put_integer(line: &mut [u8], at: usize, z: i64) -> usize
     put_text(line, at, &digits[..count])
 }
 
-// The string with a number, at the place that the index has for it; past the last one an empty one.
-fn string_by<'a>(manifest: &'a [u8], index: &[u8], strings: u16, n: u16) -> &'a [u8]
-    ensures { result.now ≡ string_at (strings_by manifest.now index.now strings) n }
-{
-    if strings <= n {
-        return &manifest[0..0];
+// The strings of a manifest, at the places that an index has for them.
+#[derive(Clone, Copy)]
+pub struct Strings<'a> {
+    pub manifest: &'a [u8],
+    pub index: &'a [u8],
+    pub count: u16,
+}
+
+impl<'a> Strings<'a> {
+    // The string with a number; past the last one an empty one.
+    pub fn get(self, n: u16) -> &'a [u8]
+        ensures { result.now ≡ string_at (strings_by self.entry.manifest.now self.entry.index.now self.entry.count) n }
+    {
+        if self.count <= n {
+            return &self.manifest[0..0];
+        }
+        syntax::strings::text_of(
+            self.manifest,
+            wire::two_at(self.index, 2 * n as usize) as usize,
+        )
     }
-    syntax::strings::text_of(manifest, wire::two_at(index, 2 * n as usize) as usize)
 }
 
 // A string and a space.
-pub fn put_word(
-    line: &mut [u8],
-    at: usize,
-    manifest: &[u8],
-    index: &[u8],
-    strings: u16,
-    n: u16,
-) -> usize
-    ensures { stored result line.new ≡ appended (string_at (strings_by manifest.now index.now strings) n ++ (32 ∷ [])) at line.old }
+pub fn put_word(line: &mut [u8], at: usize, strings: Strings<'_>, n: u16) -> usize
+    ensures { stored result line.new ≡ appended (string_at (strings_by strings.entry.manifest.now strings.entry.index.now strings.entry.count) n ++ (32 ∷ [])) at line.old }
 {
-    let end = put_text(line, at, string_by(manifest, index, strings, n));
+    let end = put_text(line, at, strings.get(n));
     put_text(line, end, b" ")
 }
 
@@ -75,19 +80,12 @@ fn put_boolean(line: &mut [u8], at: usize, b: bool) -> usize
 }
 
 // "value (decimal, bytes, or true/false)"
-pub fn put_value(
-    line: &mut [u8],
-    at: usize,
-    manifest: &[u8],
-    index: &[u8],
-    strings: u16,
-    v: Value,
-) -> usize
-    ensures { stored result line.new ≡ appended (value_text (strings_by manifest.now index.now strings) v) at line.old }
+pub fn put_value(line: &mut [u8], at: usize, strings: Strings<'_>, v: Value) -> usize
+    ensures { stored result line.new ≡ appended (value_text (strings_by strings.entry.manifest.now strings.entry.index.now strings.entry.count) v) at line.old }
 {
     match v {
         Value::Integer(z) => put_integer(line, at, z),
-        Value::String(n) => put_text(line, at, string_by(manifest, index, strings, n)),
+        Value::String(n) => put_text(line, at, strings.get(n)),
         Value::Boolean(b) => put_boolean(line, at, b),
     }
 }
@@ -109,15 +107,11 @@ fn put_label_list(line: &mut [u8], at: usize, labels: Labels) -> usize
 {
     let mut end = at;
     let mut from: u16 = 0;
-    loop {
-        match labels.next(from) {
-            NextLabel::At(n) => {
-                end = put_label(line, end, from == 0, n);
-                from = n as u16 + 1;
-            }
-            NextLabel::Nothing => return end,
-        }
+    while let Some(n) = labels.next(from) {
+        end = put_label(line, end, from == 0, n);
+        from = n as u16 + 1;
     }
+    end
 }
 
 // "how many labels, the labels rising", and the line's end.
@@ -132,13 +126,13 @@ pub fn put_labels(line: &mut [u8], at: usize, labels: Labels) -> usize
 }
 
 // Zeros after the line, or everywhere if it does not fit.
-pub fn finish(line: &mut [u8], at: usize) -> Written
+pub fn finish(line: &mut [u8], at: usize) -> Option<usize>
     ensures { stored result line.new ≡ finished at line.old }
 {
     if line.len() < at {
         catalog::clear_rest(line, 0);
-        return Written::TooLong;
+        return None;
     }
     catalog::clear_rest(line, at);
-    Written::Length(at)
+    Some(at)
 }

@@ -1,25 +1,30 @@
 // A program's standard input, read as a line and what follows it or as a whole, and its standard output, with a count of what was written.
 #![tactic(auto)]
 
-ghost use Rattle.std.specs.Prelude.{◌≡◌, true, List, ℕ, ◌+◌, ◌<◌, length, take};
+ghost use Rattle.std.specs.Prelude.{◌≡◌, List, ℕ, ◌+◌, ◌<◌, length, take, IfOk, OnOk};
+ghost use Rattle.std.specs.ControlFlow.{MatchControlFlow};
 ghost use Rattle.input.specs.Reading.{reading, reading_of};
 ghost use Rattle.standard_streams.specs.Reading.{Holds};
 
 use input::Progress;
 use std::fmt::{self, Write};
 use std::io::{self, Input, Read};
+use std::ops::ControlFlow;
 use std::str;
 
 // How many pieces of input are read at most: enough for 4 GiB that come byte by byte.
 const MOST_PIECES: u64 = 4294967296;
 
-// What reading came to: there may be more, or all that matters is read.
-#[derive(Clone, Copy)]
-pub enum Taken {
-    More(Progress),
-    All(Progress),
+// Why an input was not read: it does not fit its buffer, or reading failed, of which standard error was told.
+#[derive(Clone, Copy, Debug, PartialEq, Eq)]
+pub enum NotRead {
+    TooLong,
     Failed,
 }
+
+// A text could not be written; standard error was told why.
+#[derive(Clone, Copy, Debug, PartialEq, Eq)]
+pub struct NotSent;
 
 // ---- Bytes
 
@@ -75,98 +80,80 @@ fn tell(rt: &impl Eprint, stream: &str, error: io::Error) {
 
 // ---- Reading
 
-// Reads one piece of the input.
+fn unread(rt: &impl Eprint, error: io::Error) -> NotRead {
+    tell(rt, "standard input", error);
+    NotRead::Failed
+}
+
+// Reads one piece of the input, and tells whether there may be more.
 fn read_piece<R: Eprint>(
     rt: &R,
     source: &mut impl Read,
     at: Progress,
     line: &mut [u8],
     rest: &mut [u8],
-) -> Taken
-    ensures { (d m input : List ℕ) → reading at line.old rest.old ≡ reading_of d m input → Holds d m line.new rest.new result }
+) -> Result<ControlFlow<Progress, Progress>, NotRead>
+    ensures { (d m input : List ℕ) → reading at line.old rest.old ≡ reading_of d m input → IfOk result (λ step. MatchControlFlow step (Holds d m line.new rest.new) (Holds d m line.new rest.new)) }
 {
     let mut piece = [0u8; 4096];
-    match source.read(&mut piece) {
-        Err(error) => {
-            tell(rt, "standard input", error);
-            Taken::Failed
-        }
-        Ok(0) => Taken::All(at),
-        Ok(n) => {
-            let next = input::feed(&piece[..n], at, line, rest);
-            if input::is_full(next) {
-                return Taken::All(next);
-            }
-            Taken::More(next)
-        }
+    let n = source.read(&mut piece).map_err(|error| unread(rt, error))?;
+    if n == 0 {
+        return Ok(ControlFlow::Break(at));
     }
-}
-
-fn too_many_pieces(rt: &impl Eprint) -> Taken
-    ensures { result ≡ Taken.Failed }
-{
-    let _ = eprintln!(rt; "standard input: too many pieces");
-    Taken::Failed
+    let next = input::feed(&piece[..n], at, line, rest);
+    if input::is_full(next) {
+        return Ok(ControlFlow::Break(next));
+    }
+    Ok(ControlFlow::Continue(next))
 }
 
 // Reads the first line and the rest, to the input's end or until what follows makes no difference.
-pub fn read_all<R: Input + Eprint>(rt: &R, line: &mut [u8], rest: &mut [u8]) -> Taken
-    ensures { Holds line.old rest.old line.new rest.new result }
+pub fn read_all<R: Input + Eprint>(
+    rt: &R,
+    line: &mut [u8],
+    rest: &mut [u8],
+) -> Result<Progress, NotRead>
+    ensures { IfOk result (Holds line.old rest.old line.new rest.new) }
 {
     let mut source = rt.reader();
     let mut at = input::start();
-    let mut left = MOST_PIECES;
-    while 0 < left {
-        let taken = read_piece(rt, &mut source, at, line, rest);
-        let Taken::More(further) = taken else {
-            return taken;
-        };
-        at = further;
-        left -= 1;
+    for _ in 0..MOST_PIECES {
+        match read_piece(rt, &mut source, at, line, rest)? {
+            ControlFlow::Break(all) => return Ok(all),
+            ControlFlow::Continue(more) => at = more,
+        }
     }
-    too_many_pieces(rt)
+    let _ = eprintln!(rt; "standard input: too many pieces");
+    Err(NotRead::Failed)
 }
 
-// How reading an input as a whole ended: with so many bytes, with as many as the buffer holds or more, or not at all.
-#[derive(Clone, Copy)]
-pub enum Whole {
-    Bytes(usize),
-    TooLong,
-    Failed,
-}
-
-// Reads all of standard input into the buffer, if it is shorter than that.
-pub fn read_whole<R: Input + Eprint>(rt: &R, buffer: &mut [u8]) -> Whole {
+// Reads all of standard input into the buffer, if it is shorter than that, and answers how many bytes it has.
+pub fn read_whole<R: Input + Eprint>(rt: &R, buffer: &mut [u8]) -> Result<usize, NotRead> {
     let mut source = rt.reader();
     let mut kept: usize = 0;
     while kept < buffer.len() {
         match source.read(&mut buffer[kept..]) {
-            Err(error) => {
-                tell(rt, "standard input", error);
-                return Whole::Failed;
-            }
-            Ok(0) => return Whole::Bytes(kept),
+            Err(error) => return Err(unread(rt, error)),
+            Ok(0) => return Ok(kept),
             Ok(more) => kept += more,
         }
     }
-    Whole::TooLong
+    Err(NotRead::TooLong)
 }
 
 // ---- Writing
 
+fn unsent(rt: &impl Eprint, error: io::Error) -> NotSent {
+    tell(rt, "standard output", error);
+    NotSent
+}
+
 // Writes a text out and counts its bytes, or tells on standard error that it cannot.
-pub fn send<R: Print + Eprint>(rt: &R, text: &[u8], sent: &mut u64) -> bool
+pub fn send<R: Print + Eprint>(rt: &R, text: &[u8], sent: &mut u64) -> Result<(), NotSent>
     requires { sent.old + length text.now < 18446744073709551616 }
-    ensures { result ≡ true → sent.new ≡ sent.old + length text.now }
+    ensures { OnOk result (sent.new ≡ sent.old + length text.now) }
 {
-    match rt.write_all(text) {
-        Ok(()) => {
-            *sent += text.len() as u64;
-            true
-        }
-        Err(error) => {
-            tell(rt, "standard output", error);
-            false
-        }
-    }
+    rt.write_all(text).map_err(|error| unsent(rt, error))?;
+    *sent += text.len() as u64;
+    Ok(())
 }

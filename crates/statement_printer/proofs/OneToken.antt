@@ -96,16 +96,16 @@ opening_token (class_variable c s) n = omega arith
 opening_token (mark k) n = opening k n
 
 -- a token is written
-pub token_passes : (t : Token) {a b : List ℕ} {pen pen' : Pen} {w : ℕ} → kind t < 255 → is_full pen ≡ false → Put a b pen pen' w t → Passes a b pen pen' (λ rest. at w t ∷ rest w)
+pub token_passes : (t : Token) {a b : List ℕ} {pen pen' : Pen} {w : ℕ} → is_full pen ≡ false → Put a b pen pen' w t → Passes a b pen pen' (λ rest. at w t ∷ rest w)
 unfolding token_bytes
-token_passes t {a} {b} {pen} {pen'} {w} known e put = record { goes = λ o v r g. go o v r g }
+token_passes t {a} {b} {pen} {pen'} {w} e put = record { goes = λ o v r g. go o v r g }
   where
     go : (out₀ whole : List ℕ) (rest : Rest) → Going out₀ a pen whole (at w t ∷ rest w) → Going out₀ b pen' whole (rest pen'.line)
     go o v r (full f l) = absurd (false_not_true (sym e ∙ f))
     go o v r (writing l h) =
         writing
         (omega (arith, l, put.bytes.filled, put.behind.brackets, opening_token t pen.brackets, length-append (gap_for pen (kind t) w) (spelling t)))
-        (subst (λ (u : ℕ). Halfway o b pen' v (r u)) (sym put.behind.line) (one_more h known put))
+        (subst (λ (u : ℕ). Halfway o b pen' v (r u)) (sym put.behind.line) (one_more h put))
 
 -- ---- Strings
 
@@ -127,12 +127,12 @@ stays e h = stays_full (sym e ∙ h)
 pub ready : {pen : Pen} {b : Bool} → b ≡ is_full pen → b ≡ false → Ready pen
 ready {pen} e h = not_full pen (sym e ∙ h)
 
-pub writes : (t : Token) {a b : List ℕ} {pen pen' : Pen} {w : ℕ} {x : Bool} → kind t < 255 → x ≡ is_full pen → x ≡ false → Put a b pen pen' w t → Passes a b pen pen' (λ rest. at w t ∷ rest w)
-writes t known e h put = token_passes t known (sym e ∙ h) put
+pub writes : (t : Token) {a b : List ℕ} {pen pen' : Pen} {w : ℕ} {x : Bool} → x ≡ is_full pen → x ≡ false → Put a b pen pen' w t → Passes a b pen pen' (λ rest. at w t ∷ rest w)
+writes t e h put = token_passes t (sym e ∙ h) put
 
 -- the same of a token that is known by another name
-pub writes_as : {t : Token} (t' : Token) {a b : List ℕ} {pen pen' : Pen} {w : ℕ} {x : Bool} → kind t' < 255 → t ≡ t' → x ≡ is_full pen → x ≡ false → Put a b pen pen' w t → Passes a b pen pen' (λ rest. at w t' ∷ rest w)
-writes_as t' {a} {b} {pen} {pen'} {w} known same e h put = writes t' known e h (subst (λ (y : Token). Put a b pen pen' w y) same put)
+pub writes_as : {t : Token} (t' : Token) {a b : List ℕ} {pen pen' : Pen} {w : ℕ} {x : Bool} → t ≡ t' → x ≡ is_full pen → x ≡ false → Put a b pen pen' w t → Passes a b pen pen' (λ rest. at w t' ∷ rest w)
+writes_as t' {a} {b} {pen} {pen'} {w} same e h put = writes t' e h (subst (λ (y : Token). Put a b pen pen' w y) same put)
 
 -- ---- A token that holds one string
 
@@ -149,15 +149,5 @@ module _ {a b : List ℕ} {pen pen' : Pen} {w k : ℕ} (s : List ℕ) where
   pub puts_top_variable : (k ≡ a_word → ⊥) → (k ≡ a_text → ⊥) → (k ≡ a_variable → ⊥) → Put a b pen pen' w (top_variable s) → Put a b pen pen' w (holding k s)
   puts_top_variable n0 n2 n3 put = rw (ne_eqb k a_word n0, ne_eqb k a_text n2, ne_eqb k a_variable n3) put
 
--- its kind is known
-holding_known : (k : ℕ) (s : List ℕ) → kind (holding k s) < 255
-holding_known k s = go (eqb k a_word) (eqb k a_text) (eqb k a_variable)
-  where
-    go : (x y z : Bool) → kind (pick x (word s) (pick y (quoted s) (pick z (variable s) (top_variable s)))) < 255
-    go true y z = omega arith
-    go false true z = omega arith
-    go false false true = omega arith
-    go false false false = omega arith
-
 pub writes_holding : (k : ℕ) {s u : List ℕ} {a b : List ℕ} {pen pen' : Pen} {w : ℕ} {x : Bool} → s ≡ u → x ≡ is_full pen → x ≡ false → Put a b pen pen' w (holding k s) → Passes a b pen pen' (λ rest. at w (holding k u) ∷ rest w)
-writes_holding k {u = u} e = writes_as (holding k u) (holding_known k u) (ap (holding k) e)
+writes_holding k {u = u} e = writes_as (holding k u) (ap (holding k) e)

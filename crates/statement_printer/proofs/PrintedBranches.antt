@@ -13,7 +13,7 @@ use Rattle.places.specs.At.{constant_at, block_at, branch_at, branches_at, Stand
 use Rattle.places.proofs.Open.{level}
 use Rattle.places.proofs.Statements.{BranchAt, branch_opens}
 use Rattle.notation.specs.Tokens.{Lexeme}
-use Rattle.notation.specs.Print.{Rest, the, constant_lexeme, printed_block, printed_branches}
+use Rattle.notation.specs.Print.{Rest, the, constant_lexeme, in_braces, printed_branches}
 use Rattle.token_writer.specs.declared.Pen.{Pen}
 use Rattle.statement_printer.specs.Passing.{Going, Passes}
 use Rattle.statement_printer.specs.Labels.{first_label}
@@ -32,15 +32,11 @@ module _ (S : ℕ → List ℕ) (m : List ℕ) (n q : ℕ) (s : StandsAs m n Bra
 
   -- what comes behind the pattern, which ends on the line v: a colon, and the block in braces
   behind : ℕ → Rest → List Lexeme
-  behind v rest = the v 13 ∷ the v 7 ∷ printed_block S body v (λ u. the u 8 ∷ rest u)
+  behind v rest = the v 13 ∷ in_braces S body v rest
 
-  behind_passes : {a b c d e : List ℕ} {pen u v x pen' : Pen}
-      → Passes a b pen u (λ rest. the pen.line 13 ∷ rest pen.line) → Passes b c u v (λ rest. the u.line 7 ∷ rest u.line) → Passes c d v x (printed_block S body v.line) → Passes d e x pen' (λ rest. the x.line 8 ∷ rest x.line)
-      → Passes a e pen pen' (behind pen.line)
+  behind_passes : {a b c : List ℕ} {pen u pen' : Pen} → Passes a b pen u (λ rest. the pen.line 13 ∷ rest pen.line) → Passes b c u pen' (in_braces S body u.line) → Passes a c pen pen' (behind pen.line)
   unfolding behind
-  behind_passes colon begin block close = record {
-    goes = λ o w k g. close.goes o w k (block.goes o w (λ n. the n 8 ∷ k n) (begin.goes o w (λ n. printed_block S body n (λ j. the j 8 ∷ k j)) (colon.goes o w (λ n. the n 7 ∷ printed_block S body n (λ j. the j 8 ∷ k j)) g)));
-  }
+  behind_passes colon block = record { goes = λ o w k g. block.goes o w k (colon.goes o w (λ n. in_braces S body n k) g) }
 
   -- a default stands on the line of the first constant in its block
   pattern_first : (after : Branches) (v : ℕ) (k : Rest) → printed_branches S (branch_at m n q after) v k ≡ printed_pattern S m (q + 3) v (λ u. behind u (λ x. printed_branches S after x k))
@@ -57,16 +53,16 @@ module _ (S : ℕ → List ℕ) (m : List ℕ) (n q : ℕ) (s : StandsAs m n Bra
       go true = ap (λ (u : ℕ). the u 28 ∷ follows u) (sym (block_line m (n - 1) (end_of m (q + 3)) v (branch_here s).block))
       go false = refl
 
-  pub branch_passes : {a b c d e f : List ℕ} {pen u v x y pen' : Pen} {z : ℕ}
+  pub branch_passes : {a b c d : List ℕ} {pen u v pen' : Pen} {z : ℕ}
       → z ≡ end_of m (q + 3) → Passes a b pen u (printed_pattern S m (q + 3) pen.line)
-      → Passes b c u v (λ rest. the u.line 13 ∷ rest u.line) → Passes c d v x (λ rest. the v.line 7 ∷ rest v.line) → Passes d e x y (printed_block S (block_at m (n - 1) z) x.line) → Passes e f y pen' (λ rest. the y.line 8 ∷ rest y.line)
-      → BranchPasses S m n q a f pen pen'
+      → Passes b c u v (λ rest. the u.line 13 ∷ rest u.line) → Passes c d v pen' (in_braces S (block_at m (n - 1) z) v.line)
+      → BranchPasses S m n q a d pen pen'
   unfolding body
-  branch_passes {a} {d = d} {e = e} {pen = pen} {x = x} {y = y} ez pattern colon begin block close =
-      let inside = subst (λ (j : ℕ). Passes d e x y (printed_block S (block_at m (n - 1) j) x.line)) ez block in
+  branch_passes {a} {c = c} {d = d} {pen = pen} {v = v} {pen' = pen'} ez pattern colon block =
+      let inside = subst (λ (j : ℕ). Passes c d v pen' (in_braces S (block_at m (n - 1) j) v.line)) ez block in
       record {
         goes = λ after o w k g.
-            (behind_passes colon begin inside close).goes o w (λ j. printed_branches S after j k)
+            (behind_passes colon inside).goes o w (λ j. printed_branches S after j k)
             (pattern.goes o w (λ u. behind u (λ j. printed_branches S after j k))
             (subst (λ (r : List Lexeme). Going o a pen w r) (pattern_first after pen.line k) g));
       }

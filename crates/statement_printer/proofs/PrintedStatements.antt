@@ -10,7 +10,7 @@ use Rattle.rules.specs.declared.Kind.TheVariants.{Statement as StatementKind, Bl
 use Rattle.places.specs.At.{expression_at, block_at, statement_at, statements_at, branches_at, StandsAs, Siblings, ended, sibling}
 use Rattle.places.proofs.Open.{level}
 use Rattle.places.proofs.Statements.{ConditionalAt, ChoiceAt, BlockAt, conditional_opens, choice_opens, block_opens}
-use Rattle.notation.specs.Print.{Rest, the, printed, printed_else, printed_statement, printed_block, printed_branches}
+use Rattle.notation.specs.Print.{Rest, the, in_braces, printed, printed_else, printed_statement, printed_block, printed_branches}
 use Rattle.token_writer.specs.declared.Pen.{Pen}
 use Rattle.statement_printer.specs.Passing.{Going, Passes}
 use Rattle.statement_printer.specs.Labels.{first_label}
@@ -28,6 +28,13 @@ module _ {m table : List ℕ} {strings d p : ℕ} where
 pub block_here : {m : List ℕ} {d p : ℕ} → StandsAs m d BlockKind p → BlockAt m d (d - 1) p
 block_here s = block_opens s (level s.stands)
 
+-- a block in braces
+pub braces_pass : (S : ℕ → List ℕ) (x : Block) {a b c d : List ℕ} {pen q r pen' : Pen}
+    → Passes a b pen q (λ rest. the pen.line 7 ∷ rest pen.line) → Passes b c q r (printed_block S x q.line) → Passes c d r pen' (λ rest. the r.line 8 ∷ rest r.line) → Passes a d pen pen' (in_braces S x pen.line)
+braces_pass S x begin inside close = record {
+  goes = λ o w k g. close.goes o w k (inside.goes o w (λ u. the u 8 ∷ k u) (begin.goes o w (λ u. printed_block S x u (λ y. the y 8 ∷ k y)) g));
+}
+
 module _ (S : ℕ → List ℕ) (m : List ℕ) where
   -- a block that ends at e is written when its statements are
   pub block_passes : (v : ℕ) {a b : List ℕ} {pen pen' : Pen} {d p e : ℕ} → StandsAs m d BlockKind p → e ≡ end_of m p → Passes a b pen pen' (printed_block S (statements_at m (d - 1) (fields_in m (p + 3) e)) v) → Passes a b pen pen' (printed_block S (block_at m d p) v)
@@ -43,26 +50,24 @@ module _ (S : ℕ → List ℕ) (m : List ℕ) where
       subst (λ (x : Block). Passes a a pen pen (printed_else x (printed_block S x) pen.line)) (sym empty) (record { goes = λ o w k g. g })
 
   -- else, and the block in braces
-  pub some_else : (d q : ℕ) {a c e f g : List ℕ} {pen r s t pen' : Pen} {z : ℕ} → StandsAs m d BlockKind q → z ≡ end_of m q → q + 3 < z
-      → Passes a c pen r (λ rest. the pen.line 30 ∷ rest pen.line) → Passes c e r s (λ rest. the r.line 7 ∷ rest r.line) → Passes e f s t (printed_block S (block_at m d q) s.line) → Passes f g t pen' (λ rest. the t.line 8 ∷ rest t.line)
+  pub some_else : (d q : ℕ) {a c g : List ℕ} {pen r pen' : Pen} {z : ℕ} → StandsAs m d BlockKind q → z ≡ end_of m q → q + 3 < z
+      → Passes a c pen r (λ rest. the pen.line 30 ∷ rest pen.line) → Passes c g r pen' (in_braces S (block_at m d q) r.line)
       → Passes a g pen pen' (printed_else (block_at m d q) (printed_block S (block_at m d q)) pen.line)
   unfolding printed_else statements_at
-  some_else d q {a} {e = e} {f = f} {g = g} {pen = pen} {s = s} {t = t} {pen' = pen'} o ez h word begin block close =
+  some_else d q {a} {c} {g} {pen} {r} {pen'} o ez h word block =
       let first = (block_here o).tree ∙ ap (statements_at m (d - 1)) (field_first m (q + 3) (end_of m q) (omega (arith, ez, h))) in
       let filled : Block = next (statement_at m (d - 1) (q + 3)) (statements_at m (d - 1) (fields_in m (end_of m (q + 3)) (end_of m q))) in
-      let inside : Passes e f s t (printed_block S filled s.line) = subst (λ (x : Block). Passes e f s t (printed_block S x s.line)) first block in
+      let inside : Passes c g r pen' (in_braces S filled r.line) = subst (λ (x : Block). Passes c g r pen' (in_braces S x r.line)) first block in
       subst (λ (x : Block). Passes a g pen pen' (printed_else x (printed_block S x) pen.line)) (sym first)
-      (record {
-        goes = λ o w k i. close.goes o w k (inside.goes o w (λ u. the u 8 ∷ k u) (begin.goes o w (λ u. printed_block S filled u (λ x. the x 8 ∷ k x)) (word.goes o w (λ u. the u 7 ∷ printed_block S filled u (λ x. the x 8 ∷ k x)) i)));
-      })
+      (record { goes = λ o w k i. inside.goes o w k (word.goes o w (λ u. in_braces S filled u k) i) })
 
-  pub conditional_passes : (line first second : ℕ) {a b c d e f g : List ℕ} {pen q r s t u pen' : Pen} {n i p : ℕ}
-      → ConditionalAt m n i p → first ≡ end_of m (p + 3) → second ≡ end_of m first → Passes a b pen q (λ rest. the line 29 ∷ rest line) → Passes b c q r (printed S (expression_at m i (p + 3)) 1 q.line) → Passes c d r s (λ rest. the r.line 7 ∷ rest r.line)
-      → Passes d e s t (printed_block S (block_at m i first) s.line) → Passes e f t u (λ rest. the t.line 8 ∷ rest t.line)
-      → Passes f g u pen' (printed_else (block_at m i second) (printed_block S (block_at m i second)) u.line)
-      → Passes a g pen pen' (printed_statement S (statement_at m n p) line)
+  pub conditional_passes : (line first second : ℕ) {a b c d e : List ℕ} {pen q r s pen' : Pen} {n i p : ℕ}
+      → ConditionalAt m n i p → first ≡ end_of m (p + 3) → second ≡ end_of m first → Passes a b pen q (λ rest. the line 29 ∷ rest line) → Passes b c q r (printed S (expression_at m i (p + 3)) 1 q.line)
+      → Passes c d r s (in_braces S (block_at m i first) r.line)
+      → Passes d e s pen' (printed_else (block_at m i second) (printed_block S (block_at m i second)) s.line)
+      → Passes a e pen pen' (printed_statement S (statement_at m n p) line)
   unfolding printed_statement
-  conditional_passes line first second {i = i} {p = p} o ey en word condition begin taken close untaken =
+  conditional_passes line first second {i = i} {p = p} o ey en word condition taken untaken =
       let a : Expression = expression_at m i (p + 3) in
       let y : Block = block_at m i first in
       let n : Block = block_at m i second in
@@ -71,12 +76,7 @@ module _ (S : ℕ → List ℕ) (m : List ℕ) where
       (record {
         goes = λ x w k g.
             let other : Rest = (λ u. printed_else n (printed_block S n) u k) in
-            untaken.goes x w k
-            (close.goes x w other
-            (taken.goes x w (λ u. the u 8 ∷ other u)
-            (begin.goes x w (λ u. printed_block S y u (λ l. the l 8 ∷ other l))
-            (condition.goes x w (λ u. the u 7 ∷ printed_block S y u (λ l. the l 8 ∷ other l))
-            (word.goes x w (λ u. printed S a 1 u (λ j. the j 7 ∷ printed_block S y j (λ l. the l 8 ∷ other l))) g)))));
+            untaken.goes x w k (taken.goes x w other (condition.goes x w (λ u. in_braces S y u other) (word.goes x w (λ u. printed S a 1 u (λ j. in_braces S y j other)) g)));
       })
 
   -- ---- Case

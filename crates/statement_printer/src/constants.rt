@@ -11,6 +11,8 @@ ghost use Rattle.statement_printer.specs.Labels.{first_label, boolean_kind};
 ghost use Rattle.statement_printer.specs.Patterns.{printed_pattern};
 
 use crate::tokens::{write_mark, write_number, write_text};
+use notation::kinds::{DEFAULT_WORD, FALSE_WORD, TRUE_WORD};
+use printable::Manifest;
 use printable::fields::next_place;
 use token_writer::Pen;
 use wire::{byte_at, byte_in, end_of, signed_at, two_at};
@@ -19,26 +21,19 @@ use wire::{byte_at, byte_in, end_of, signed_at, two_at};
 fn boolean_kind(b: u8) -> u8
     ensures { result ≡ boolean_kind b }
 {
-    if b == 1 { 26 } else { 27 }
+    if b == 1 { TRUE_WORD } else { FALSE_WORD }
 }
 
 // A constant, on the line that its label names.
-pub fn write_constant(
-    m: &[u8],
-    table: &[u8],
-    strings: u16,
-    p: usize,
-    out: &mut [u8],
-    pen: Pen,
-) -> Pen
-    requires { (Source m.now table.now strings) × (p ≤ 65535) }
-    ensures { Passes out.old out.new pen result (λ rest. constant_lexeme (string_at (string_texts m.now)) (constant_at m.now p) ∷ rest (byte m.now (p + 3))) }
+pub fn write_constant(m: Manifest<'_>, p: usize, out: &mut [u8], pen: Pen) -> Pen
+    requires { (Source m.bytes.now m.table.now m.strings) × (p ≤ 65535) }
+    ensures { Passes out.old out.new pen result (λ rest. constant_lexeme (string_at (string_texts m.entry.bytes.now)) (constant_at m.entry.bytes.now p) ∷ rest (byte m.entry.bytes.now (p + 3))) }
 {
-    let label = byte_at(m, p + 3);
-    match byte_at(m, p) {
-        0x10 => write_number(out, pen, label, signed_at(m, p + 4)),
-        0x11 => write_text(m, table, strings, out, pen, label, two_at(m, p + 4)),
-        _ => write_mark(out, pen, label, boolean_kind(byte_at(m, p + 4))),
+    let label = byte_at(m.bytes, p + 3);
+    match byte_at(m.bytes, p) {
+        0x10 => write_number(out, pen, label, signed_at(m.bytes, p + 4)),
+        0x11 => write_text(m, out, pen, label, two_at(m.bytes, p + 4)),
+        _ => write_mark(out, pen, label, boolean_kind(byte_at(m.bytes, p + 4))),
     }
 }
 
@@ -68,21 +63,14 @@ pub fn first_label(m: &[u8], p: usize, end: usize, line: u8) -> u8
 }
 
 // A pattern: a constant, or `default` on the line on which the form behind it begins.
-pub fn write_pattern(
-    m: &[u8],
-    table: &[u8],
-    strings: u16,
-    p: usize,
-    out: &mut [u8],
-    pen: Pen,
-) -> Pen
-    requires { (Source m.now table.now strings) × (end_of m.now (end_of m.now p) ≤ length m.now) }
-    ensures { Passes out.old out.new pen result (printed_pattern (string_at (string_texts m.now)) m.now p pen.line) }
+pub fn write_pattern(m: Manifest<'_>, p: usize, out: &mut [u8], pen: Pen) -> Pen
+    requires { (Source m.bytes.now m.table.now m.strings) × (end_of m.bytes.now (end_of m.bytes.now p) ≤ length m.bytes.now) }
+    ensures { Passes out.old out.new pen result (printed_pattern (string_at (string_texts m.entry.bytes.now)) m.entry.bytes.now p pen.line) }
 {
-    if byte_at(m, p) == 0x1b {
-        let body = end_of(m, p);
-        let line = first_label(m, body, end_of(m, body), pen.line);
-        return write_mark(out, pen, line, 28);
+    if byte_at(m.bytes, p) == 0x1b {
+        let body = end_of(m.bytes, p);
+        let line = first_label(m.bytes, body, end_of(m.bytes, body), pen.line);
+        return write_mark(out, pen, line, DEFAULT_WORD);
     }
-    write_constant(m, table, strings, p, out, pen)
+    write_constant(m, p, out, pen)
 }

@@ -11,6 +11,11 @@ ghost use Rattle.statement_printer.specs.Passing.{Source, Passes};
 ghost use Rattle.statement_printer.specs.Brackets.{opened, closed};
 
 use crate::tokens::{write_class_variable, write_mark, write_top_variable, write_variable};
+use notation::kinds::{
+    ABOVE, AND_WORD, COMMA, LEFT_ROUND, MINUS_SIGN, OR_WORD, PLUS_SIGN, RIGHT_ROUND, SLASH,
+    TWO_EQUALS,
+};
+use printable::Manifest;
 use token_writer::Pen;
 use wire::{byte_at, two_at};
 
@@ -18,13 +23,13 @@ pub fn operator_kind(op: u8) -> u8
     ensures { result ≡ operator_kind (operator_from op) }
 {
     match op {
-        0 => 18,
-        1 => 19,
-        2 => 20,
-        3 => 21,
-        4 => 22,
-        5 => 24,
-        _ => 25,
+        0 => PLUS_SIGN,
+        1 => MINUS_SIGN,
+        2 => SLASH,
+        3 => ABOVE,
+        4 => TWO_EQUALS,
+        5 => AND_WORD,
+        _ => OR_WORD,
     }
 }
 
@@ -50,7 +55,7 @@ pub fn open_bracket(out: &mut [u8], pen: Pen, tight: bool) -> Pen
     if tight {
         return pen;
     }
-    write_mark(out, pen, pen.line, 9)
+    write_mark(out, pen, pen.line, LEFT_ROUND)
 }
 
 pub fn close_bracket(out: &mut [u8], pen: Pen, tight: bool) -> Pen
@@ -59,7 +64,7 @@ pub fn close_bracket(out: &mut [u8], pen: Pen, tight: bool) -> Pen
     if tight {
         return pen;
     }
-    write_mark(out, pen, pen.line, 10)
+    write_mark(out, pen, pen.line, RIGHT_ROUND)
 }
 
 // A comma before every entry but the first.
@@ -67,29 +72,20 @@ pub fn separate(out: &mut [u8], pen: Pen, later: bool) -> Pen
     ensures { Passes out.old out.new pen result (λ rest. separated later pen.line (rest pen.line)) }
 {
     if later {
-        return write_mark(out, pen, pen.line, 14);
+        return write_mark(out, pen, pen.line, COMMA);
     }
     pen
 }
 
 // A variable: in its scope, in top, or in a class.
-pub fn write_read(m: &[u8], table: &[u8], strings: u16, p: usize, out: &mut [u8], pen: Pen) -> Pen
-    requires { (Source m.now table.now strings) × (p ≤ 65535) }
-    ensures { (d l : ℕ) → StandsAs m.now d Expression p → 0x13 ≤ byte m.now p → byte m.now p < 0x16 → Passes out.old out.new pen result (printed (string_at (string_texts m.now)) (expression_at m.now d p) l pen.line) }
+pub fn write_read(m: Manifest<'_>, p: usize, out: &mut [u8], pen: Pen) -> Pen
+    requires { (Source m.bytes.now m.table.now m.strings) × (p ≤ 65535) }
+    ensures { (d l : ℕ) → StandsAs m.entry.bytes.now d Expression p → 0x13 ≤ byte m.entry.bytes.now p → byte m.entry.bytes.now p < 0x16 → Passes out.old out.new pen result (printed (string_at (string_texts m.entry.bytes.now)) (expression_at m.entry.bytes.now d p) l pen.line) }
 {
-    let name = two_at(m, p + 3);
-    match byte_at(m, p) {
-        0x13 => write_variable(m, table, strings, out, pen, pen.line, name),
-        0x14 => write_top_variable(m, table, strings, out, pen, pen.line, name),
-        _ => write_class_variable(
-            m,
-            table,
-            strings,
-            out,
-            pen,
-            pen.line,
-            name,
-            two_at(m, p + 5),
-        ),
+    let name = two_at(m.bytes, p + 3);
+    match byte_at(m.bytes, p) {
+        0x13 => write_variable(m, out, pen, pen.line, name),
+        0x14 => write_top_variable(m, out, pen, pen.line, name),
+        _ => write_class_variable(m, out, pen, pen.line, name, two_at(m.bytes, p + 5)),
     }
 }

@@ -8,6 +8,8 @@ ghost use Rattle.token_writer.specs.Pens.{Ready, Put};
 ghost use Rattle.statement_printer.specs.Passing.{Source, is_full, Passes};
 ghost use Rattle.statement_printer.specs.Holding.{holding};
 
+use notation::kinds::{A_QUALIFIED, A_TEXT, A_VARIABLE, A_WORD};
+use printable::Manifest;
 use syntax::strings::string_at;
 use token_writer::{
     Pen, put_class_variable, put_mark, put_number, put_text, put_top_variable, put_variable,
@@ -51,114 +53,83 @@ fn put_string(out: &mut [u8], pen: Pen, line: u8, string: &[u8], kind: u8) -> Pe
     ensures { Put out.old out.new pen result line (holding kind string.now) }
 {
     match kind {
-        0 => put_word(out, pen, line, string),
-        2 => put_text(out, pen, line, string),
-        3 => put_variable(out, pen, line, string),
+        A_WORD => put_word(out, pen, line, string),
+        A_TEXT => put_text(out, pen, line, string),
+        A_VARIABLE => put_variable(out, pen, line, string),
         _ => put_top_variable(out, pen, line, string),
     }
 }
 
 // A token of this kind that holds a string, by its number in the table.
-fn write_string(
-    m: &[u8],
-    table: &[u8],
-    strings: u16,
-    out: &mut [u8],
-    pen: Pen,
-    line: u8,
-    n: u16,
-    kind: u8,
-) -> Pen
-    requires { Source m.now table.now strings }
-    ensures { Passes out.old out.new pen result (λ rest. at line (holding kind (string_at (string_texts m.now) n)) ∷ rest line) }
+fn write_string(m: Manifest<'_>, out: &mut [u8], pen: Pen, line: u8, n: u16, kind: u8) -> Pen
+    requires { Source m.bytes.now m.table.now m.strings }
+    ensures { Passes out.old out.new pen result (λ rest. at line (holding kind (string_at (string_texts m.entry.bytes.now) n)) ∷ rest line) }
 {
     if is_full(pen) {
         return pen;
     }
-    put_string(out, pen, line, string_at(m, table, strings, n), kind)
+    put_string(
+        out,
+        pen,
+        line,
+        string_at(m.bytes, m.table, m.strings, n),
+        kind,
+    )
 }
 
 // A name.
-pub fn write_word(
-    m: &[u8],
-    table: &[u8],
-    strings: u16,
-    out: &mut [u8],
-    pen: Pen,
-    line: u8,
-    n: u16,
-) -> Pen
-    requires { Source m.now table.now strings }
-    ensures { Passes out.old out.new pen result (λ rest. at line (word (string_at (string_texts m.now) n)) ∷ rest line) }
+pub fn write_word(m: Manifest<'_>, out: &mut [u8], pen: Pen, line: u8, n: u16) -> Pen
+    requires { Source m.bytes.now m.table.now m.strings }
+    ensures { Passes out.old out.new pen result (λ rest. at line (word (string_at (string_texts m.entry.bytes.now) n)) ∷ rest line) }
 {
-    write_string(m, table, strings, out, pen, line, n, 0)
+    write_string(m, out, pen, line, n, A_WORD)
 }
 
 // A string, in single quotes.
-pub fn write_text(
-    m: &[u8],
-    table: &[u8],
-    strings: u16,
-    out: &mut [u8],
-    pen: Pen,
-    line: u8,
-    n: u16,
-) -> Pen
-    requires { Source m.now table.now strings }
-    ensures { Passes out.old out.new pen result (λ rest. at line (text (string_at (string_texts m.now) n)) ∷ rest line) }
+pub fn write_text(m: Manifest<'_>, out: &mut [u8], pen: Pen, line: u8, n: u16) -> Pen
+    requires { Source m.bytes.now m.table.now m.strings }
+    ensures { Passes out.old out.new pen result (λ rest. at line (text (string_at (string_texts m.entry.bytes.now) n)) ∷ rest line) }
 {
-    write_string(m, table, strings, out, pen, line, n, 2)
+    write_string(m, out, pen, line, n, A_TEXT)
 }
 
 // `$x`
-pub fn write_variable(
-    m: &[u8],
-    table: &[u8],
-    strings: u16,
-    out: &mut [u8],
-    pen: Pen,
-    line: u8,
-    n: u16,
-) -> Pen
-    requires { Source m.now table.now strings }
-    ensures { Passes out.old out.new pen result (λ rest. at line (variable (string_at (string_texts m.now) n)) ∷ rest line) }
+pub fn write_variable(m: Manifest<'_>, out: &mut [u8], pen: Pen, line: u8, n: u16) -> Pen
+    requires { Source m.bytes.now m.table.now m.strings }
+    ensures { Passes out.old out.new pen result (λ rest. at line (variable (string_at (string_texts m.entry.bytes.now) n)) ∷ rest line) }
 {
-    write_string(m, table, strings, out, pen, line, n, 3)
+    write_string(m, out, pen, line, n, A_VARIABLE)
 }
 
 // `$::x`
-pub fn write_top_variable(
-    m: &[u8],
-    table: &[u8],
-    strings: u16,
-    out: &mut [u8],
-    pen: Pen,
-    line: u8,
-    n: u16,
-) -> Pen
-    requires { Source m.now table.now strings }
-    ensures { Passes out.old out.new pen result (λ rest. at line (top_variable (string_at (string_texts m.now) n)) ∷ rest line) }
+pub fn write_top_variable(m: Manifest<'_>, out: &mut [u8], pen: Pen, line: u8, n: u16) -> Pen
+    requires { Source m.bytes.now m.table.now m.strings }
+    ensures { Passes out.old out.new pen result (λ rest. at line (top_variable (string_at (string_texts m.entry.bytes.now) n)) ∷ rest line) }
 {
-    write_string(m, table, strings, out, pen, line, n, 4)
+    write_string(m, out, pen, line, n, A_QUALIFIED)
 }
 
 // `$::a::x`
 pub fn write_class_variable(
-    m: &[u8],
-    table: &[u8],
-    strings: u16,
+    m: Manifest<'_>,
     out: &mut [u8],
     pen: Pen,
     line: u8,
     class: u16,
     n: u16,
 ) -> Pen
-    requires { Source m.now table.now strings }
-    ensures { Passes out.old out.new pen result (λ rest. at line (class_variable (string_at (string_texts m.now) class) (string_at (string_texts m.now) n)) ∷ rest line) }
+    requires { Source m.bytes.now m.table.now m.strings }
+    ensures { Passes out.old out.new pen result (λ rest. at line (class_variable (string_at (string_texts m.entry.bytes.now) class) (string_at (string_texts m.entry.bytes.now) n)) ∷ rest line) }
 {
     if is_full(pen) {
         return pen;
     }
-    let whose = string_at(m, table, strings, class);
-    put_class_variable(out, pen, line, whose, string_at(m, table, strings, n))
+    let whose = string_at(m.bytes, m.table, m.strings, class);
+    put_class_variable(
+        out,
+        pen,
+        line,
+        whose,
+        string_at(m.bytes, m.table, m.strings, n),
+    )
 }

@@ -1,6 +1,6 @@
 -- The law of a case, `run` is its test and then the block chosen; and one law for each way through `decide_case` and `test_case`.
 use Prim.Native.Nat.{ℕ, ◌+◌, ◌-◌, ◌<◌}
-use mathlib.Core.Path.{◌≡◌, refl, sym, ap, ap₂, ◌∙◌, subst}
+use mathlib.Core.Path.{◌≡◌, refl, sym, ap, ap₂, ◌∙◌}
 use mathlib.Core.List.{List, [], ◌∷◌}
 use Rattle.labels.specs.declared.Labels.{Labels}
 use Rattle.labels.specs.Sets.{◌∪◌}
@@ -19,8 +19,6 @@ use Rattle.rules.proofs.Patterns.{map_patterns, tried_mapped, chosen_mapped, cho
 use Rattle.rules.specs.declared.Kind.TheVariants.{Statement as StatementKind, Expression as ExpressionKind, Branch as BranchKind}
 use Rattle.places.specs.At.{constant_at, expression_at, statement_at, block_at, branch_at, branches_at, StandsAs, Siblings}
 use Rattle.places.proofs.Statements.{ChoiceAt, choice_opens}
-use Rattle.patterns.specs.declared.Choice.{Choice}
-use Rattle.patterns.specs.declared.Choice.TheVariants.{At, Nothing}
 use Rattle.patterns.specs.Tried.{patterns_at, Matches}
 use Rattle.patterns.proofs.Follows.{mapped_first, every_follows}
 use Rattle.cells.specs.Layout.{trail_of}
@@ -32,12 +30,9 @@ use Rattle.evaluator.specs.Known.{Ready, Tells}
 use Rattle.branches.specs.Texts.{text_of}
 use Rattle.branches.proofs.Standing.{has_level, branch_block}
 use Rattle.branches.proofs.Texts.{choice_text}
-use Rattle.statements.specs.declared.Ran.{Ran}
-use Rattle.statements.specs.declared.Ran.TheVariants.{Done as Entered, Refused as Stopped}
 use Rattle.statements.specs.Answers.{ran_as}
 use Rattle.statements.proofs.Entering.{preserves_same}
-use Rattle.statements.specs.declared.TestedCase.{TestedCase}
-use Rattle.statements.specs.declared.TestedCase.TheVariants.{Branch, Nothing as NoBlock, Refused}
+use Rattle.statements.specs.declared.CaseBranch.{CaseBranch}
 use Rattle.statements.specs.Tests.{Passed, passed, after_text, Decides, Tests, Comes}
 use Rattle.statements.specs.Cases.{branches_of, blocks_in, chosen_block, block_for, block_here, block_later, choice_stands, after_case, decide_case, test_case, test_case_at, case_as, block_stands, try_case}
 use Rattle.patterns.specs.Struck.{first_struck}
@@ -45,6 +40,7 @@ use Rattle.patterns.proofs.Struck.{came_to, come_to_all_lem}
 use Rattle.memory.specs.Words.{struck_in}
 use Rattle.values.specs.declared.Reason.TheVariants.{Malformed}
 use Rattle.values.specs.Refusals.{refusal_at}
+use Rattle.std.specs.Prelude.{Option, Some, None, Result, Ok, Err}
 
 -- ---- The law
 
@@ -118,11 +114,11 @@ blocks_at m d (q ∷ qs) =
 blocks_tried : (m : List ℕ) (d : ℕ) (qs : List ℕ) (x : Value) → tried (blocks_in (branches_at m d qs)) x ≡ tried (patterns_at m qs) x
 blocks_tried m d qs x = ap (λ (ps : Patterns Block). tried ps x) (blocks_at m d qs) ∙ tried_mapped (block_for m (d - 1)) (patterns_at m qs) x
 
-module _ {m : List ℕ} {f e : ℕ} {x : Value} {s s' : List ℕ} {r : Choice} (d : ℕ) (i : Matches m f e x s s' r) where
+module _ {m : List ℕ} {f e : ℕ} {x : Value} {s s' : List ℕ} {r : Option ℕ} (d : ℕ) (i : Matches m f e x s s' r) where
   block_chosen : block_for m (d - 1) r ≡ chosen_block (branches_at m d (fields_in m f e)) x
   unfolding block_for
   block_chosen =
-      ap (block_for m (d - 1)) i.at ∙ sym (chosen_mapped (block_for m (d - 1)) (patterns_at m (fields_in m f e)) x Nothing)
+      ap (block_for m (d - 1)) i.at ∙ sym (chosen_mapped (block_for m (d - 1)) (patterns_at m (fields_in m f e)) x None)
       ∙ ap (λ (ps : Patterns Block). chosen ps x end) (sym (blocks_at m d (fields_in m f e)))
 
   labels_tried : labels_in s' ≡ labels_in s ∪ tried_labels (blocks_in (branches_at m d (fields_in m f e))) x
@@ -133,30 +129,39 @@ module _ {m : List ℕ} {f e : ℕ} {x : Value} {s s' : List ℕ} {r : Choice} (
   unfolding choice_stands
   block_stands_lem arms = rw i.at (chosen_holds (choice_stands m (d - 1) f e) (every_follows (λ q y. choice_stands m (d - 1) q e y) here later arms) x tt)
     where
-      here : (q : ℕ) → q < e → StandsAs m d BranchKind q → choice_stands m (d - 1) q e (At (end_of m (q + 3)))
+      here : (q : ℕ) → q < e → StandsAs m d BranchKind q → choice_stands m (d - 1) q e (Some (end_of m (q + 3)))
       here q l h = (branch_block h refl, block_here l refl)
 
-      later : (q : ℕ) (y : Choice) → q < e → choice_stands m (d - 1) (end_of m q) e y → choice_stands m (d - 1) q e y
-      later q (At y) l h = (h.0, block_later l h.1)
-      later q Nothing l h = tt
+      later : (q : ℕ) (y : Option ℕ) → q < e → choice_stands m (d - 1) (end_of m q) e y → choice_stands m (d - 1) q e y
+      later q (Some y) l h = (h.0, block_later l h.1)
+      later q None l h = tt
 
 -- what the marks and the trail come to, by its branches
 pub case_after : {m w w' : List ℕ} {d p f e : ℕ} {here : Here} {answer : State → Outcome State} (set : Labels) → StandsAs m d StatementKind p → byte m p ≡ 0x23 → f ≡ end_of m (p + 3) → e ≡ end_of m p → Decides m w w' here answer (after_text p (text_of (statement_at m d p)) set) → Decides m w w' here answer (after_case p (branches_at m (d - 1) (fields_in m f e)) set)
 unfolding after_text after_case
 case_after set s tag found ends i = rw (choice_text s refl tag found ends) at i
 
+-- what the test of a case answers
+abbrev Case : Type 0
+Case = Result CaseBranch Refusal
+
+-- no block stands for a refusal
+none_stands : (m : List ℕ) (b p : ℕ) {answer : Case} {why : Refusal} → answer ≡ Err why → block_stands m b p answer
+unfolding block_stands
+none_stands m b p handed_on = rw handed_on tt
+
 -- a value whose labels are in the set s
 abbrev own_in : Value → List ℕ → Labelled
 own_in v s = record { value = v; labels = labels_in s }
 
 module _ (m : List ℕ) (d p : ℕ) {f e : ℕ} (w : List ℕ) (here : Here) (v : Value) (s : List ℕ) (found : f ≡ end_of m (p + 3)) (ends : e ≡ end_of m p) where
-  module _ {w' s' : List ℕ} {r : Choice} {own set : Labels} (entered : Ran) (matches : Matches m f e v s s' r) (read : own ≡ labels_in s') (joined : set ≡ (here.path ∪ trail_of w) ∪ own) (enter : Decides m w w' here (ran_as entered) (after_case p (branches_at m d (fields_in m f e)) set)) where
+  module _ {w' s' : List ℕ} {r : Option ℕ} {own set : Labels} (entered : Result Unit Refusal) (matches : Matches m f e v s s' r) (read : own ≡ labels_in s') (joined : set ≡ (here.path ∪ trail_of w) ∪ own) (enter : Decides m w w' here (ran_as entered) (after_case p (branches_at m d (fields_in m f e)) set)) where
     same_set : (es : List Entry) (n i : ℕ) → set ≡ with_path_and_trail (context_of here) (state_of w es n i) (labels_in s ∪ tried_labels (blocks_in (branches_at m d (fields_in m f e))) v)
     unfolding with_path_and_trail state_of
     same_set es n i = joined ∙ ap (λ (k : Labels). (here.path ∪ trail_of w) ∪ k) (read ∙ labels_tried d matches)
 
     -- what follows the marks and the trail
-    abbrev after : Choice → Ran → State → Outcome (Passed Block)
+    abbrev after : Option ℕ → Result Unit Refusal → State → Outcome (Passed Block)
     after y o st = ran_as o st >>= λ st'. done (passed (block_for m (d - 1) y) set st')
 
     case_decided : (es : List Entry) (n i : ℕ) → after r entered (state_of w' es n i) ≡ decide_case p (branches_of m d p) (own_in v s) (context_of here) (state_of w es n i)
@@ -166,39 +171,29 @@ module _ (m : List ℕ) (d p : ℕ) {f e : ℕ} (w : List ℕ) (here : Here) (v 
         ∙ ap (λ (k : Labels). after_case p (branches_at m d (fields_in m f e)) k (context_of here) (state_of w es n i) >>= λ st'. done (passed (chosen_block (branches_at m d (fields_in m f e)) v) k st')) (same_set es n i)
         ∙ ap₂ (λ (a b : ℕ). decide_case p (branches_at m d (fields_in m a b)) (own_in v s) (context_of here) (state_of w es n i)) found ends
 
-    pub case_stopped : (why : Refusal) → entered ≡ Stopped why → Decides m w w' here (case_as m (d - 1) (Refused why)) (decide_case p (branches_of m d p) (own_in v s)) × block_stands m (d - 1) p (Refused why)
+    pub case_stopped : {answer : Case} (why : Refusal) → answer ≡ Err why → entered ≡ Err why → Decides m w w' here (case_as m (d - 1) answer) (decide_case p (branches_of m d p) (own_in v s)) × block_stands m (d - 1) p answer
+    unfolding case_as ran_as ◌>>=◌
+    case_stopped why handed_on h = (
+      record {
+        says = λ es n i. ap (λ (a : Case). case_as m (d - 1) a (state_of w' es n i)) handed_on ∙ sym (ap (λ (o : Result Unit Refusal). after r o (state_of w' es n i)) h) ∙ case_decided es n i;
+        keeps = enter.keeps;
+      },
+      none_stands m (d - 1) p handed_on,
+    )
+
+    pub case_entered : Siblings m d BranchKind f e → entered ≡ Ok tt → Decides m w w' here (case_as m (d - 1) (Ok (record { block = r; set = set }))) (decide_case p (branches_of m d p) (own_in v s)) × block_stands m (d - 1) p (Ok (record { block = r; set = set }))
     unfolding case_as ran_as ◌>>=◌ block_stands
-    case_stopped why h = (
+    case_entered arms h = (
       record {
-        says = λ es n i. sym (ap (λ (o : Ran). after r o (state_of w' es n i)) h) ∙ case_decided es n i;
+        says = λ es n i. sym (ap (λ (o : Result Unit Refusal). after r o (state_of w' es n i)) h) ∙ case_decided es n i;
         keeps = enter.keeps;
       },
-      tt,
-    )
-
-    pub case_entered : Siblings m d BranchKind f e → (q : ℕ) → entered ≡ Entered → r ≡ At q → Decides m w w' here (case_as m (d - 1) (Branch q set)) (decide_case p (branches_of m d p) (own_in v s)) × block_stands m (d - 1) p (Branch q set)
-    unfolding case_as ran_as ◌>>=◌ block_stands block_for choice_stands
-    case_entered arms q h g = (
-      record {
-        says = λ es n i. sym (ap₂ (λ (y : Choice) (o : Ran). after y o (state_of w' es n i)) g h) ∙ case_decided es n i;
-        keeps = enter.keeps;
-      },
-      rw (sym found, sym ends) (subst (choice_stands m (d - 1) f e) g (block_stands_lem d matches arms)),
-    )
-
-    pub case_unmatched : entered ≡ Entered → r ≡ Nothing → Decides m w w' here (case_as m (d - 1) (NoBlock set)) (decide_case p (branches_of m d p) (own_in v s)) × block_stands m (d - 1) p (NoBlock set)
-    unfolding case_as ran_as ◌>>=◌ block_stands block_for
-    case_unmatched h g = (
-      record {
-        says = λ es n i. sym (ap₂ (λ (y : Choice) (o : Ran). after y o (state_of w' es n i)) g h) ∙ case_decided es n i;
-        keeps = enter.keeps;
-      },
-      tt,
+      rw (sym found, sym ends) (block_stands_lem d matches arms),
     )
 
 -- ---- The ways of `try_case`
 
-module _ (m : List ℕ) (d p : ℕ) {f e : ℕ} (w : List ℕ) (here : Here) (x : Labelled) (found : f ≡ end_of m (p + 3)) (ends : e ≡ end_of m p) {s : Choice} (first : s ≡ first_struck w (tried (patterns_at m (fields_in m f e)) x.value)) where
+module _ (m : List ℕ) (d p : ℕ) {f e : ℕ} (w : List ℕ) (here : Here) (x : Labelled) (found : f ≡ end_of m (p + 3)) (ends : e ≡ end_of m p) {s : Option ℕ} (first : s ≡ first_struck w (tried (patterns_at m (fields_in m f e)) x.value)) where
   case_comes : (k : Known) → ((v : Constant) → k.struck_out v ≡ struck_in w v) → (c : Context) (st : State) → (came_to s >>= λ _. decide_case p (branches_of m d p) x c st) ≡ try_case p (branches_of m d p) x k c st
   unfolding try_case
   case_comes k known c st =
@@ -206,7 +201,7 @@ module _ (m : List ℕ) (d p : ℕ) {f e : ℕ} (w : List ℕ) (here : Here) (x 
       let same : tried (patterns_at m (fields_in m f e)) x.value ≡ vs = (λ j. tried (patterns_at m (fields_in m (found j) (ends j))) x.value) ∙ sym (blocks_tried m d (fields_in m (end_of m (p + 3)) (end_of m p)) x.value) in
       ap (λ (o : Outcome (Unit {0})). o >>= λ _. decide_case p (branches_of m d p) x c st) (ap came_to (first ∙ ap (first_struck w) same) ∙ sym (come_to_all_lem k w known vs))
 
-  pub case_struck : {q : ℕ} {why : Refusal} → s ≡ At q → why ≡ refusal_at Malformed q → Comes m w w here (case_as m (d - 1) (Refused why)) (try_case p (branches_of m d p) x) × block_stands m (d - 1) p (Refused why)
+  pub case_struck : {q : ℕ} {why : Refusal} → s ≡ Some q → why ≡ refusal_at Malformed q → Comes m w w here (case_as m (d - 1) (Err why)) (try_case p (branches_of m d p) x) × block_stands m (d - 1) p (Err why)
   unfolding case_as came_to ◌>>=◌ block_stands
   case_struck is e = (
     record {
@@ -216,7 +211,7 @@ module _ (m : List ℕ) (d p : ℕ) {f e : ℕ} (w : List ℕ) (here : Here) (x 
     tt,
   )
 
-  pub case_tried : {w' : List ℕ} (answer : TestedCase) → s ≡ Nothing → Decides m w w' here (case_as m (d - 1) answer) (decide_case p (branches_of m d p) x) × block_stands m (d - 1) p answer → Comes m w w' here (case_as m (d - 1) answer) (try_case p (branches_of m d p) x) × block_stands m (d - 1) p answer
+  pub case_tried : {w' : List ℕ} (answer : Case) → s ≡ None → Decides m w w' here (case_as m (d - 1) answer) (decide_case p (branches_of m d p) x) × block_stands m (d - 1) p answer → Comes m w w' here (case_as m (d - 1) answer) (try_case p (branches_of m d p) x) × block_stands m (d - 1) p answer
   unfolding came_to ◌>>=◌
   case_tried answer is i = (
     record {
@@ -237,17 +232,17 @@ module _ {m w out : List ℕ} {d p fill : ℕ} (here : Here) (s : StandsAs m d S
   test_run h k es n r ready =
       ap (λ (o : Outcome Labelled). o >>= λ x. try_case p (branches_of m (d - 1) p) x k (context_of here) (state_of w es n r)) (sym h ∙ (told (choice_here s tag).scrutinee).says k here.path es n r ready)
 
-  pub test_refused : (why : Refusal) → o ≡ refused_by why → Tests m w w out fill here (case_as m (d - 1 - 1) (Refused why)) (test_case_at m (d - 1) p) × block_stands m (d - 1 - 1) p (Refused why)
-  unfolding case_as ◌>>=◌ block_stands
-  test_refused why h = (
+  pub test_refused : {answer : Case} (why : Refusal) → answer ≡ Err why → o ≡ refused_by why → Tests m w w out fill here (case_as m (d - 1 - 1) answer) (test_case_at m (d - 1) p) × block_stands m (d - 1 - 1) p answer
+  unfolding case_as ◌>>=◌
+  test_refused why handed_on h = (
     record {
-      says = λ k es n r ready. test_run h k es n r ready;
+      says = λ k es n r ready. ap (λ (a : Case). case_as m (d - 1 - 1) a (state_of w es n r)) handed_on ∙ test_run h k es n r ready;
       keeps = preserves_same w;
     },
-    tt,
+    none_stands m (d - 1 - 1) p handed_on,
   )
 
-  pub test_decided : {w' : List ℕ} (answer : TestedCase) (x : Labelled) → o ≡ done x → Comes m w w' here (case_as m (d - 1 - 1) answer) (try_case p (branches_of m (d - 1) p) x) × block_stands m (d - 1 - 1) p answer → Tests m w w' out fill here (case_as m (d - 1 - 1) answer) (test_case_at m (d - 1) p) × block_stands m (d - 1 - 1) p answer
+  pub test_decided : {w' : List ℕ} (answer : Case) (x : Labelled) → o ≡ done x → Comes m w w' here (case_as m (d - 1 - 1) answer) (try_case p (branches_of m (d - 1) p) x) × block_stands m (d - 1 - 1) p answer → Tests m w w' out fill here (case_as m (d - 1 - 1) answer) (test_case_at m (d - 1) p) × block_stands m (d - 1 - 1) p answer
   unfolding ◌>>=◌
   test_decided answer x h i = (
     record {
@@ -264,18 +259,23 @@ module _ {m : List ℕ} {d p : ℕ} (s : StandsAs m d StatementKind p) (tag : by
   unfolding test_case_at
   case_at_runs c st = ap (λ (t : Statement). run k declare t c st) (choice_here s tag).tree ∙ case_runs k declare p (expression_at m (d - 1) (p + 3)) (branches_of m (d - 1) p) c st
 
-  module _ {w w' out : List ℕ} {fill : ℕ} {here : Here} (answer : TestedCase) (tests : Tests m w w' out fill here (case_as m (d - 1 - 1) answer) (test_case_at m (d - 1) p)) (es : List Entry) (n r : ℕ) (ready : Ready m w out fill k es) where
-    tested_runs : {a : TestedCase} → answer ≡ a → run k declare (statement_at m d p) (context_of here) (state_of w es n r) ≡ (case_as m (d - 1 - 1) a (state_of w' es n r) >>= into_block k declare (context_of here))
-    tested_runs h = case_at_runs (context_of here) (state_of w es n r) ∙ ap (λ (o : Outcome (Passed Block)). o >>= into_block k declare (context_of here)) (sym (tests.says k es n r ready) ∙ ap (λ (a : TestedCase). case_as m (d - 1 - 1) a (state_of w' es n r)) h)
+  module _ {w w' out : List ℕ} {fill : ℕ} {here : Here} (answer : Case) (tests : Tests m w w' out fill here (case_as m (d - 1 - 1) answer) (test_case_at m (d - 1) p)) (es : List Entry) (n r : ℕ) (ready : Ready m w out fill k es) where
+    tested_runs : {a : Case} → answer ≡ a → run k declare (statement_at m d p) (context_of here) (state_of w es n r) ≡ (case_as m (d - 1 - 1) a (state_of w' es n r) >>= into_block k declare (context_of here))
+    tested_runs h = case_at_runs (context_of here) (state_of w es n r) ∙ ap (λ (o : Outcome (Passed Block)). o >>= into_block k declare (context_of here)) (sym (tests.says k es n r ready) ∙ ap (λ (a : Case). case_as m (d - 1 - 1) a (state_of w' es n r)) h)
 
-    pub case_refuses : (why : Refusal) → answer ≡ Refused why → run k declare (statement_at m d p) (context_of here) (state_of w es n r) ≡ refused_by why
+    pub case_refuses : (why : Refusal) → answer ≡ Err why → run k declare (statement_at m d p) (context_of here) (state_of w es n r) ≡ refused_by why
     unfolding case_as ◌>>=◌
     case_refuses why h = tested_runs h
 
-    pub case_goes_on : (q : ℕ) (set : Labels) → answer ≡ Branch q set → run k declare (statement_at m d p) (context_of here) (state_of w es n r) ≡ run_block k declare (block_at m (d - 1 - 1) q) (in_branch set (context_of here)) (state_of w' es n r)
-    unfolding case_as ◌>>=◌
-    case_goes_on q set h = tested_runs h
+    module _ (x : CaseBranch) (h : answer ≡ Ok x) where
+      branch_runs_on : {y : Option ℕ} → x.block ≡ y → run k declare (statement_at m d p) (context_of here) (state_of w es n r) ≡ run_block k declare (block_for m (d - 1 - 1) y) (in_branch x.set (context_of here)) (state_of w' es n r)
+      unfolding case_as ◌>>=◌
+      branch_runs_on is = tested_runs h ∙ ap (λ (y : Option ℕ). run_block k declare (block_for m (d - 1 - 1) y) (in_branch x.set (context_of here)) (state_of w' es n r)) is
 
-    pub case_ends : (set : Labels) → answer ≡ NoBlock set → run k declare (statement_at m d p) (context_of here) (state_of w es n r) ≡ done (state_of w' es n r)
-    unfolding case_as ◌>>=◌ run
-    case_ends set h = tested_runs h
+      pub case_goes_on : (q : ℕ) → x.block ≡ Some q → run k declare (statement_at m d p) (context_of here) (state_of w es n r) ≡ run_block k declare (block_at m (d - 1 - 1) q) (in_branch x.set (context_of here)) (state_of w' es n r)
+      unfolding block_for
+      case_goes_on q is = branch_runs_on is
+
+      pub case_ends : x.block ≡ None → run k declare (statement_at m d p) (context_of here) (state_of w es n r) ≡ done (state_of w' es n r)
+      unfolding block_for run
+      case_ends is = branch_runs_on is

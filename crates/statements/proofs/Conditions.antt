@@ -36,13 +36,11 @@ use Rattle.evaluator.specs.Known.{Ready, Tells}
 use Rattle.branches.specs.Texts.{text_of, both}
 use Rattle.branches.proofs.Standing.{has_level, has_header}
 use Rattle.branches.proofs.Texts.{conditional_text}
-use Rattle.statements.specs.declared.Ran.{Ran}
-use Rattle.statements.specs.declared.Ran.TheVariants.{Done as Entered, Refused as Stopped}
-use Rattle.statements.specs.declared.Tested.{Tested}
-use Rattle.statements.specs.declared.Tested.TheVariants.{Branch, Refused}
+use Rattle.statements.specs.declared.Branch.{Branch}
 use Rattle.statements.specs.Answers.{ran_as}
 use Rattle.statements.specs.Tests.{Passed, passed, after_text, after_if, decide_if, test_if, test_if_at, tested_as, Decides, Tests}
 use Rattle.statements.proofs.Entering.{preserves_same}
+use Rattle.std.specs.Prelude.{Result, Ok, Err}
 
 -- ---- The law
 
@@ -80,11 +78,11 @@ unfolding after_text after_if both
 if_after set s tag i = rw (conditional_text s refl tag refl) at i
 
 module _ (m : List ℕ) (p l : ℕ) (a b : Block) (w : List ℕ) (here : Here) (x : Labelled) where
-  pub if_unlike : {why : Refusal} → (tag_of the_type x.value ≡ 2 → ⊥) → why ≡ refusal_at WrongKind l → Decides m w w here (tested_as (Refused why)) (decide_if p l a b x)
+  pub if_unlike : {why : Refusal} → (tag_of the_type x.value ≡ 2 → ⊥) → why ≡ refusal_at WrongKind l → Decides m w w here (tested_as (Err why)) (decide_if p l a b x)
   unfolding decide_if tested_as at ◌>>=◌
   if_unlike h is = record { says = λ es n r. rw (is, not_boolean x.value h); keeps = preserves_same w }
 
-  module _ {w' : List ℕ} {chose : Bool} {set : Labels} (entered : Ran) (is : x.value ≡ Boolean chose) (joined : set ≡ (here.path ∪ trail_of w) ∪ x.labels) (enter : Decides m w w' here (ran_as entered) (after_if p a b set)) where
+  module _ {w' : List ℕ} {chose : Bool} {set : Labels} (entered : Result Unit Refusal) (is : x.value ≡ Boolean chose) (joined : set ≡ (here.path ∪ trail_of w) ∪ x.labels) (enter : Decides m w w' here (ran_as entered) (after_if p a b set)) where
     same_set : (es : List Entry) (n r : ℕ) → set ≡ with_path_and_trail (context_of here) (state_of w es n r) x.labels
     unfolding with_path_and_trail state_of
     same_set es n r = joined
@@ -96,17 +94,17 @@ module _ (m : List ℕ) (p l : ℕ) (a b : Block) (w : List ℕ) (here : Here) (
         ∙ ap (λ (k : Labels). after_if p a b k (context_of here) (state_of w es n r) >>= λ st'. done (passed chose k st')) (same_set es n r)
         ∙ sym (ap (λ (v : Value). at l (boolean_in v) >>= λ t. after_if p a b (with_path_and_trail (context_of here) (state_of w es n r) x.labels) (context_of here) (state_of w es n r) >>= λ st'. done (passed t (with_path_and_trail (context_of here) (state_of w es n r) x.labels) st')) is)
 
-    pub if_stopped : (why : Refusal) → entered ≡ Stopped why → Decides m w w' here (tested_as (Refused why)) (decide_if p l a b x)
+    pub if_stopped : {answer : Result Branch Refusal} (why : Refusal) → answer ≡ Err why → entered ≡ Err why → Decides m w w' here (tested_as answer) (decide_if p l a b x)
     unfolding tested_as ran_as ◌>>=◌
-    if_stopped why h = record {
-      says = λ es n r. sym (ap (λ (e : Ran). ran_as e (state_of w' es n r) >>= λ st'. done (passed chose set st')) h) ∙ if_decided es n r;
+    if_stopped why handed_on h = record {
+      says = λ es n r. ap (λ (t : Result Branch Refusal). tested_as t (state_of w' es n r)) handed_on ∙ sym (ap (λ (e : Result Unit Refusal). ran_as e (state_of w' es n r) >>= λ st'. done (passed chose set st')) h) ∙ if_decided es n r;
       keeps = enter.keeps;
     }
 
-    pub if_entered : entered ≡ Entered → Decides m w w' here (tested_as (Branch chose set)) (decide_if p l a b x)
+    pub if_entered : entered ≡ Ok tt → Decides m w w' here (tested_as (Ok (record { yes = chose; set = set }))) (decide_if p l a b x)
     unfolding tested_as ran_as ◌>>=◌
     if_entered h = record {
-      says = λ es n r. sym (ap (λ (e : Ran). ran_as e (state_of w' es n r) >>= λ st'. done (passed chose set st')) h) ∙ if_decided es n r;
+      says = λ es n r. sym (ap (λ (e : Result Unit Refusal). ran_as e (state_of w' es n r) >>= λ st'. done (passed chose set st')) h) ∙ if_decided es n r;
       keeps = enter.keeps;
     }
 
@@ -124,14 +122,14 @@ module _ {m w out : List ℕ} {d p fill : ℕ} (here : Here) (s : StandsAs m d S
   test_run h k es n r ready =
       ap₂ (λ (o : Outcome Labelled) (l : ℕ). o >>= λ x. decide_if p l (block_at m (d - 1) (end_of m (p + 3))) (block_at m (d - 1) (end_of m (end_of m (p + 3)))) x (context_of here) (state_of w es n r)) (sym h ∙ (told (conditional_here s tag).condition).says k here.path es n r ready) (sym (expression_place m (d - 1) (p + 3)))
 
-  pub test_refused : (why : Refusal) → o ≡ refused_by why → Tests m w w out fill here (tested_as (Refused why)) (test_if_at m (d - 1) p)
+  pub test_refused : {answer : Result Branch Refusal} (why : Refusal) → answer ≡ Err why → o ≡ refused_by why → Tests m w w out fill here (tested_as answer) (test_if_at m (d - 1) p)
   unfolding tested_as ◌>>=◌
-  test_refused why h = record {
-    says = λ k es n r ready. test_run h k es n r ready;
+  test_refused why handed_on h = record {
+    says = λ k es n r ready. ap (λ (t : Result Branch Refusal). tested_as t (state_of w es n r)) handed_on ∙ test_run h k es n r ready;
     keeps = preserves_same w;
   }
 
-  pub test_decided : {w' : List ℕ} (answer : Tested) (x : Labelled) → o ≡ done x → Decides m w w' here (tested_as answer) (decide_if p (p + 3) (block_at m (d - 1) (end_of m (p + 3))) (block_at m (d - 1) (end_of m (end_of m (p + 3)))) x) → Tests m w w' out fill here (tested_as answer) (test_if_at m (d - 1) p)
+  pub test_decided : {w' : List ℕ} (answer : Result Branch Refusal) (x : Labelled) → o ≡ done x → Decides m w w' here (tested_as answer) (decide_if p (p + 3) (block_at m (d - 1) (end_of m (p + 3))) (block_at m (d - 1) (end_of m (end_of m (p + 3)))) x) → Tests m w w' out fill here (tested_as answer) (test_if_at m (d - 1) p)
   unfolding ◌>>=◌
   test_decided answer x h i = record {
     says = λ k es n r ready. i.says es n r ∙ test_run h k es n r ready;

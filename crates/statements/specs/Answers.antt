@@ -1,5 +1,5 @@
 -- What the answers for statements mean, in every state that the bytes stand for.
-use Rattle.std.specs.Prelude.{ℕ, ◌≤◌, ◌<◌, ◌≡◌, List}
+use Rattle.std.specs.Prelude.{ℕ, ◌≤◌, ◌<◌, ◌≡◌, List, Result, Ok, Err}
 use Rattle.wire.specs.Bytes.{byte}
 use Rattle.rules.specs.Outcome.{Outcome, done}
 use Rattle.rules.specs.Tree.{Statement}
@@ -12,12 +12,11 @@ use Rattle.memory.specs.Contexts.{context_of}
 use Rattle.summaries.specs.Summaries.{Summarized}
 use Rattle.evaluator.specs.Answers.{refused_by}
 use Rattle.evaluator.specs.Known.{Ready}
-use Rattle.statements.specs.declared.Ran.{Ran}
-use Rattle.statements.specs.declared.Ran.TheVariants.{Done, Refused}
+use Rattle.values.specs.declared.Refusal.{Refusal}
 
-unfoldable pub ran_as : Ran → State → Outcome State
-ran_as Done st = done st
-ran_as (Refused why) st = refused_by why
+unfoldable pub ran_as : Result Unit Refusal → State → Outcome State
+ran_as (Ok tt) st = done st
+ran_as (Err why) st = refused_by why
 
 -- from w to w' the names stay, and so do the bytes of others; the invariant is kept
 pub record Keeps (w w' : List ℕ) : Type 0 where
@@ -38,6 +37,6 @@ pub record Does {A : Type 0} (w w' : List ℕ) (here : Here) (answer : State →
   pub keeps : Keeps w w'
 
 -- the statement s runs as the definition says
-pub record Runs (m w w' out : List ℕ) (fill : ℕ) (here : Here) (answer : Ran) (s : Statement) : Type 0 where
+pub record Runs (m w w' out : List ℕ) (fill : ℕ) (here : Here) (answer : Result Unit Refusal) (s : Statement) : Type 0 where
   pub says : (k : Known) (declare : Declare) (es : List Entry) (n r : ℕ) → Ready m w out fill k es → ran_as answer (state_of w' es n r) ≡ run k declare s (context_of here) (state_of w es n r)
   pub keeps : Keeps w w'

@@ -1,5 +1,5 @@
 -- Cases up to the block that runs. That `run` is this and then the block is in proofs/Cases.antt.
-use Rattle.std.specs.Prelude.{ℕ, ◌+◌, ◌<◌, ◌≡◌, List}
+use Rattle.std.specs.Prelude.{ℕ, ◌+◌, ◌<◌, ◌≡◌, List, Option, Some, None, Result, Ok, Err}
 use Rattle.labels.specs.declared.Labels.{Labels}
 use Rattle.labels.specs.Sets.{◌∪◌}
 use Rattle.values.specs.declared.Value.{Value}
@@ -13,11 +13,9 @@ use Rattle.rules.specs.Evaluate.{evaluate, come_to_all}
 use Rattle.rules.specs.Run.{assigns_any, declares_any, with_path_and_trail, after_test}
 use Rattle.rules.specs.declared.Kind.TheVariants.{Block as BlockKind}
 use Rattle.places.specs.At.{expression_at, block_at, branches_at, StandsAs}
-use Rattle.patterns.specs.declared.Choice.{Choice}
-use Rattle.patterns.specs.declared.Choice.TheVariants.{At, Nothing}
 use Rattle.evaluator.specs.Answers.{refused_by}
-use Rattle.statements.specs.declared.TestedCase.{TestedCase}
-use Rattle.statements.specs.declared.TestedCase.TheVariants.{Branch, Nothing as NoBlock, Refused}
+use Rattle.values.specs.declared.Refusal.{Refusal}
+use Rattle.statements.specs.declared.CaseBranch.{CaseBranch}
 use Rattle.statements.specs.Tests.{Passed, passed}
 
 -- the branches of the case at p, which have b levels left
@@ -35,18 +33,18 @@ abbrev pub chosen_block : Branches → Value → Block
 chosen_block bs x = chosen (blocks_in bs) x end
 
 -- the block at the place chosen, with b levels left
-unfoldable pub block_for : List ℕ → (b : ℕ) → Choice → Block
-block_for m b (At q) = block_at m b q
-block_for m b Nothing = end
+unfoldable pub block_for : List ℕ → (b : ℕ) → Option ℕ → Block
+block_for m b (Some q) = block_at m b q
+block_for m b None = end
 
 -- the block at q is that of a 24 between f and e
 pub data BranchBlock (m : List ℕ) (e q : ℕ) : (f : ℕ) → Type 0 where
   block_here : {f : ℕ} → f < e → q ≡ end_of m (f + 3) → BranchBlock m e q f
   block_later : {f : ℕ} → f < e → BranchBlock m e q (end_of m f) → BranchBlock m e q f
 
-unfoldable pub choice_stands : List ℕ → (b f e : ℕ) → Choice → Type 0
-choice_stands m b f e (At q) = StandsAs m b BlockKind q × BranchBlock m e q f
-choice_stands m b f e Nothing = Unit {0}
+unfoldable pub choice_stands : List ℕ → (b f e : ℕ) → Option ℕ → Type 0
+choice_stands m b f e (Some q) = StandsAs m b BlockKind q × BranchBlock m e q f
+choice_stands m b f e None = Unit {0}
 
 unfoldable pub after_case : (p : ℕ) → Branches → Labels → Context → State → Outcome State
 after_case p bs k c st = after_test p c (assigns_any bs) (declares_any bs) k st
@@ -66,13 +64,11 @@ unfoldable pub test_case_at : List ℕ → (b p : ℕ) → Known → Context →
 test_case_at m b p = test_case p (expression_at m b (p + 3)) (branches_of m b p)
 
 -- a block has b levels left
-unfoldable pub case_as : List ℕ → (b : ℕ) → TestedCase → State → Outcome (Passed Block)
-case_as m b (Branch q k) st = done (passed (block_at m b q) k st)
-case_as m b (NoBlock k) st = done (passed end k st)
-case_as m b (Refused why) st = refused_by why
+unfoldable pub case_as : List ℕ → (b : ℕ) → Result CaseBranch Refusal → State → Outcome (Passed Block)
+case_as m b (Ok x) st = done (passed (block_for m b x.block) x.set st)
+case_as m b (Err why) st = refused_by why
 
 -- the block that an answer names stands there
-unfoldable pub block_stands : List ℕ → (b p : ℕ) → TestedCase → Type 0
-block_stands m b p (Branch q k) = StandsAs m b BlockKind q × BranchBlock m (end_of m p) q (end_of m (p + 3))
-block_stands m b p (NoBlock k) = Unit {0}
-block_stands m b p (Refused why) = Unit {0}
+unfoldable pub block_stands : List ℕ → (b p : ℕ) → Result CaseBranch Refusal → Type 0
+block_stands m b p (Ok x) = choice_stands m b (end_of m (p + 3)) (end_of m p) x.block
+block_stands m b p (Err why) = Unit {0}

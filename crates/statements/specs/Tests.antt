@@ -1,5 +1,5 @@
 -- Conditions up to the block that runs: the test, its set, the marks and the trail. That `run` is this and then the block is in proofs/Conditions.antt.
-use Rattle.std.specs.Prelude.{ℕ, ◌+◌, ◌≤◌, ◌≡◌, Bool, ◌||◌, List, length}
+use Rattle.std.specs.Prelude.{ℕ, ◌+◌, ◌≤◌, ◌≡◌, Bool, ◌||◌, List, length, Result, Ok, Err}
 use Rattle.labels.specs.declared.Labels.{Labels}
 use Rattle.values.specs.declared.Labelled.{Labelled}
 use Rattle.wire.specs.Bytes.{end_of}
@@ -18,8 +18,8 @@ use Rattle.branches.specs.Texts.{Text, text_of, Small}
 use Rattle.summaries.specs.Summaries.{Summarized}
 use Rattle.evaluator.specs.Answers.{refused_by}
 use Rattle.evaluator.specs.Known.{Ready}
-use Rattle.statements.specs.declared.Tested.{Tested}
-use Rattle.statements.specs.declared.Tested.TheVariants.{Branch, Refused}
+use Rattle.values.specs.declared.Refusal.{Refusal}
+use Rattle.statements.specs.declared.Branch.{Branch}
 use Rattle.statements.specs.Answers.{Preserves}
 use Rattle.memory.specs.Words.{struck_in}
 
@@ -52,9 +52,9 @@ test_if p e a b k c st = evaluate k c st e >>= λ x. decide_if p (place_of e) a 
 unfoldable pub test_if_at : List ℕ → (b p : ℕ) → Known → Context → State → Outcome (Passed Bool)
 test_if_at m b p = test_if p (expression_at m b (p + 3)) (block_at m b (end_of m (p + 3))) (block_at m b (end_of m (end_of m (p + 3))))
 
-unfoldable pub tested_as : Tested → State → Outcome (Passed Bool)
-tested_as (Branch t k) st = done (passed t k st)
-tested_as (Refused why) st = refused_by why
+unfoldable pub tested_as : Result Branch Refusal → State → Outcome (Passed Bool)
+tested_as (Ok b) st = done (passed b.yes b.set st)
+tested_as (Err why) st = refused_by why
 
 -- ---- A test, of an if or of a case
 

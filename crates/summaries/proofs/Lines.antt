@@ -1,7 +1,7 @@
 -- Lines written and read back. Assumes nothing.
 use Prim.Native.Nat.{ℕ, zero, suc, ◌+◌, ◌*◌, ◌/◌, ◌%◌, ◌^◌, ◌≤◌, ◌<◌}
 use mathlib.Core.Path.{◌≡◌, refl, sym, ap, ◌∙◌}
-use mathlib.Core.Bool.{Bool, true, false}
+use mathlib.Core.Bool.{Bool, true, false, ◌||◌}
 use mathlib.Core.List.{List, [], ◌∷◌, ◌++◌, append_assoc, append-nil}
 use native.Mathlib.Nat.{add-zero}
 use native.Mathlib.Numerals.{add-one}
@@ -17,6 +17,9 @@ use Rattle.wire.proofs.Laws.{over_length, run_part, run_in, byte_in, two_in, hig
 use Rattle.rules.specs.State.{one_if}
 use Rattle.cells.specs.Layout.{summary_at, summary_depth, summary_declares, summary_names, summary_size}
 use Rattle.branches.specs.Texts.{Collects}
+use Rattle.branches.specs.declared.collected.Collected.{Collected}
+use Rattle.branches.proofs.Joining.{Joining}
+use Rattle.branches.proofs.Texts.{collects_words}
 use Rattle.summaries.specs.Lines.{numbers_at, number_bytes, text_with, line_of, text_in, line_bytes}
 use Rattle.summaries.specs.Summaries.{IsFor}
 
@@ -88,9 +91,9 @@ module _ (w : List ℕ) (i : ℕ) where
   pub found_for : {d p t b : ℕ} → t ≡ two w (summary_at i) → b ≡ byte w (summary_at i + summary_depth) → t ≡ p + 1 → eqb b d ≡ true → IsFor (line_of w i) d p
   found_for {d} {b = b} read_place read_depth place depth = record { place = line_place ∙ sym read_place ∙ place; depth = line_byte summary_depth (omega arith) ∙ sym read_depth ∙ eqb-true b d depth }
 
-  pub recalled : {s s' : List ℕ} {b : ℕ} → Collects s s' false (text_with (numbers_at (line_of w i) summary_names 16) false) → b ≡ byte w (summary_at i + summary_declares) → Collects s s' (eqb b 1) (text_in (line_of w i))
+  pub recalled : {b k : ℕ} {c c' : Collected} → Joining (numbers_at (line_of w i) summary_names 16) c.names k c'.names → 16 ≤ k → b ≡ byte w (summary_at i + summary_declares) → c'.declares ≡ (c.declares || eqb b 1) → Collects c c' (text_in (line_of w i))
   unfolding text_in
-  recalled q read = record { size = q.size; members = q.members; declares = rw (read, line_byte summary_declares (omega arith)) refl }
+  recalled {c = c} q past read declares = collects_words c q (omega (arith, numbers_length (line_of w i) summary_names 16)) refl (rw (line_byte summary_declares (omega arith), sym read) declares)
 
 -- ---- A line written
 

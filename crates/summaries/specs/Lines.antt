@@ -1,5 +1,5 @@
 -- A line of the summaries: what it says of a condition, and the bytes that say it.
-use Rattle.std.specs.Prelude.{ℕ, zero, suc, ◌+◌, Bool, List, [], ◌∷◌, ◌++◌, eqb}
+use Rattle.std.specs.Prelude.{ℕ, zero, suc, ◌+◌, Bool, List, [], ◌∷◌, ◌++◌, ◌^◌, ◌<◌, eqb, get_or}
 use Rattle.wire.specs.Bytes.{byte}
 use Rattle.wire.specs.Numbers.{number, high_bytes}
 use Rattle.wire.specs.Runs.{bytes_at}
@@ -16,6 +16,10 @@ numbers_at l p (suc k) = number (bytes_at l p 8) 0 ∷ numbers_at l (p + 8) k
 unfoldable pub number_bytes : (numbers : List ℕ) → List ℕ
 number_bytes [] = []
 number_bytes (n ∷ ns) = high_bytes 8 n ++ number_bytes ns
+
+-- each of them fits its bytes
+abbrev pub Fit : (numbers : List ℕ) → Type 0
+Fit s = (i : ℕ) → get_or s i 0 < 256 ^ 8
 
 -- a text that assigns the names of a set
 abbrev pub text_with : (names : List ℕ) → (declares : Bool) → Text

@@ -1,8 +1,9 @@
 -- What the lines say of a manifest is right, and what a walk over a text makes of them.
-use Rattle.std.specs.Prelude.{ℕ, ◌+◌, ◌≤◌, ◌<◌, ◌≡◌, Bool, List, length}
+use Rattle.std.specs.Prelude.{ℕ, ◌+◌, ◌≤◌, ◌<◌, ◌≡◌, List, length}
 use Rattle.wire.specs.Bytes.{byte, two}
 use Rattle.places.specs.At.{statement_at}
 use Rattle.cells.specs.Layout.{summary_at, summary_depth}
+use Rattle.branches.specs.declared.collected.Collected.{Collected}
 use Rattle.branches.specs.Texts.{Text, text_of, Collects}
 use Rattle.summaries.specs.Lines.{line_of, text_in}
 
@@ -24,14 +25,13 @@ pub record Notes (m w w' : List ℕ) : Type 0 where
   pub outside : (k : ℕ) → (summary_at 0 ≤ k → k < summary_at 16 → ⊥) → byte w' k ≡ byte w k
   pub summarized : Summarized m w'
 
--- what a walk needs: a manifest and a memory of these lengths, a set of sixteen words, and summaries that are right
-pub record Walking (m w s : List ℕ) : Type 0 where
+-- what a walk needs: a manifest and a memory of these lengths, and summaries that are right
+pub record Walking (m w : List ℕ) : Type 0 where
   pub manifest : length m ≤ 65535
   pub memory : 65536 ≤ length w
-  pub set : length s ≡ 16
   pub summarized : Summarized m w
 
--- so do the names of a text join a set, and the answer is whether it declares
-pub record Summarizes (m w w' : List ℕ) (s s' : List ℕ) (answer : Bool) (t : Text) : Type 0 where
-  pub collects : Collects s s' answer t
+-- so does a text join what was collected
+pub record Summarizes (m w w' : List ℕ) (c c' : Collected) (t : Text) : Type 0 where
+  pub collects : Collects c c' t
   pub notes : Notes m w w'

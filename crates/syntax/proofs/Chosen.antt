@@ -1,42 +1,42 @@
 -- One law for each way through the functions that find the node that runs.
-use Prim.Native.Nat.{ℕ, ◌+◌, ◌<◌, ◌≤◌}
+use Prim.Native.Nat.{ℕ, ◌+◌}
 use mathlib.Core.Path.{◌≡◌, refl, sym, ap, ◌∙◌}
 use mathlib.Core.Bool.{Bool, true, false, ◌||◌}
-use mathlib.Core.List.{List}
+use mathlib.Core.List.{List, [], ◌∷◌}
 use mathlib.Core.Option.{Option, none, some}
 use lib.Dec.{eqb}
 use lib.ListN.{length}
 use borrow.Author.Tests.{eq-eqb, ne_eqb}
 use Rattle.rules.specs.Bytes.{pick, byte, two, end_of, fields_in}
 use Rattle.rules.specs.Compile.{same_bytes, string_at}
-use Rattle.wire.proofs.Fields.{no_fields, field_first}
-use Rattle.syntax.specs.declared.Found.{Found}
-use Rattle.syntax.specs.declared.Found.TheVariants.{At, Nothing}
 use Rattle.syntax.specs.Strings.{string_texts, found_of}
 use Rattle.syntax.specs.Nodes.{item_places, some_names, names_device, is_default_at, default_with, first_at, or_first, node_for}
+use Rattle.std.specs.Option.{option_or}
+use Rattle.std.specs.Bool.{then_some}
+use Rattle.std.specs.Prelude.{Option as CodeOption, Some, None}
 
 -- ---- The names of one node
 
-module _ (m device : List ℕ) (e q : ℕ) where
-  module _ {t : ℕ} (l : q < e) (et : t ≡ byte m q) where
-    pub not_a_name : {whole : Bool} → (t ≡ 0x31 → ⊥) → some_names m device (fields_in m q e) ≡ whole → false ≡ whole
+module _ (m device : List ℕ) {qs : List ℕ} where
+  module _ {q t : ℕ} {rest : List ℕ} (next : qs ≡ q ∷ rest) (et : t ≡ byte m q) where
+    pub not_a_name : {whole : Bool} → (t ≡ 0x31 → ⊥) → some_names m device qs ≡ whole → false ≡ whole
     unfolding some_names
-    not_a_name n inv = rw (field_first m q e l, ← et, ne_eqb t 0x31 n) at inv
+    not_a_name n inv = rw (next, ← et, ne_eqb t 0x31 n) at inv
 
     module _ {k : ℕ} {xs : List ℕ} {b : Bool} (is : t ≡ 0x31) (ek : k ≡ two m (q + 3)) (ex : xs ≡ string_at (string_texts m) k) (eb : b ≡ same_bytes xs device) where
-      named : some_names m device (fields_in m q e) ≡ (b || some_names m device (fields_in m (end_of m q) e))
+      named : some_names m device qs ≡ (b || some_names m device rest)
       unfolding some_names
-      named = rw (field_first m q e l, ← et, eq-eqb t 0x31 is, eb, ex, ek)
+      named = rw (next, ← et, eq-eqb t 0x31 is, eb, ex, ek)
 
-      pub its_name : {whole : Bool} → b ≡ true → some_names m device (fields_in m q e) ≡ whole → true ≡ whole
+      pub its_name : {whole : Bool} → b ≡ true → some_names m device qs ≡ whole → true ≡ whole
       its_name h inv = sym (named ∙ rw h) ∙ inv
 
-      pub other_name : {w : ℕ} {whole : Bool} → b ≡ false → w ≡ end_of m q → some_names m device (fields_in m q e) ≡ whole → some_names m device (fields_in m w e) ≡ whole
-      other_name h w inv = rw w (sym (named ∙ rw h) ∙ inv)
+      pub other_name : {whole : Bool} → b ≡ false → some_names m device qs ≡ whole → some_names m device rest ≡ whole
+      other_name h inv = sym (named ∙ rw h) ∙ inv
 
-  pub no_name_left : {whole : Bool} → e ≤ q → some_names m device (fields_in m q e) ≡ whole → false ≡ whole
+  pub no_name_left : {whole : Bool} → qs ≡ [] → some_names m device qs ≡ whole → false ≡ whole
   unfolding some_names
-  no_name_left h inv = rw (no_fields m q e h) at inv
+  no_name_left end inv = rw end at inv
 
 -- ---- One item
 
@@ -59,30 +59,26 @@ module _ (m : List ℕ) (p : ℕ) {t : ℕ} (et : t ≡ byte m p) where
 
 -- ---- The default node met
 
-module _ (m : List ℕ) (p : ℕ) {met : Found} where
-  pub met_before : {q : ℕ} → met ≡ At q → met ≡ default_with m met p
-  unfolding default_with
-  met_before h = rw h refl
-
-  pub default_here_lem : {b : Bool} → met ≡ Nothing → b ≡ is_default_at m p → b ≡ true → At p ≡ default_with m met p
-  unfolding default_with
-  default_here_lem h told is = rw (h, ← told, is) refl
-
-  pub none_here : {b : Bool} → met ≡ Nothing → b ≡ is_default_at m p → b ≡ false → Nothing ≡ default_with m met p
-  unfolding default_with
-  none_here h told is = rw (h, ← told, is) refl
+pub default_next : (m : List ℕ) (p : ℕ) (met : CodeOption ℕ) {b : Bool} → b ≡ is_default_at m p → option_or met (then_some b p) ≡ default_with m met p
+unfolding default_with
+default_next m p (Some q) told = refl
+default_next m p None {b} told = go b told
+  where
+    go : (b : Bool) → b ≡ is_default_at m p → then_some b p ≡ pick (is_default_at m p) (Some p) None
+    go true is = rw (← is) refl
+    go false is = rw (← is) refl
 
 -- ---- The node that runs
 
--- where the items from p on are left, with the default node met before them
-pub record Looking (m device : List ℕ) (p : ℕ) (met : Found) : Type 0 where
+-- where items are left at the places ps, with the default node met before them
+pub record Looking (m device : List ℕ) (ps : List ℕ) (met : CodeOption ℕ) : Type 0 where
   pub before : Option ℕ
   pub same : met ≡ found_of before
-  pub left : or_first (first_at (names_device m device) (fields_in m p (length m))) (or_first before (first_at (is_default_at m) (fields_in m p (length m)))) ≡ node_for m device
+  pub left : or_first (first_at (names_device m device) ps) (or_first before (first_at (is_default_at m) ps)) ≡ node_for m device
 
-pub looking_begins : (m device : List ℕ) {p : ℕ} → p ≡ end_of m 0 → Looking m device p Nothing
+pub looking_begins : (m device : List ℕ) {p : ℕ} {ps : List ℕ} → p ≡ end_of m 0 → ps ≡ fields_in m p (length m) → Looking m device ps None
 unfolding found_of or_first node_for item_places
-looking_begins m device e = rw e (record { before = none; same = refl; left = refl })
+looking_begins m device e all = rw (all, e) (record { before = none; same = refl; left = refl })
 
 with_found : (m : List ℕ) (p : ℕ) (before : Option ℕ) (d : Bool) → is_default_at m p ≡ d → default_with m (found_of before) p ≡ found_of (or_first before (pick d (some p) none))
 unfolding default_with found_of or_first
@@ -101,22 +97,22 @@ unfolding or_first
 none_more none = refl
 none_more (some q) = refl
 
-module _ {m device : List ℕ} {p : ℕ} {met : Found} (so : Looking m device p met) where
-  module _ (here : p < length m) {b : Bool} (told : b ≡ names_device m device p) where
-    pub names_it : b ≡ true → At p ≡ found_of (node_for m device)
+module _ {m device ps : List ℕ} {met : CodeOption ℕ} (so : Looking m device ps met) where
+  module _ {p : ℕ} {qs : List ℕ} (next : ps ≡ p ∷ qs) {b : Bool} (told : b ≡ names_device m device p) where
+    pub names_it : b ≡ true → Some p ≡ found_of (node_for m device)
     unfolding first_at or_first found_of
-    names_it h = ap found_of (rw (field_first m p (length m) here, ← told, h) at so.left)
+    names_it h = ap found_of (rw (next, ← told, h) at so.left)
 
-    pub looking_goes_on : {next : Found} {q : ℕ} → b ≡ false → next ≡ default_with m met p → q ≡ end_of m p → Looking m device q next
+    pub looking_goes_on : {met' : CodeOption ℕ} → b ≡ false → met' ≡ default_with m met p → Looking m device qs met'
     unfolding first_at
-    looking_goes_on h is e = rw e (record {
+    looking_goes_on h is = record {
       before = or_first so.before (pick (is_default_at m p) (some p) none);
-      same = is ∙ ap (λ (x : Found). default_with m x p) so.same ∙ with_found m p so.before (is_default_at m p) refl;
+      same = is ∙ ap (λ (x : CodeOption ℕ). default_with m x p) so.same ∙ with_found m p so.before (is_default_at m p) refl;
       left =
-          ap (or_first (first_at (names_device m device) (fields_in m (end_of m p) (length m)))) (first_stays so.before (first_at (is_default_at m) (fields_in m (end_of m p) (length m))) p (is_default_at m p))
-          ∙ (rw (field_first m p (length m) here, ← told, h) at so.left);
-    })
+          ap (or_first (first_at (names_device m device) qs)) (first_stays so.before (first_at (is_default_at m) qs) p (is_default_at m p))
+          ∙ (rw (next, ← told, h) at so.left);
+    }
 
-  pub looked_at_all : length m ≤ p → met ≡ found_of (node_for m device)
+  pub looked_at_all : ps ≡ [] → met ≡ found_of (node_for m device)
   unfolding first_at
-  looked_at_all h = so.same ∙ ap found_of (none_more so.before ∙ (rw (no_fields m p (length m) h) at so.left))
+  looked_at_all none_left = so.same ∙ ap found_of (none_more so.before ∙ (rw none_left at so.left))

@@ -1,6 +1,6 @@
 -- The place of a fault found before anything runs is at most the manifest's length, so two bytes hold it. Assumes nothing.
 use Prim.Native.Nat.{ℕ, zero, suc, ◌+◌, ◌-◌, ◌<◌, ◌≤◌}
-use mathlib.Core.Path.{◌≡◌, refl, sym, subst, ◌∙◌}
+use mathlib.Core.Path.{ap, ◌≡◌, refl, sym, subst, ◌∙◌}
 use mathlib.Core.Bool.{Bool, true, false, ◌&&◌, ◌||◌}
 use mathlib.Core.List.{List, [], ◌∷◌}
 use native.Mathlib.Omega.{arith}
@@ -19,20 +19,20 @@ use Rattle.rules.specs.declared.Rest.TheVariants.{Only, Text, Fields}
 use Rattle.rules.specs.declared.Form.{Form}
 use Rattle.rules.specs.declared.Next.{Next}
 use Rattle.rules.specs.declared.Next.TheVariants.{Go, Wrong}
-use Rattle.rules.specs.declared.Verdict.{Verdict}
-use Rattle.rules.specs.declared.Verdict.TheVariants.{Sound, Fault}
 use Rattle.rules.proofs.Within.{fault_not_sound, header_right, shape_sound}
 use Rattle.syntax.specs.Before.{before}
+use Rattle.std.specs.Prelude.{Ok, Err}
+use Rattle.rules.specs.Verdicts.{Verdict, fault_at, no_fault}
 
 -- a fault's place is at most b
 Low : ℕ → Verdict → Type 0
-Low b Sound = Unit {0}
-Low b (Fault r p) = p ≤ b
+Low b (Ok tt) = Unit {0}
+Low b (Err f) = f.place ≤ b
 
 low_then : (b : ℕ) (u v : Verdict) → Low b u → Low b v → Low b (and_then u v)
 unfolding Low
-low_then b Sound v h i = i
-low_then b (Fault r p) v h i = h
+low_then b (Ok tt) v h i = i
+low_then b (Err f) v h i = h
 
 -- each place of a list is below e
 data Below (e : ℕ) : List ℕ → Type 0 where
@@ -50,7 +50,7 @@ fields_below m e (suc k) q h = go (λ r i. fields_below m e k r i) (ltb q e) ref
 -- ---- Refusals 3 and 4
 
 module _ (m : List ℕ) (b : ℕ) where
-  low_end : (x : Bool) (r : Reason) (p : ℕ) → p ≤ b → Low b (pick x Sound (Fault r p))
+  low_end : (x : Bool) (r : Reason) (p : ℕ) → p ≤ b → Low b (pick x no_fault (fault_at r p))
   unfolding Low
   low_end true r p h = tt
   low_end false r p h = h
@@ -60,7 +60,7 @@ module _ (m : List ℕ) (b : ℕ) where
   low_walk inner each p h e within [] no_place ps = low_end (may_end ps) Malformed p h
   low_walk inner each p h e within (q ∷ qs) (place l is) ps = go (λ x. low_walk inner each p h e within qs is x) (header m ps q e) refl
     where
-      go : ((x : Parts) → Low b (walk m inner p x e qs)) → (n : Next) → header m ps q e ≡ n → Low b (allowing n (λ x. and_then (inner q) (walk m inner p x e qs)) (Fault Malformed q))
+      go : ((x : Parts) → Low b (walk m inner p x e qs)) → (n : Next) → header m ps q e ≡ n → Low b (allowing n (λ x. and_then (inner q) (walk m inner p x e qs)) (fault_at Malformed q))
       go later (Go x) t = let ends = (header_right m ps q e x t).ends in low_then b (inner q) (walk m inner p x e qs) (each q (omega arith)) (later x)
       go later Wrong t = unfold Low in omega arith
 
@@ -73,7 +73,7 @@ module _ (m : List ℕ) (b : ℕ) where
       from q Text = unfold rest Low in tt
       from q (Fields ps) = unfold rest in low_walk inner each p (omega arith) (end_of m p) h (fields_in m q (end_of m p)) (fields_below m (end_of m p) (end_of m p) q (omega arith)) ps
 
-      go : (x : Bool) → Low b (pick x (rest m inner p (p + 3 + head_size l) l.rest) (Fault Malformed p))
+      go : (x : Bool) → Low b (pick x (rest m inner p (p + 3 + head_size l) l.rest) (fault_at Malformed p))
       go true = from (p + 3 + head_size l) l.rest
       go false = unfold Low in omega arith
 
@@ -89,7 +89,7 @@ module _ (m : List ℕ) (b : ℕ) where
   low_rising e h a [] no_place = tt
   low_rising e h a (q ∷ qs) (place l is) = go (low_rising e h q qs is) (ascends (text m a) (text m q))
     where
-      go : Low b (rising_from m q qs) → (x : Bool) → Low b (pick x (rising_from m q qs) (Fault StringOrder q))
+      go : Low b (rising_from m q qs) → (x : Bool) → Low b (pick x (rising_from m q qs) (fault_at StringOrder q))
       go later true = later
       go later false = omega arith
 
@@ -103,7 +103,7 @@ module _ (m : List ℕ) (b : ℕ) where
   low_names n e h [] no_place = tt
   low_names n e h (q ∷ qs) (place l is) = go (low_names n e h qs is) (names_right m n q (form_of (byte m q)))
     where
-      go : Low b (names_known m n qs) → (x : Bool) → Low b (pick x (names_known m n qs) (Fault StringOrder q))
+      go : Low b (names_known m n qs) → (x : Bool) → Low b (pick x (names_known m n qs) (fault_at StringOrder q))
       go later true = later
       go later false = omega arith
 
@@ -127,36 +127,40 @@ unfolding check
 low_check m = go (shape m) refl
   where
     go : (v : Verdict) → shape m ≡ v → Low (length m) (and_then v (and_then (rising m (string_places m)) (names_known m (length (string_places m)) (places_in m (end_of m 0) (length m)))))
-    go (Fault r p) h = subst (Low (length m)) h (low_shape m)
-    go Sound h =
+    go (Err f) h = subst (Low (length m)) h (low_shape m)
+    go (Ok tt) h =
         let ends = (shape_sound m h).within.ends in
         low_then (length m) (rising m (string_places m)) (names_known m (length (string_places m)) (places_in m (end_of m 0) (length m)))
         (unfold string_places in low_strings m (length m) (end_of m 0) ends (string_places m) (fields_below m (end_of m 0) (end_of m 0) 3 (omega arith)))
         (unfold places_in in low_names m (length m) (length (string_places m)) (length m) (omega arith) (places_in m (end_of m 0) (length m)) (places_below m (length m - end_of m 0) (end_of m 0) (length m)))
 
+place_in : Verdict → ℕ
+place_in (Ok tt) = 0
+place_in (Err f) = f.place
+
 -- THE LAW
-pub fault_fits : (m : List ℕ) {v : Verdict} {r : Reason} {p : ℕ} → v ≡ before m → v ≡ Fault r p → p ≤ 65535
-unfolding before
+pub fault_fits : (m : List ℕ) {v : Verdict} {r : Reason} {p : ℕ} → v ≡ before m → v ≡ fault_at r p → p ≤ 65535
+unfolding before place_in
 fault_fits m {v} {r} {p} e h = go (eqb (length m) 0) refl (ltb 65535 (length m)) refl (sym e ∙ h)
   where
-    low : check m ≡ Fault r p → length m ≤ 65535 → p ≤ 65535
+    low : check m ≡ fault_at r p → length m ≤ 65535 → p ≤ 65535
     low f l = let within : p ≤ length m = unfold Low in subst (Low (length m)) f (low_check m) in omega arith
 
-    go : (a : Bool) → eqb (length m) 0 ≡ a → (b : Bool) → ltb 65535 (length m) ≡ b → pick (a || b) (Fault ManifestLength 0) (check m) ≡ Fault r p → p ≤ 65535
-    go true i b j f = let first : 0 ≡ p = cc in omega arith
-    go false i true j f = let first : 0 ≡ p = cc in omega arith
+    go : (a : Bool) → eqb (length m) 0 ≡ a → (b : Bool) → ltb 65535 (length m) ≡ b → pick (a || b) (fault_at ManifestLength 0) (check m) ≡ fault_at r p → p ≤ 65535
+    go true i b j f = let first : 0 ≡ p = ap place_in f in omega arith
+    go false i true j f = let first : 0 ≡ p = ap place_in f in omega arith
     go false i false j f = low f (ltb-false 65535 (length m) j)
 
 -- a manifest with no fault has the right length, and its check is Sound
 pub record SoundBefore (m : List ℕ) : Type 0 where
   pub short : length m ≤ 65535
-  pub sound : check m ≡ Sound
+  pub sound : check m ≡ no_fault
 
-pub before_sound : (m : List ℕ) → before m ≡ Sound → SoundBefore m
+pub before_sound : (m : List ℕ) → before m ≡ no_fault → SoundBefore m
 unfolding before
 before_sound m h = go (eqb (length m) 0) refl (ltb 65535 (length m)) refl h
   where
-    go : (a : Bool) → eqb (length m) 0 ≡ a → (b : Bool) → ltb 65535 (length m) ≡ b → pick (a || b) (Fault ManifestLength 0) (check m) ≡ Sound → SoundBefore m
+    go : (a : Bool) → eqb (length m) 0 ≡ a → (b : Bool) → ltb 65535 (length m) ≡ b → pick (a || b) (fault_at ManifestLength 0) (check m) ≡ no_fault → SoundBefore m
     go true i b j f = fault_not_sound f
     go false i true j f = fault_not_sound f
     go false i false j f = record { short = ltb-false 65535 (length m) j; sound = f }

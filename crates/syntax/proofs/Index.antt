@@ -1,28 +1,26 @@
 -- The table of places: one law for each way through `index_strings`, and what the table then holds.
-use Prim.Native.Nat.{ℕ, ◌+◌, ◌*◌, ◌-◌, ◌<◌, ◌≤◌}
+use Prim.Native.Nat.{ℕ, ◌+◌, ◌*◌}
 use mathlib.Core.Path.{◌≡◌, ◌∙◌}
-use mathlib.Core.List.{List}
+use mathlib.Core.List.{List, [], ◌∷◌}
 use native.Mathlib.Omega.{arith}
 use lib.ListN.{length}
 use Rattle.wire.specs.Numbers.{high_bytes}
 use Rattle.wire.specs.Runs.{over}
 use Rattle.wire.proofs.Laws.{over_join, high_length}
-use Rattle.wire.proofs.Fields.{no_fields, field_first}
 use Rattle.rules.specs.Bytes.{end_of, fields_in}
 use Rattle.rules.specs.Check.{string_places}
 use Rattle.syntax.specs.Strings.{place_bytes, indexed}
 
-module _ (m table : List ℕ) (e q n : ℕ) {whole : List ℕ} where
-  pub one_placed : {w : ℕ} {t : List ℕ} → q < e → w ≡ end_of m q → t ≡ over table (2 * n) (high_bytes 2 q) → over table (2 * n) (place_bytes (fields_in m q e)) ≡ whole → over t (2 * (n + 1)) (place_bytes (fields_in m w e)) ≡ whole
+module _ (table : List ℕ) (n : ℕ) {qs whole : List ℕ} (so_far : over table (2 * n) (place_bytes qs) ≡ whole) where
+  pub one_placed : {q : ℕ} {rest t : List ℕ} → qs ≡ q ∷ rest → t ≡ over table (2 * n) (high_bytes 2 q) → over t (2 * (n + 1)) (place_bytes rest) ≡ whole
   unfolding place_bytes
-  one_placed {w} {t} l ew et inv =
-      let rest : List ℕ = place_bytes (fields_in m (end_of m q) e) in
+  one_placed {q} {rest} {t} next et =
       let there : 2 * (n + 1) ≡ 2 * n + length (high_bytes 2 q) = omega (arith, high_length 2 q) in
-      rw (ew, et, there) (over_join table (2 * n) (high_bytes 2 q) rest ∙ (rw (field_first m q e l) at inv))
+      rw (et, there) (over_join table (2 * n) (high_bytes 2 q) (place_bytes rest) ∙ (rw next at so_far))
 
-  pub all_placed : e ≤ q → over table (2 * n) (place_bytes (fields_in m q e)) ≡ whole → table ≡ whole
+  pub all_placed : qs ≡ [] → table ≡ whole
   unfolding place_bytes over
-  all_placed h inv = rw (no_fields m q e h) at inv
+  all_placed none = rw none at so_far
 
 -- the loop's end in the words of the contract
 pub all_counted : (m : List ℕ) {e n : ℕ} → e ≡ end_of m 0 → n ≡ length (fields_in m 3 e) → n ≡ length (string_places m)

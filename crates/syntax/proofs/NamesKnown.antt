@@ -18,11 +18,11 @@ use Rattle.rules.specs.declared.Piece.TheVariants.{Name}
 use Rattle.rules.specs.declared.Rest.{Rest}
 use Rattle.rules.specs.declared.Rest.TheVariants.{Only, Text, Fields}
 use Rattle.rules.specs.declared.Form.{Form}
-use Rattle.rules.specs.declared.Verdict.TheVariants.{Sound, Fault}
 use Rattle.rules.proofs.Within.{fault_not_sound, first_field, SoundBody, inside_sound, level_left, check_sound}
 use Rattle.rules.proofs.Listed.{both_left, both_right}
 use Rattle.syntax.specs.Names.{NamesFrom}
 use Rattle.syntax.proofs.Reading.{place_first}
+use Rattle.rules.specs.Verdicts.{fault_at, no_fault}
 
 -- into the fields of a field
 stride_in : {r : Rest} {ps : Parts} (h n : ℕ) → r ≡ Fields ps → stride r h n ≡ h
@@ -42,7 +42,7 @@ module _ (m : List ℕ) (n z : ℕ) where
   unfolding names_known
   known_here p l k = go (names_right m n p (form_of (byte m p))) refl (rw (place_first m p z l) at k.sound)
     where
-      go : (b : Bool) → names_right m n p (form_of (byte m p)) ≡ b → pick b (names_known m n (places_in m (next_in_order m p) z)) (Fault StringOrder p) ≡ Sound → KnownHere p
+      go : (b : Bool) → names_right m n p (form_of (byte m p)) ≡ b → pick b (names_known m n (places_in m (next_in_order m p) z)) (fault_at StringOrder p) ≡ no_fault → KnownHere p
       go true h w = record { names = h; next = record { sound = w } }
       go false h w = fault_not_sound w
 
@@ -55,14 +55,14 @@ module _ (m : List ℕ) (n z : ℕ) where
 
   -- what comes after it
   PastAt : ℕ → Type 0
-  PastAt d = (p : ℕ) → inside m d p ≡ Sound → end_of m p ≤ z → Known p → Known (end_of m p)
+  PastAt d = (p : ℕ) → inside m d p ≡ no_fault → end_of m p ≤ z → Known p → Known (end_of m p)
 
-  past_fields : (k d p : ℕ) (ps : Parts) (q e : ℕ) → PastAt d → e - q ≤ k → q ≤ e → e ≤ z → walk m (inside m d) p ps e (fields_in m q e) ≡ Sound → Known q → Known e
+  past_fields : (k d p : ℕ) (ps : Parts) (q e : ℕ) → PastAt d → e - q ≤ k → q ≤ e → e ≤ z → walk m (inside m d) p ps e (fields_in m q e) ≡ no_fault → Known q → Known e
   unfolding PastAt
   past_fields zero d p ps q e past b l h w kn = let end : q ≡ e = omega arith in subst Known end kn
   past_fields (suc k) d p ps q e past b l h w kn = go (λ x r c i v u. past_fields k d p x r e past c i h v u) (ltb q e) refl
     where
-      go : ((ps : Parts) (r : ℕ) → e - r ≤ k → r ≤ e → walk m (inside m d) p ps e (fields_in m r e) ≡ Sound → Known r → Known e) → (t : Bool) → ltb q e ≡ t → Known e
+      go : ((ps : Parts) (r : ℕ) → e - r ≤ k → r ≤ e → walk m (inside m d) p ps e (fields_in m r e) ≡ no_fault → Known r → Known e) → (t : Bool) → ltb q e ≡ t → Known e
       go later false t = let past_end : e ≤ q = ltb-false q e t in let end : q ≡ e = omega arith in subst Known end kn
       go later true t =
           let i : q < e = ltb-true q e t in
@@ -70,7 +70,7 @@ module _ (m : List ℕ) (n z : ℕ) where
           let ends : end_of m q ≤ e = f.right.ends in
           later f.next (end_of m q) (omega arith) ends f.others (past q f.sound (omega arith) kn)
 
-  pub known_after : (d p : ℕ) → inside m d p ≡ Sound → end_of m p ≤ z → Known p → Known (end_of m p)
+  pub known_after : (d p : ℕ) → inside m d p ≡ no_fault → end_of m p ≤ z → Known p → Known (end_of m p)
   unfolding PastAt stride
   known_after zero p s h kn = let u = level_left m zero p s in absurd (omega arith)
   known_after (suc d) p s h kn = go (λ q i j k. known_after d q i j k) (inside_sound m d p s) (form_of (byte m p)).rest refl (known_here p (omega arith) kn).next
@@ -83,7 +83,7 @@ module _ (m : List ℕ) (n z : ℕ) where
           past_fields (end_of m p) d p ps (p + 3 + head_size (form_of (byte m p))) (end_of m p) past (omega arith) (omega arith) h (b.fields ps e) (subst (λ (j : ℕ). Known (p + 3 + j)) (stride_in (head_size (form_of (byte m p))) (two m (p + 1)) e) next)
 
 -- a sound manifest: the names of all items
-pub items_known : (m : List ℕ) → check m ≡ Sound → NamesFrom m (length (string_places m)) (length m) (end_of m 0)
+pub items_known : (m : List ℕ) → check m ≡ no_fault → NamesFrom m (length (string_places m)) (length m) (end_of m 0)
 items_known m w = record { sound = (check_sound m w).names }
 
 -- ---- The names that a field begins with

@@ -23,11 +23,11 @@ use Rattle.rules.specs.declared.Kind.TheVariants.{Block as ABlock}
 use Rattle.rules.specs.declared.Part.TheVariants.{Over, One, Names}
 use Rattle.rules.specs.declared.Parts.{Parts}
 use Rattle.rules.specs.declared.Rest.TheVariants.{Only, Fields as Inner}
-use Rattle.rules.specs.declared.Verdict.TheVariants.{Sound}
 use Rattle.rules.proofs.Within.{false_not_true, first_field, none_missing, inside_sound, level_left, check_sound, shape_sound}
 use Rattle.syntax.specs.Strings.{string_texts}
 use Rattle.syntax.specs.Nodes.{item_places, some_names, names_device, is_default_at, first_at, or_first, node_for, runs_at, running}
 use Rattle.syntax.proofs.StringsRead.{tag_at, strings_read, table_ends}
+use Rattle.rules.specs.Verdicts.{no_fault}
 
 -- ---- One item of the tree
 
@@ -118,11 +118,11 @@ module _ (m device : List ℕ) where
         go true h = let n = name_read m d q (eqb-true _ _ h) u w in rw (n, ih)
         go false h = refl
 
-    names_read : (k : ℕ) (ps : Parts) (q : ℕ) → e - q ≤ k → walk m (inside m d) p ps e (fields_in m q e) ≡ Sound → any is_device (names_from (read_each (read_field m d) (fields_in m q e))) ≡ some_names m device (fields_in m q e)
+    names_read : (k : ℕ) (ps : Parts) (q : ℕ) → e - q ≤ k → walk m (inside m d) p ps e (fields_in m q e) ≡ no_fault → any is_device (names_from (read_each (read_field m d) (fields_in m q e))) ≡ some_names m device (fields_in m q e)
     names_read zero ps q b w = no_names_left q (omega arith)
     names_read (suc k) ps q b w = go (λ x r c v. names_read k x r c v) (ltb q e) refl
       where
-        go : ((ps : Parts) (q : ℕ) → e - q ≤ k → walk m (inside m d) p ps e (fields_in m q e) ≡ Sound → any is_device (names_from (read_each (read_field m d) (fields_in m q e))) ≡ some_names m device (fields_in m q e)) → (t : Bool) → ltb q e ≡ t → any is_device (names_from (read_each (read_field m d) (fields_in m q e))) ≡ some_names m device (fields_in m q e)
+        go : ((ps : Parts) (q : ℕ) → e - q ≤ k → walk m (inside m d) p ps e (fields_in m q e) ≡ no_fault → any is_device (names_from (read_each (read_field m d) (fields_in m q e))) ≡ some_names m device (fields_in m q e)) → (t : Bool) → ltb q e ≡ t → any is_device (names_from (read_each (read_field m d) (fields_in m q e))) ≡ some_names m device (fields_in m q e)
         go others_read false t = no_names_left q (ltb-false q e t)
         go others_read true t =
             let l : q < e = ltb-true q e t in
@@ -152,16 +152,16 @@ default_names_none m device q e l is = rw (field_first m q e l, is)
 record NodeBody (m : List ℕ) (d p : ℕ) : Type 0 where
   there : p + 3 < end_of m p
   level : 0 < d
-  walked : walk m (inside m d) p (three Names (One ABlock) Over) (end_of m p) (fields_in m (p + 3) (end_of m p)) ≡ Sound
+  walked : walk m (inside m d) p (three Names (One ABlock) Over) (end_of m p) (fields_in m (p + 3) (end_of m p)) ≡ no_fault
 
-node_body : (m : List ℕ) (d p : ℕ) → byte m p ≡ 0x30 → inside m (suc d) p ≡ Sound → NodeBody m d p
+node_body : (m : List ℕ) (d p : ℕ) → byte m p ≡ 0x30 → inside m (suc d) p ≡ no_fault → NodeBody m d p
 unfolding may_end part_may_end
 node_body m d p is s = go (ltb (p + 3) (end_of m p)) refl
   where
     start : p + 3 + 0 ≡ p + 3
     start = omega arith
 
-    w : walk m (inside m d) p (three Names (One ABlock) Over) (end_of m p) (fields_in m (p + 3) (end_of m p)) ≡ Sound
+    w : walk m (inside m d) p (three Names (One ABlock) Over) (end_of m p) (fields_in m (p + 3) (end_of m p)) ≡ no_fault
     w = rw start at (rw (node_pieces is) at ((inside_sound m d p s).fields (three Names (One ABlock) Over) (node_line is)))
 
     go : (t : Bool) → ltb (p + 3) (end_of m p) ≡ t → NodeBody m d p
@@ -171,7 +171,7 @@ node_body m d p is s = go (ltb (p + 3) (end_of m p)) refl
         let f = first_field m (inside m d) p (three Names (One ABlock) Over) (p + 3) (end_of m p) l w in
         record { there = l; level = level_left m d (p + 3) f.sound; walked = w }
 
-module _ (m : List ℕ) (d p : ℕ) (is : byte m p ≡ 0x30) (s : inside m (suc d) p ≡ Sound) where
+module _ (m : List ℕ) (d p : ℕ) (is : byte m p ≡ 0x30) (s : inside m (suc d) p ≡ no_fault) where
   node_devices : devices_from (inner (read_field m (suc d) p)) ≡ pick (eqb (byte m (p + 3)) 0x1b) by_default (named (names_from (read_each (read_field m d) (fields_in m (p + 3) (end_of m p)))))
   node_devices =
       let b = node_body m d p is s in
@@ -213,11 +213,11 @@ item_at_lem m g G p a b =
       is_node_item = λ e. (node_item (read_field m 32 p) (t ∙ e), b e);
     }
 
-names_at : (m device : List ℕ) (p : ℕ) → inside m 32 p ≡ Sound → ItemAt m (names (string_texts m) device) (names_device m device) p
+names_at : (m device : List ℕ) (p : ℕ) → inside m 32 p ≡ no_fault → ItemAt m (names (string_texts m) device) (names_device m device) p
 unfolding names_device
 names_at m device p s = item_at_lem m (names (string_texts m) device) (names_device m device) p (λ n. rw (ne_eqb _ _ n)) (λ e. names_node m 31 p e s device)
 
-default_at_lem : (m : List ℕ) (p : ℕ) → inside m 32 p ≡ Sound → ItemAt m is_default_node (is_default_at m) p
+default_at_lem : (m : List ℕ) (p : ℕ) → inside m 32 p ≡ no_fault → ItemAt m is_default_node (is_default_at m) p
 unfolding is_default_at
 default_at_lem m p s = item_at_lem m is_default_node (is_default_at m) p (λ n. rw (ne_eqb _ _ n)) (λ e. default_node_lem m 31 p e s)
 
@@ -336,8 +336,8 @@ no_items : (m : List ℕ) (g : Devices → Bool) (G : ℕ → Bool) (q : ℕ) �
 unfolding read_items items_from read_each running without_nodes with_node first_at any is_some
 no_items m g G q = record { dropped = λ c o. refl; kept = refl; found = refl }
 
-module _ (m : List ℕ) (g : Devices → Bool) (G : ℕ → Bool) (each : (p : ℕ) → inside m 32 p ≡ Sound → ItemAt m g G p) (e : ℕ) where
-  item_more : (q : ℕ) → inside m 32 q ≡ Sound → ItemsAre m g G (end_of m q) (fields_in m (end_of m q) e) → ItemsAre m g G q (q ∷ fields_in m (end_of m q) e)
+module _ (m : List ℕ) (g : Devices → Bool) (G : ℕ → Bool) (each : (p : ℕ) → inside m 32 p ≡ no_fault → ItemAt m g G p) (e : ℕ) where
+  item_more : (q : ℕ) → inside m 32 q ≡ no_fault → ItemsAre m g G (end_of m q) (fields_in m (end_of m q) e) → ItemsAre m g G q (q ∷ fields_in m (end_of m q) e)
   item_more q s is =
       let rest : List ℕ = fields_in m (end_of m q) e in
       let i = each q s in
@@ -348,11 +348,11 @@ module _ (m : List ℕ) (g : Devices → Bool) (G : ℕ → Bool) (each : (p : �
         found = any_more m g G q rest i is.found;
       }
 
-  items_are : (k : ℕ) (ps : Parts) (q : ℕ) → e - q ≤ k → walk m (inside m 32) 0 ps e (fields_in m q e) ≡ Sound → ItemsAre m g G q (fields_in m q e)
+  items_are : (k : ℕ) (ps : Parts) (q : ℕ) → e - q ≤ k → walk m (inside m 32) 0 ps e (fields_in m q e) ≡ no_fault → ItemsAre m g G q (fields_in m q e)
   items_are zero ps q b w = rw (no_fields m q e (omega arith)) (no_items m g G q)
   items_are (suc k) ps q b w = go (λ x r l v. items_are k x r l v) (ltb q e) refl
     where
-      go : ((ps : Parts) (r : ℕ) → e - r ≤ k → walk m (inside m 32) 0 ps e (fields_in m r e) ≡ Sound → ItemsAre m g G r (fields_in m r e)) → (t : Bool) → ltb q e ≡ t → ItemsAre m g G q (fields_in m q e)
+      go : ((ps : Parts) (r : ℕ) → e - r ≤ k → walk m (inside m 32) 0 ps e (fields_in m r e) ≡ no_fault → ItemsAre m g G r (fields_in m r e)) → (t : Bool) → ltb q e ≡ t → ItemsAre m g G q (fields_in m q e)
       go later false t = rw (no_fields m q e (ltb-false q e t)) (no_items m g G q)
       go later true t =
           let l : q < e = ltb-true q e t in
@@ -362,7 +362,7 @@ module _ (m : List ℕ) (g : Devices → Bool) (G : ℕ → Bool) (each : (p : �
 -- ---- A sound manifest
 
 -- its items are those read at their places
-items_read : (m : List ℕ) → check m ≡ Sound → (manifest_of m).items ≡ read_items m (item_places m)
+items_read : (m : List ℕ) → check m ≡ no_fault → (manifest_of m).items ≡ read_items m (item_places m)
 unfolding manifest_of manifest_from read_all read_each others read_items item_places
 items_read m w =
     let ends = table_ends m w in
@@ -376,7 +376,7 @@ either_items b t xs ys e = go b ∙ ap (λ (u : Bool). pick u xs ys) e
     go true = refl
     go false = refl
 
-module _ (m device : List ℕ) (w : check m ≡ Sound) where
+module _ (m device : List ℕ) (w : check m ≡ no_fault) where
   named_items : ItemsAre m (names (string_texts m) device) (names_device m device) (end_of m 0) (item_places m)
   unfolding item_places
   named_items = items_are m (names (string_texts m) device) (names_device m device) (names_at m device) (length m) (length m) _ (end_of m 0) (omega arith) (shape_sound m (check_sound m w).shaped).others

@@ -10,8 +10,7 @@ use Rattle.values.specs.declared.Reason.TheVariants.{StringOrder}
 use Rattle.rules.specs.Bytes.{pick, byte, two}
 use Rattle.rules.specs.Format.{form_of, head_size, names_right}
 use Rattle.rules.specs.Check.{stride, next_in_order, places_up, places_in, names_known}
-use Rattle.rules.specs.declared.Verdict.{Verdict}
-use Rattle.rules.specs.declared.Verdict.TheVariants.{Sound, Fault}
+use Rattle.rules.specs.Verdicts.{Verdict, fault_at, no_fault}
 
 -- two bounds that suffice give the same places
 bounds_agree : (j k : ℕ) (m : List ℕ) (p e : ℕ) → e - p ≤ j → e - p ≤ k → places_up j m p e ≡ places_up k m p e
@@ -49,16 +48,16 @@ place_first m p e h = go (e - p) refl
 -- the walk
 module _ (m : List ℕ) (n p e : ℕ) where
   module _ {t : ℕ} {b : Bool} (l : p < e) (et : t ≡ byte m p) (eb : b ≡ names_right m n p (form_of t)) where
-    named : names_known m n (places_in m p e) ≡ pick b (names_known m n (places_in m (next_in_order m p) e)) (Fault StringOrder p)
+    named : names_known m n (places_in m p e) ≡ pick b (names_known m n (places_in m (next_in_order m p) e)) (fault_at StringOrder p)
     unfolding names_known
     named = rw (place_first m p e l, eb, et)
 
     pub next_names : {k w : ℕ} {whole : Verdict} → b ≡ true → k ≡ two m (p + 1) → w ≡ stride (form_of t).rest (head_size (form_of t)) k → names_known m n (places_in m p e) ≡ whole → names_known m n (places_in m (p + 3 + w) e) ≡ whole
     next_names hb ek ew inv = rw (ew, ek, et) (rw (named, hb) at inv)
 
-    pub name_past : {whole : Verdict} → b ≡ false → names_known m n (places_in m p e) ≡ whole → Fault StringOrder p ≡ whole
+    pub name_past : {whole : Verdict} → b ≡ false → names_known m n (places_in m p e) ≡ whole → fault_at StringOrder p ≡ whole
     name_past h inv = rw (named, h) at inv
 
-  pub names_end : {whole : Verdict} → e ≤ p → names_known m n (places_in m p e) ≡ whole → Sound ≡ whole
+  pub names_end : {whole : Verdict} → e ≤ p → names_known m n (places_in m p e) ≡ whole → no_fault ≡ whole
   unfolding names_known
   names_end h inv = rw (no_places m p e h) at inv

@@ -16,7 +16,7 @@ use Rattle.wire.proofs.Fields.{no_fields, field_first}
 use Rattle.rules.specs.Bytes.{pick, byte, two, end_of, fields_in}
 use Rattle.rules.specs.Format.{allowed, take, taken, three, follow, forms, form_in, form_of, size, head_size, rest_right, length_right}
 use Rattle.rules.specs.Check.{walk, inside, text, string_places, check}
-use Rattle.rules.specs.Fields.{Field, Fields, more, read_each, read_body, read_field, read_all, head_of, tag_of, inner, first, others}
+use Rattle.rules.specs.Fields.{Field, Fields, more, read_each, read_body, read_field, read_all, head_of, tag_of, inner, first}
 use Rattle.rules.specs.Read.{strings_from, manifest_from, manifest_of}
 use Rattle.rules.specs.Evaluate.{any}
 use Rattle.rules.specs.Types.{Types, built_in_types}
@@ -28,11 +28,11 @@ use Rattle.rules.specs.declared.Rest.{Rest}
 use Rattle.rules.specs.declared.Rest.TheVariants.{Only, Text as AnyText, Fields as Inner}
 use Rattle.rules.specs.declared.Took.TheVariants.{Takes, Passes}
 use Rattle.rules.specs.declared.Next.TheVariants.{Go, Wrong}
-use Rattle.rules.specs.declared.Verdict.TheVariants.{Sound}
 use Rattle.rules.proofs.Lists.{Each, none_left, also}
 use Rattle.rules.proofs.Within.{wrong_not_go, false_not_true, first_field, inside_sound, level_left, check_sound, shape_sound}
 use Rattle.syntax.specs.Strings.{texts_at, string_texts, is_built_in_text, place_bytes, indexed, Indexed}
 use Rattle.syntax.proofs.Texts.{string_text}
+use Rattle.rules.specs.Verdicts.{no_fault}
 
 -- ---- One string
 
@@ -123,11 +123,11 @@ module _ (m : List ℕ) (d p e : ℕ) where
     short = rw (field_first m q e l) (also few_bytes o.short);
   }
 
-  strings_are : (k n q : ℕ) → e - q ≤ k → walk m (inside m d) p (three (UpTo n AText) Over Over) e (fields_in m q e) ≡ Sound → StringsAre m d n q e
+  strings_are : (k n q : ℕ) → e - q ≤ k → walk m (inside m d) p (three (UpTo n AText) Over Over) e (fields_in m q e) ≡ no_fault → StringsAre m d n q e
   strings_are zero n q b w = no_strings_left n q (omega arith)
   strings_are (suc k) n q b w = go (λ j r c v. strings_are k j r c v) (ltb q e) refl
     where
-      go : ((n q : ℕ) → e - q ≤ k → walk m (inside m d) p (three (UpTo n AText) Over Over) e (fields_in m q e) ≡ Sound → StringsAre m d n q e) → (t : Bool) → ltb q e ≡ t → StringsAre m d n q e
+      go : ((n q : ℕ) → e - q ≤ k → walk m (inside m d) p (three (UpTo n AText) Over Over) e (fields_in m q e) ≡ no_fault → StringsAre m d n q e) → (t : Bool) → ltb q e ≡ t → StringsAre m d n q e
       go others-are false t = no_strings_left n q (ltb-false q e t)
       go others-are true t =
           let l : q < e = ltb-true q e t in
@@ -156,11 +156,11 @@ table_tag t e = eqb-true t 1 e
 
 -- ---- A sound manifest
 
-module _ (m : List ℕ) (w : check m ≡ Sound) where
+module _ (m : List ℕ) (w : check m ≡ no_fault) where
   -- it begins with the table, which ends within it
   record TableThere : Type 0 where
     tag : byte m 0 ≡ 1
-    sound : inside m 32 0 ≡ Sound
+    sound : inside m 32 0 ≡ no_fault
     ends : end_of m 0 ≤ length m
 
   table_there : TableThere
@@ -231,7 +231,7 @@ places_below m e (suc k) q b n h = go (λ r c j i. places_below m e k r c j i) n
         rw (field_first m q e l) (later (end_of m q) (omega arith) n (omega arith))
 
 -- a table with room for 1,024 places, after `index_strings`, has the place of each string
-module _ (m table : List ℕ) (w : check m ≡ Sound) (short : length m ≤ 65535) (room : 2048 ≤ length table) where
+module _ (m table : List ℕ) (w : check m ≡ no_fault) (short : length m ≤ 65535) (room : 2048 ≤ length table) where
   string_fits : (n : ℕ) → n < length (string_places m) → get_or (string_places m) n 0 < 65536
   unfolding string_places
   string_fits n h =
@@ -252,14 +252,14 @@ module _ (m table : List ℕ) (w : check m ≡ Sound) (short : length m ≤ 6553
 -- ---- Names of the tree's strings
 
 -- the string with a number, of the tree, is the text at its place
-pub string_read : (m : List ℕ) (n : ℕ) → check m ≡ Sound → n < length (string_places m) → string_at (manifest_of m).strings n ≡ text m (get_or (string_places m) n 0)
+pub string_read : (m : List ℕ) (n : ℕ) → check m ≡ no_fault → n < length (string_places m) → string_at (manifest_of m).strings n ≡ text m (get_or (string_places m) n 0)
 string_read m n w h = ap (λ (ss : List (List ℕ)). string_at ss n) (strings_read m w) ∙ string_text m n h
 
 -- a built-in type by the number of its name
-pub built_in_read : (types : Types) (m : List ℕ) (n : ℕ) → check m ≡ Sound → n < length (string_places m) → is_built_in types (manifest_of m).strings n ≡ is_built_in_text types (text m (get_or (string_places m) n 0))
+pub built_in_read : (types : Types) (m : List ℕ) (n : ℕ) → check m ≡ no_fault → n < length (string_places m) → is_built_in types (manifest_of m).strings n ≡ is_built_in_text types (text m (get_or (string_places m) n 0))
 unfolding is_built_in is_built_in_text
 built_in_read types m n w h = ap (λ (x : List ℕ). any (same_bytes x) (built_in_types types)) (string_read m n w h)
 
 -- the number of the string `title`
-pub title_read : (m : List ℕ) → check m ≡ Sound → string_number title_text (manifest_of m).strings 0 ≡ string_number title_text (string_texts m) 0
+pub title_read : (m : List ℕ) → check m ≡ no_fault → string_number title_text (manifest_of m).strings 0 ≡ string_number title_text (string_texts m) 0
 title_read m w = ap (λ (ss : List (List ℕ)). string_number title_text ss 0) (strings_read m w)

@@ -1,23 +1,25 @@
 -- One law for each way through `same_bytes`, `string_number`, `is_built_in_text` and `string_at`.
 use Prim.Native.Nat.{ℕ, zero, suc, ◌+◌, ◌*◌, ◌<◌, ◌≤◌}
-use mathlib.Core.Path.{◌≡◌, refl, sym, ap, ◌∙◌}
-use mathlib.Core.Bool.{Bool, true, false, ◌&&◌, ◌||◌}
+use mathlib.Core.Path.{◌≡◌, refl, sym, ap, ap₂, ◌∙◌}
+use mathlib.Core.Bool.{Bool, true, false, ◌&&◌, ◌||◌, not}
 use mathlib.Core.List.{List, [], ◌∷◌}
-use mathlib.Core.Option.{Option, some}
+use mathlib.Core.Option.{some}
 use native.Mathlib.Omega.{arith}
+use lib.Dec.{eqb, ltb, leb-suc-suc}
+use borrow.Author.Tests.{lt-ltb, ltb-true, eq-eqb, ne_eqb}
 use native.Mathlib.Numerals.{add-one}
-use lib.Dec.{eqb}
-use lib.ListN.{length, get_or, drop, drop_of_length-le, get_or-eq_default}
+use lib.Pointwise.{pointwise}
+use Rattle.std.specs.List.{list_any, position, position_or_len}
+use Rattle.std.specs.Prelude.{cond}
+use lib.ListN.{length, get_or, get_or-eq_default, drop, drop_of_length-le}
 use lib.Seq.{drop-cons}
-use borrow.Author.Tests.{eq-eqb, ne_eqb}
 use Rattle.rules.specs.Bytes.{pick, two, end_of, fields_in}
 use Rattle.rules.specs.Check.{text, string_places}
 use Rattle.rules.specs.Evaluate.{any}
+use Rattle.rules.proofs.Lists.{eqb_sym}
 use Rattle.rules.specs.Compile.{same_bytes, string_at, string_number}
-use Rattle.wire.proofs.Fields.{no_fields, field_first}
-use Rattle.syntax.specs.declared.Found.{Found}
-use Rattle.syntax.specs.declared.Found.TheVariants.{At, Nothing}
 use Rattle.syntax.specs.Strings.{texts_at, string_texts, Indexed, found_of}
+use Rattle.std.specs.Prelude.{Option as CodeOption, Some, None}
 
 -- ---- Two strings compared
 
@@ -55,45 +57,54 @@ number_by x y ys i = go (same_bytes x y)
     go true = refl
     go false = refl
 
-module _ (m x : List ℕ) (e q n : ℕ) where
-  module _ {t : List ℕ} {b : Bool} (l : q < e) (et : t ≡ text m q) (eb : b ≡ same_bytes x t) where
-    looked : string_number x (texts_at m (fields_in m q e)) n ≡ pick b (some n) (string_number x (texts_at m (fields_in m (end_of m q) e)) (suc n))
-    unfolding texts_at
-    looked = rw (field_first m q e l, number_by x (text m q) (texts_at m (fields_in m (end_of m q) e)) n, eb, et)
+-- the first place whose text is the string, as `position` counts it
+module _ (m x : List ℕ) where
+  abbrev pub has_text : ℕ → Bool
+  has_text q = same_bytes x (text m q)
 
-    pub number_here : {whole : Option ℕ} → b ≡ true → string_number x (texts_at m (fields_in m q e)) n ≡ whole → At n ≡ found_of whole
-    unfolding found_of
-    number_here {whole} h inv = let here : some n ≡ whole = sym (looked ∙ rw h) ∙ inv in ap found_of here
-
-    pub number_later : {w : ℕ} {whole : Option ℕ} → b ≡ false → w ≡ end_of m q → string_number x (texts_at m (fields_in m q e)) n ≡ whole → string_number x (texts_at m (fields_in m w e)) (n + 1) ≡ whole
-    number_later h w inv = rw (w, add-one n) (sym (looked ∙ rw h) ∙ inv)
-
-  pub no_number : {whole : Option ℕ} → e ≤ q → string_number x (texts_at m (fields_in m q e)) n ≡ whole → Nothing ≡ found_of whole
+  first_number : (qs : List ℕ) (i : ℕ) → found_of (string_number x (texts_at m qs) i) ≡ cond (ltb (position_or_len has_text qs) (length qs)) (Some (i + position_or_len has_text qs)) None
   unfolding texts_at string_number found_of
-  no_number h inv = ap found_of (rw (no_fields m q e h) at inv)
+  first_number [] i = refl
+  first_number (q ∷ qs) i = ap found_of (number_by x (text m q) (texts_at m qs) i) ∙ go (has_text q) (first_number qs (suc i))
+    where
+      go : (b : Bool) → found_of (string_number x (texts_at m qs) (suc i)) ≡ cond (ltb (position_or_len has_text qs) (length qs)) (Some (suc i + position_or_len has_text qs)) None
+          → found_of (pick b (some i) (string_number x (texts_at m qs) (suc i))) ≡ cond (ltb (cond (not b) (1 + position_or_len has_text qs) 0) (suc (length qs))) (Some (i + cond (not b) (1 + position_or_len has_text qs) 0)) None
+      go true rest = let first : i + 0 ≡ i = omega arith in rw (lt-ltb 0 (suc (length qs)) (omega arith), first) refl
+      go false rest =
+          let more : 1 + position_or_len has_text qs ≡ suc (position_or_len has_text qs) = omega arith in
+          let later : i + suc (position_or_len has_text qs) ≡ suc i + position_or_len has_text qs = omega arith in
+          rw (more, leb-suc-suc (suc (position_or_len has_text qs)) (length qs), later) rest
 
-pub of_all_strings : (m x : List ℕ) {e : ℕ} {r : Found} → e ≡ end_of m 0 → r ≡ found_of (string_number x (texts_at m (fields_in m 3 e)) 0) → r ≡ found_of (string_number x (string_texts m) 0)
+pub string_counted : (m x : List ℕ) {e : ℕ} {r : CodeOption ℕ} → e ≡ end_of m 0 → r ≡ position (has_text m x) (fields_in m 3 e) → r ≡ found_of (string_number x (string_texts m) 0)
 unfolding string_texts string_places
-of_all_strings m x h r = rw (← h) r
+string_counted m x at counted =
+    let places : List ℕ = fields_in m 3 (end_of m 0) in
+    let from_none : 0 + position_or_len (has_text m x) places ≡ position_or_len (has_text m x) places = omega arith in
+    (rw at at counted) ∙ ap (λ (n : ℕ). cond (ltb (position_or_len (has_text m x) places) (length places)) (Some n) None) (sym from_none) ∙ sym (first_number m x places 0)
+
+-- a place that is found is one of them
+pub place_below : (P : ℕ → Bool) (qs : List ℕ) {n : ℕ} → position P qs ≡ Some n → n < length qs
+place_below P qs {n} = go (ltb (position_or_len P qs) (length qs)) refl
+  where
+    go : (b : Bool) → ltb (position_or_len P qs) (length qs) ≡ b → cond b (Some (position_or_len P qs)) None ≡ Some n → n < length qs
+    go true l e = let same : position_or_len P qs ≡ n = cc in omega (arith, ltb-true _ _ l)
+    go false l e = let z : ◌≡◌ {A = ℕ} 0 1 = cc in absurd (omega arith)
 
 -- ---- One of several strings
 
-module _ (x y : List ℕ) (ys : List (List ℕ)) {b whole : Bool} (eb : b ≡ same_bytes x y) where
-  pub is_this : b ≡ true → any (same_bytes x) (y ∷ ys) ≡ whole → true ≡ whole
-  unfolding any
-  is_this h w = rw (← eb, h) at w
+-- the same test, its sides exchanged
+same_back : (x y : List ℕ) → pointwise eqb y x ≡ same_bytes x y
+unfolding same_bytes
+same_back [] [] = refl
+same_back [] (b ∷ y) = refl
+same_back (a ∷ x) [] = refl
+same_back (a ∷ x) (b ∷ y) = ap₂ (λ (c d : Bool). c && d) (eqb_sym b a) (same_back x y)
 
-  pub is_later : b ≡ false → any (same_bytes x) (y ∷ ys) ≡ whole → any (same_bytes x) ys ≡ whole
-  unfolding any
-  is_later h w = rw (← eb, h) at w
-
-or_false : (b : Bool) → (b || false) ≡ b
-or_false true = refl
-or_false false = refl
-
-pub is_last : (x y : List ℕ) {b whole : Bool} → b ≡ same_bytes x y → any (same_bytes x) (y ∷ []) ≡ whole → b ≡ whole
+-- `contains` on several strings
+pub one_of : (x : List ℕ) (ys : List (List ℕ)) → list_any (λ y. pointwise eqb y x) ys ≡ any (same_bytes x) ys
 unfolding any
-is_last x y e w = e ∙ sym (or_false (same_bytes x y)) ∙ w
+one_of x [] = refl
+one_of x (y ∷ ys) = ap₂ (λ (c d : Bool). c || d) (same_back x y) (one_of x ys)
 
 -- ---- A string by its number
 

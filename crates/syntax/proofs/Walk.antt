@@ -20,15 +20,13 @@ use Rattle.rules.specs.declared.Rest.{Rest}
 use Rattle.rules.specs.declared.Rest.TheVariants.{Only, Text, Fields}
 use Rattle.rules.specs.declared.Next.{Next}
 use Rattle.rules.specs.declared.Next.TheVariants.{Go, Wrong}
-use Rattle.rules.specs.declared.Verdict.{Verdict}
-use Rattle.rules.specs.declared.Verdict.TheVariants.{Sound, Fault}
 use Rattle.wire.proofs.Fields.{no_fields, field_first}
 use Rattle.format.specs.Numbers.{fields_follow, undone, parts_from, parts_in}
 use Rattle.format.specs.Coming.{comes, complete, then_from}
-use Rattle.format.specs.declared.order.Then.{Then}
-use Rattle.format.specs.declared.order.Then.TheVariants.{Parts as Left, Wrong as NoParts}
 use Rattle.format.proofs.Undone.{left, follow_undone, may_end_undone}
 use Rattle.syntax.specs.Walked.{headed, going, walked}
+use Rattle.std.specs.Prelude.{Option as CodeOption, Some, None}
+use Rattle.rules.specs.Verdicts.{Verdict, fault_at, no_fault}
 
 -- the definition's walk
 pub walk_undone : (m : List ℕ) (inner : ℕ → Verdict) (p : ℕ) (ps : Parts) (e : ℕ) (qs : List ℕ) → walk m inner p ps e qs ≡ walked m inner p (undone ps) e qs
@@ -39,11 +37,11 @@ walk_undone m inner p ps e (q ∷ qs) = whole (λ x. walk_undone m inner p x e q
     Others : Type 0
     Others = (x : Parts) → walk m inner p x e qs ≡ walked m inner p (undone x) e qs
 
-    after : Others → (n : Next) (o : Option (List Part)) → left n ≡ o → allowing n (λ ps'. and_then (inner q) (walk m inner p ps' e qs)) (Fault Malformed q) ≡ going o (λ ps'. and_then (inner q) (walked m inner p ps' e qs)) (Fault Malformed q)
+    after : Others → (n : Next) (o : Option (List Part)) → left n ≡ o → allowing n (λ ps'. and_then (inner q) (walk m inner p ps' e qs)) (fault_at Malformed q) ≡ going o (λ ps'. and_then (inner q) (walked m inner p ps' e qs)) (fault_at Malformed q)
     after others (Go x) o h = rw (← h) (ap (and_then (inner q)) (others x))
     after others Wrong o h = rw (← h)
 
-    whole : Others → (b : Bool) → allowing (pick b (follow ps (byte m q)) Wrong) (λ ps'. and_then (inner q) (walk m inner p ps' e qs)) (Fault Malformed q) ≡ going (pick b (comes (undone ps) (byte m q)) none) (λ ps'. and_then (inner q) (walked m inner p ps' e qs)) (Fault Malformed q)
+    whole : Others → (b : Bool) → allowing (pick b (follow ps (byte m q)) Wrong) (λ ps'. and_then (inner q) (walk m inner p ps' e qs)) (fault_at Malformed q) ≡ going (pick b (comes (undone ps) (byte m q)) none) (λ ps'. and_then (inner q) (walked m inner p ps' e qs)) (fault_at Malformed q)
     whole others true = after others (follow ps (byte m q)) (comes (undone ps) (byte m q)) (follow_undone ps (byte m q))
     whole others false = refl
 
@@ -69,7 +67,7 @@ module _ (m : List ℕ) (ps : List Part) (q e : ℕ) (l : q < e) where
     right_length b et eo = eo ∙ ap (comes ps) et ∙ sym (opened ∙ rw b)
 
 -- a header that is right: the field ends within its surroundings
-pub within : (m : List ℕ) (ps : List Part) (q e : ℕ) {n : Then} {x : ℕ} → then_from n ≡ headed m ps q e → n ≡ Left x → end_of m q ≤ e
+pub within : (m : List ℕ) (ps : List Part) (q e : ℕ) {n : CodeOption ℕ} {x : ℕ} → then_from n ≡ headed m ps q e → n ≡ Some x → end_of m q ≤ e
 unfolding headed
 within m ps q e {n} {x} a h = go (leb (q + 3) e) (leb (end_of m q) e) refl (sym a ∙ ap then_from h)
   where
@@ -79,7 +77,7 @@ within m ps q e {n} {x} a h = go (leb (q + 3) e) (leb (end_of m q) e) refl (sym 
     go false v w s = absurd (let z : ◌≡◌ {A = ℕ} 0 1 = cc in omega arith)
 
 -- what is inside a field
-pub too_deep : (m : List ℕ) (p d : ℕ) → d ≡ 0 → Fault TooDeep p ≡ inside m d p
+pub too_deep : (m : List ℕ) (p d : ℕ) → d ≡ 0 → fault_at TooDeep p ≡ inside m d p
 unfolding inside
 too_deep m p d z = rw z
 
@@ -89,7 +87,7 @@ deep m p zero z = absurd (z refl)
 deep m p (suc d) z = ap (λ (j : ℕ). body m (inside m j) p (form_of (byte m p))) (sym (sub-one (suc d)))
 
 module _ (m : List ℕ) (inner : ℕ → Verdict) (p q : ℕ) where
-  no_fields_in : (r : Rest) → fields_follow r ≡ false → rest m inner p q r ≡ Sound
+  no_fields_in : (r : Rest) → fields_follow r ≡ false → rest m inner p q r ≡ no_fault
   unfolding rest fields_follow
   no_fields_in Only e = refl
   no_fields_in Text e = refl
@@ -102,22 +100,22 @@ module _ (m : List ℕ) (inner : ℕ → Verdict) (p q : ℕ) where
   fields_in_lem (Fields ps) e = walk_undone m inner p ps (end_of m p) (fields_in m q (end_of m p))
 
 module _ (m : List ℕ) (p d : ℕ) (z : d ≡ 0 → ⊥) {n h : ℕ} (en : n ≡ two m (p + 1)) (eh : h ≡ head_size (form_of (byte m p))) where
-  opens : inside m d p ≡ pick (leb h n && bytes_right m p (form_of (byte m p))) (rest m (inside m (d - 1)) p (p + 3 + h) (form_of (byte m p)).rest) (Fault Malformed p)
+  opens : inside m d p ≡ pick (leb h n && bytes_right m p (form_of (byte m p))) (rest m (inside m (d - 1)) p (p + 3 + h) (form_of (byte m p)).rest) (fault_at Malformed p)
   unfolding body
   opens = deep m p d z ∙ rw (← eh, ← en)
 
-  pub no_head : n < h → Fault Malformed p ≡ inside m d p
+  pub no_head : n < h → fault_at Malformed p ≡ inside m d p
   no_head x = sym (opens ∙ rw (lt-leb h n x))
 
   module _ {a : Bool} (x : h ≤ n) (ea : a ≡ bytes_right m p (form_of (byte m p))) where
-    pub wrong_bytes : a ≡ false → Fault Malformed p ≡ inside m d p
+    pub wrong_bytes : a ≡ false → fault_at Malformed p ≡ inside m d p
     wrong_bytes ha = sym (opens ∙ rw (le-leb h n x, ← ea, ha))
 
     module _ {b : Bool} (ha : a ≡ true) (eb : b ≡ fields_follow (form_of (byte m p)).rest) where
       right_bytes : inside m d p ≡ rest m (inside m (d - 1)) p (p + 3 + h) (form_of (byte m p)).rest
       right_bytes = opens ∙ rw (le-leb h n x, ← ea, ha)
 
-      pub no_more : b ≡ false → Sound ≡ inside m d p
+      pub no_more : b ≡ false → no_fault ≡ inside m d p
       no_more hb = sym (right_bytes ∙ no_fields_in m (inside m (d - 1)) p (p + 3 + h) (form_of (byte m p)).rest (sym eb ∙ hb))
 
       pub its_fields : {t : ℕ} (x : ℕ) {r : Verdict} → b ≡ true → t ≡ byte m p → parts_from x ≡ parts_in (form_of t).rest → r ≡ walked m (inside m (d - 1)) p (parts_from x) (p + 3 + n) (fields_in m (p + 3 + h) (p + 3 + n)) → r ≡ inside m d p
@@ -125,24 +123,24 @@ module _ (m : List ℕ) (p d : ℕ) (z : d ≡ 0 → ⊥) {n h : ℕ} (en : n �
 
 -- the fields from q to e
 module _ (m : List ℕ) (inner : ℕ → Verdict) (p : ℕ) (ps : List Part) (q e : ℕ) where
-  pub all_there : {a : Bool} → e ≤ q → a ≡ complete ps → a ≡ true → Sound ≡ walked m inner p ps e (fields_in m q e)
+  pub all_there : {a : Bool} → e ≤ q → a ≡ complete ps → a ≡ true → no_fault ≡ walked m inner p ps e (fields_in m q e)
   unfolding walked
   all_there h a b = rw (no_fields m q e h, ← a, b)
 
-  pub lacking : {a : Bool} → e ≤ q → a ≡ complete ps → a ≡ false → Fault Malformed p ≡ walked m inner p ps e (fields_in m q e)
+  pub lacking : {a : Bool} → e ≤ q → a ≡ complete ps → a ≡ false → fault_at Malformed p ≡ walked m inner p ps e (fields_in m q e)
   unfolding walked
   lacking h a b = rw (no_fields m q e h, ← a, b)
 
-  module _ {n : Then} (l : q < e) (en : then_from n ≡ headed m ps q e) where
-    pub wrong_header : n ≡ NoParts → Fault Malformed q ≡ walked m inner p ps e (fields_in m q e)
+  module _ {n : CodeOption ℕ} (l : q < e) (en : then_from n ≡ headed m ps q e) where
+    pub wrong_header : n ≡ None → fault_at Malformed q ≡ walked m inner p ps e (fields_in m q e)
     unfolding walked
     wrong_header h = rw (field_first m q e l, ← en, h)
 
-    module _ {x : ℕ} {v : Verdict} (h : n ≡ Left x) (ev : v ≡ inner q) where
-      pub fault_inside : {r : Reason} {k : ℕ} → v ≡ Fault r k → v ≡ walked m inner p ps e (fields_in m q e)
+    module _ {x : ℕ} {v : Verdict} (h : n ≡ Some x) (ev : v ≡ inner q) where
+      pub fault_inside : {r : Reason} {k : ℕ} → v ≡ fault_at r k → v ≡ walked m inner p ps e (fields_in m q e)
       unfolding walked
       fault_inside f = rw (field_first m q e l, ← en, h, ← ev, f)
 
-      pub next_field : {k : ℕ} {whole : Verdict} → k ≡ two m (q + 1) → v ≡ Sound → walked m inner p ps e (fields_in m q e) ≡ whole → walked m inner p (parts_from x) e (fields_in m (q + 3 + k) e) ≡ whole
+      pub next_field : {k : ℕ} {whole : Verdict} → k ≡ two m (q + 1) → v ≡ no_fault → walked m inner p ps e (fields_in m q e) ≡ whole → walked m inner p (parts_from x) e (fields_in m (q + 3 + k) e) ≡ whole
       unfolding walked
       next_field k s w = rw k (rw (field_first m q e l, ← en, h, ← ev, s) at w)

@@ -10,36 +10,35 @@ use Rattle.values.specs.declared.Reason.{Reason}
 use Rattle.values.specs.declared.Reason.TheVariants.{MemoryTooShort, ManifestLength}
 use Rattle.rules.specs.Bytes.{pick, end_of, fields_in}
 use Rattle.rules.specs.Check.{and_then, shape, rising, string_places, places_in, names_known, check}
-use Rattle.rules.specs.declared.Verdict.{Verdict}
-use Rattle.rules.specs.declared.Verdict.TheVariants.{Sound, Fault}
 use Rattle.rules.specs.Outcome.{Outcome, ◌>>=◌, refuse_if}
 use Rattle.rules.specs.State.{State}
 use Rattle.rules.specs.Read.{manifest_of}
 use Rattle.rules.specs.Types.{Types, check_types}
 use Rattle.rules.specs.Compile.{checked, none_struck_out, run_manifest, final_state}
 use Rattle.syntax.specs.Before.{before}
+use Rattle.rules.specs.Verdicts.{Verdict, fault_at, no_fault}
 
 module _ (m : List ℕ) where
-  pub bad_shape : {v : Verdict} {r : Reason} {q : ℕ} → v ≡ shape m → v ≡ Fault r q → v ≡ check m
+  pub bad_shape : {v : Verdict} {r : Reason} {q : ℕ} → v ≡ shape m → v ≡ fault_at r q → v ≡ check m
   unfolding check
   bad_shape a h = rw (← a, h)
 
-  module _ {v u : Verdict} {e : ℕ} (ev : v ≡ shape m) (hv : v ≡ Sound) (ee : e ≡ end_of m 0) (eu : u ≡ rising m (fields_in m 3 e)) where
+  module _ {v u : Verdict} {e : ℕ} (ev : v ≡ shape m) (hv : v ≡ no_fault) (ee : e ≡ end_of m 0) (eu : u ≡ rising m (fields_in m 3 e)) where
     shaped : check m ≡ and_then u (names_known m (length (fields_in m 3 e)) (places_in m e (length m)))
     unfolding check string_places
     shaped = rw (← ev, hv, eu, ee)
 
-    pub bad_strings : {r : Reason} {q : ℕ} → u ≡ Fault r q → u ≡ check m
+    pub bad_strings : {r : Reason} {q : ℕ} → u ≡ fault_at r q → u ≡ check m
     bad_strings h = h ∙ sym (shaped ∙ rw h)
 
-    pub then_names : {c : ℕ} {x : Verdict} → u ≡ Sound → c ≡ length (fields_in m 3 e) → x ≡ names_known m c (places_in m e (length m)) → x ≡ check m
+    pub then_names : {c : ℕ} {x : Verdict} → u ≡ no_fault → c ≡ length (fields_in m 3 e) → x ≡ names_known m c (places_in m e (length m)) → x ≡ check m
     then_names h ec ex = ex ∙ sym (shaped ∙ rw (h, ec))
 
-  pub too_short : length m ≡ 0 → Fault ManifestLength 0 ≡ before m
+  pub too_short : length m ≡ 0 → fault_at ManifestLength 0 ≡ before m
   unfolding before
   too_short h = rw h
 
-  pub too_long : (length m ≡ 0 → ⊥) → 65535 < length m → Fault ManifestLength 0 ≡ before m
+  pub too_long : (length m ≡ 0 → ⊥) → 65535 < length m → fault_at ManifestLength 0 ≡ before m
   unfolding before
   too_long z h = rw (ne_eqb _ _ z, lt-ltb _ _ h)
 
@@ -49,7 +48,7 @@ module _ (m : List ℕ) where
 
 -- ---- In the definitions of a whole compile and a whole print, `before` stands behind the memory's length
 
-refused_first : {A : Type 0} (b : Bool) (r : Reason) (p : ℕ) (v : Verdict) (run : Unit {0} → Outcome A) → (refuse_if b r p >>= λ _. checked v >>= run) ≡ (checked (pick b (Fault r p) v) >>= run)
+refused_first : {A : Type 0} (b : Bool) (r : Reason) (p : ℕ) (v : Verdict) (run : Unit {0} → Outcome A) → (refuse_if b r p >>= λ _. checked v >>= run) ≡ (checked (pick b (fault_at r p) v) >>= run)
 unfolding ◌>>=◌ refuse_if checked
 refused_first true r p v run = refl
 refused_first false r p v run = refl

@@ -3,9 +3,8 @@ use Rattle.std.specs.Prelude.{ℕ, ◌||◌, List, eqb, ltb, length}
 use Rattle.values.specs.declared.Reason.TheVariants.{ManifestLength}
 use Rattle.rules.specs.Bytes.{pick}
 use Rattle.rules.specs.Check.{check}
-use Rattle.rules.specs.declared.Verdict.{Verdict}
-use Rattle.rules.specs.declared.Verdict.TheVariants.{Fault}
+use Rattle.rules.specs.Verdicts.{Verdict, fault_at}
 
 -- "2. The manifest's length is outside 1 to 65,535."
 unfoldable pub before : List ℕ → Verdict
-before m = pick (eqb (length m) 0 || ltb 65535 (length m)) (Fault ManifestLength 0) (check m)
+before m = pick (eqb (length m) 0 || ltb 65535 (length m)) (fault_at ManifestLength 0) (check m)

@@ -1,11 +1,9 @@
 -- The node that runs, by its place: "The first node item naming the device, or else the first default one, runs its block in node scope, where
 -- it stands; other node items do nothing."
-use Rattle.std.specs.Prelude.{ℕ, ◌+◌, Bool, false, ◌&&◌, ◌||◌, not, List, [], ◌∷◌, eqb, length}
+use Rattle.std.specs.Prelude.{ℕ, ◌+◌, Bool, false, ◌&&◌, ◌||◌, not, List, [], ◌∷◌, eqb, length, Option as CodeOption, Some, None}
 use Rattle.std.proofs.Math.Option.{Option, none, some}
 use Rattle.rules.specs.Bytes.{pick, byte, two, end_of, fields_in}
 use Rattle.rules.specs.Compile.{same_bytes, string_at}
-use Rattle.syntax.specs.declared.Found.{Found}
-use Rattle.syntax.specs.declared.Found.TheVariants.{At, Nothing}
 use Rattle.syntax.specs.Strings.{string_texts}
 
 -- the items
@@ -37,9 +35,9 @@ unfoldable pub node_for : (m device : List ℕ) → Option ℕ
 node_for m device = or_first (first_at (names_device m device) (item_places m)) (first_at (is_default_at m) (item_places m))
 
 -- the default node met before, or else the item at p, if it is one
-unfoldable pub default_with : List ℕ → (met : Found) → (p : ℕ) → Found
-default_with m (At q) p = At q
-default_with m Nothing p = pick (is_default_at m p) (At p) Nothing
+unfoldable pub default_with : List ℕ → (met : CodeOption ℕ) → (p : ℕ) → CodeOption ℕ
+default_with m (Some q) p = Some q
+default_with m None p = pick (is_default_at m p) (Some p) None
 
 -- an item that runs: one that is no node, or the node chosen
 unfoldable pub runs_at : List ℕ → Option ℕ → ℕ → Bool

@@ -1,5 +1,5 @@
 -- The strings of a manifest by their places, and the table of these places in which a string is looked up by its number.
-use Rattle.std.specs.Prelude.{ℕ, ◌*◌, ◌<◌, ◌≡◌, Bool, List, [], ◌∷◌, ◌++◌, length, get_or}
+use Rattle.std.specs.Prelude.{ℕ, ◌*◌, ◌<◌, ◌≡◌, Bool, List, [], ◌∷◌, ◌++◌, length, get_or, Option as CodeOption, Some, None}
 use Rattle.std.proofs.Math.Option.{Option, none, some}
 use Rattle.wire.specs.Numbers.{high_bytes}
 use Rattle.wire.specs.Runs.{over}
@@ -8,8 +8,6 @@ use Rattle.rules.specs.Check.{text, string_places}
 use Rattle.rules.specs.Evaluate.{any}
 use Rattle.rules.specs.Types.{Types, built_in_types}
 use Rattle.rules.specs.Compile.{same_bytes}
-use Rattle.syntax.specs.declared.Found.{Found}
-use Rattle.syntax.specs.declared.Found.TheVariants.{At, Nothing}
 
 -- the bodies of the fields at the places given
 unfoldable pub texts_at : List ℕ → List ℕ → List (List ℕ)
@@ -38,6 +36,6 @@ pub record Indexed (m table : List ℕ) (strings : ℕ) : Type 0 where
   pub count : strings ≡ length (string_places m)
   pub place : (n : ℕ) → n < strings → two table (2 * n) ≡ get_or (string_places m) n 0
 
-unfoldable pub found_of : Option ℕ → Found
-found_of none = Nothing
-found_of (some n) = At n
+unfoldable pub found_of : Option ℕ → CodeOption ℕ
+found_of none = None
+found_of (some n) = Some n

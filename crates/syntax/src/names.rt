@@ -2,9 +2,9 @@
 ghost use Rattle.std.specs.Prelude.{◌≡◌, length};
 ghost use Rattle.rules.specs.Check.{names_known, places_in};
 
-use crate::order::wrong_string;
 use format::lines::{line_of, names_right, stride};
-use rules::Verdict;
+use rules::{Fault, Verdict};
+use values::Reason;
 use wire::{byte_in, length_at};
 
 // The names of all fields from `from` on, in reading order.
@@ -15,9 +15,9 @@ pub fn check_names(m: &[u8], from: usize, strings: u16) -> Verdict
     while p < m.len() {
         let line = line_of(byte_in(m, p));
         if !names_right(m, strings, p, line) {
-            return wrong_string(p);
+            return Err(Fault::at(Reason::StringOrder, p));
         }
         p = p + 3 + stride(line, length_at(m, p)) as usize;
     }
-    Verdict::Sound
+    Ok(())
 }

@@ -4,7 +4,6 @@ ghost use Rattle.rules.specs.Bytes.{fields_in};
 ghost use Rattle.syntax.specs.Strings.{Indexed, found_of};
 ghost use Rattle.syntax.specs.Nodes.{some_names, names_device, is_default_at, default_with, node_for};
 
-use crate::Found;
 use crate::strings::{same_bytes, string_at};
 use wire::{byte_at, end_of, two_at};
 
@@ -13,8 +12,7 @@ fn some_names(m: &[u8], device: &[u8], table: &[u8], strings: u16, from: usize, 
     requires { (Indexed m.now table.now strings) × (e ≤ 4294967295) }
     ensures { result ≡ some_names m.now device.now (fields_in m.now from e) }
 {
-    let mut q = from;
-    while q < e {
+    for q in wire::fields_in(m, from, e) {
         if byte_at(m, q) != 0x31 {
             return false;
         }
@@ -22,7 +20,6 @@ fn some_names(m: &[u8], device: &[u8], table: &[u8], strings: u16, from: usize, 
         if same_bytes(string_at(m, table, strings, name), device) {
             return true;
         }
-        q = end_of(m, q);
     }
     false
 }
@@ -50,33 +47,24 @@ fn is_default(m: &[u8], p: usize) -> bool
 }
 
 // The default node met before, or else the item at `p`, if it is one.
-fn first_default(m: &[u8], p: usize, met: Found) -> Found
+fn first_default(m: &[u8], p: usize, met: Option<u16>) -> Option<u16>
     requires { p ≤ 65535 }
     ensures { result ≡ default_with m.now met p }
 {
-    match met {
-        Found::At(_) => return met,
-        Found::Nothing => {}
-    }
-    if is_default(m, p) {
-        return Found::At(p as u16);
-    }
-    Found::Nothing
+    met.or(is_default(m, p).then_some(p as u16))
 }
 
 // The place of the node that runs for the device: the items are gone over once, for the first that names it and for the first default one.
-pub fn node_place(m: &[u8], device: &[u8], table: &[u8], strings: u16) -> Found
+pub fn node_place(m: &[u8], device: &[u8], table: &[u8], strings: u16) -> Option<u16>
     requires { (Indexed m.now table.now strings) × (length m.now ≤ 65535) }
     ensures { result ≡ found_of (node_for m.now device.now) }
 {
-    let mut default = Found::Nothing;
-    let mut p = end_of(m, 0);
-    while p < m.len() {
+    let mut default = None;
+    for p in wire::fields_in(m, end_of(m, 0), m.len()) {
         if names_device(m, device, table, strings, p) {
-            return Found::At(p as u16);
+            return Some(p as u16);
         }
         default = first_default(m, p, default);
-        p = end_of(m, p);
     }
     default
 }

@@ -2,53 +2,33 @@
 ghost use Rattle.std.specs.Prelude.{◌≡◌, ◌+◌, ◌≤◌, ◌<◌, length};
 ghost use Rattle.rules.specs.Bytes.{byte, two, end_of, fields_in};
 ghost use Rattle.rules.specs.Check.{inside, shape};
-ghost use Rattle.values.specs.declared.Reason.TheVariants.{Malformed, TooDeep};
-ghost use Rattle.rules.specs.declared.Verdict.TheVariants.{Fault};
 ghost use Rattle.format.specs.Numbers.{line_number, parts_from};
 ghost use Rattle.format.specs.Coming.{then_from};
 ghost use Rattle.syntax.specs.Walked.{headed, walked};
 
 use format::lines::{bytes_right, has_fields, head_size, length_right, line_of};
-use format::order::{Then, follows, may_end};
+use format::order::{follows, may_end};
 use format::parts::{MANIFEST, parts_of};
-use rules::Verdict;
+use rules::{Fault, Verdict};
 use values::Reason;
 use wire::{byte_in, two_in};
 
-fn malformed(place: usize) -> Verdict
-    ensures { result ≡ Fault Malformed place }
-{
-    Verdict::Fault {
-        reason: Reason::Malformed,
-        place,
-    }
-}
-
-fn too_deep(place: usize) -> Verdict
-    ensures { result ≡ Fault TooDeep place }
-{
-    Verdict::Fault {
-        reason: Reason::TooDeep,
-        place,
-    }
-}
-
 // The header of the field at `q`, whose line is `line`, in surroundings that end at `e`: the parts that may come after it.
-fn header_at(m: &[u8], parts: u64, line: u64, q: usize, e: usize) -> Then
+fn header_at(m: &[u8], parts: u64, line: u64, q: usize, e: usize) -> Option<u64>
     requires { (q < e) × ((e ≤ length m.now) × (line ≡ line_number (byte m.now q))) }
     ensures { then_from result ≡ headed m.now (parts_from parts) q e }
 {
     if e - q < 3 {
-        return Then::Wrong;
+        return None;
     }
     let len = two_in(m, q + 1);
     if e - q - 3 < len as usize {
-        return Then::Wrong;
+        return None;
     }
     if length_right(line, len) {
         follows(parts, byte_in(m, q), line)
     } else {
-        Then::Wrong
+        None
     }
 }
 
@@ -59,17 +39,17 @@ fn check_inside(m: &[u8], line: u64, p: usize, len: u16, levels: u8) -> Verdict
     ensures { result ≡ inside m.now levels p }
 {
     if levels == 0 {
-        return too_deep(p);
+        return Err(Fault::at(Reason::TooDeep, p));
     }
     let size = head_size(line);
     if len < size {
-        return malformed(p);
+        return Err(Fault::at(Reason::Malformed, p));
     }
     if !bytes_right(m, p, line) {
-        return malformed(p);
+        return Err(Fault::at(Reason::Malformed, p));
     }
     if !has_fields(line) {
-        return Verdict::Sound;
+        return Ok(());
     }
     let parts = parts_of(byte_in(m, p));
     let from = p + 3 + size as usize;
@@ -87,25 +67,18 @@ fn check_fields(m: &[u8], p: usize, parts: u64, from: usize, e: usize, levels: u
     let mut q = from;
     while q < e {
         let line = line_of(byte_in(m, q));
-        let Then::Parts(then) = header_at(m, left, line, q, e) else {
-            return malformed(q);
+        let Some(then) = header_at(m, left, line, q, e) else {
+            return Err(Fault::at(Reason::Malformed, q));
         };
         let len = two_in(m, q + 1);
-        let found = check_inside(m, line, q, len, levels);
-        match found {
-            Verdict::Fault {
-                reason: _,
-                place: _,
-            } => return found,
-            Verdict::Sound => {}
-        }
+        check_inside(m, line, q, len, levels)?;
         left = then;
         q = q + 3 + len as usize;
     }
     if may_end(left) {
-        Verdict::Sound
+        Ok(())
     } else {
-        malformed(p)
+        Err(Fault::at(Reason::Malformed, p))
     }
 }
 

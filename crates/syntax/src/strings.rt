@@ -7,7 +7,6 @@ ghost use Rattle.rules.specs.Types.{the_eight};
 ghost use Rattle.rules.specs.Compile.{same_bytes, string_at, string_number, title_text};
 ghost use Rattle.syntax.specs.Strings.{string_texts, is_built_in_text, place_bytes, indexed, Indexed, found_of};
 
-use crate::Found;
 use wire::{end_of, length_at, put_number, two_at};
 
 // The body of the field at `p`, or as much of it as is there.
@@ -35,12 +34,10 @@ pub fn same_bytes(x: &[u8], y: &[u8]) -> bool
     if x.len() != y.len() {
         return false;
     }
-    let mut i: usize = 0;
-    while i < x.len() {
+    for i in 0..x.len() {
         if x[i] != y[i] {
             return false;
         }
-        i += 1;
     }
     true
 }
@@ -58,11 +55,9 @@ pub fn index_fields(m: &[u8], from: usize, e: usize, table: &mut [u8]) -> u16
     ensures { (result ≡ length (fields_in m.now from e)) × (table.new ≡ over table.old 0 (place_bytes (fields_in m.now from e))) }
 {
     let mut n: u16 = 0;
-    let mut q = from;
-    while q < e {
+    for q in wire::fields_in(m, from, e) {
         put_number(table, 2 * n as usize, q as u64, 2);
         n += 1;
-        q = end_of(m, q);
     }
     n
 }
@@ -86,53 +81,29 @@ pub fn string_at<'a>(m: &'a [u8], table: &[u8], strings: u16, n: u16) -> &'a [u8
 }
 
 // The number of a string.
-pub fn string_number(m: &[u8], bytes: &[u8]) -> Found
+pub fn string_number(m: &[u8], bytes: &[u8]) -> Option<u16>
     ensures { result ≡ found_of (string_number bytes.now (string_texts m.now) 0) }
 {
-    let e = end_of(m, 0);
-    let mut n: u16 = 0;
-    let mut q: usize = 3;
-    while q < e {
-        if same_bytes(bytes, text_of(m, q)) {
-            return Found::At(n);
-        }
-        n += 1;
-        q = end_of(m, q);
-    }
-    Found::Nothing
+    let mut places = wire::fields_in(m, 3, end_of(m, 0));
+    let n = places.position(|q| same_bytes(bytes, text_of(m, q)))?;
+    Some(n as u16)
 }
 
 // The number of the string `title`.
-pub fn title_number(m: &[u8]) -> Found
+pub fn title_number(m: &[u8]) -> Option<u16>
     ensures { result ≡ found_of (string_number title_text (string_texts m.now) 0) }
 {
     string_number(m, b"title")
 }
 
+// The eight types of document 01.
+const BUILT_IN: [&[u8]; 8] = [
+    b"kiosk", b"tablet", b"printer", b"scanner", b"gate", b"screen", b"plan", b"wall",
+];
+
 // Whether a type is one of the eight, by its name.
 pub fn is_built_in_text(text: &[u8]) -> bool
     ensures { result ≡ is_built_in_text the_eight text.now }
 {
-    if same_bytes(text, b"kiosk") {
-        return true;
-    }
-    if same_bytes(text, b"tablet") {
-        return true;
-    }
-    if same_bytes(text, b"printer") {
-        return true;
-    }
-    if same_bytes(text, b"scanner") {
-        return true;
-    }
-    if same_bytes(text, b"gate") {
-        return true;
-    }
-    if same_bytes(text, b"screen") {
-        return true;
-    }
-    if same_bytes(text, b"plan") {
-        return true;
-    }
-    same_bytes(text, b"wall")
+    BUILT_IN.contains(&text)
 }

@@ -1,8 +1,8 @@
 -- What a call of a text tool leaves.
 use Rattle.std.specs.Prelude.{ℕ, ◌-◌, ◌≡◌, List, ◌++◌, length, take, replicate}
 use Rattle.rules.specs.Outcome.{Outcome}
-use Rattle.notation.specs.declared.Answer.{Answer}
 use Rattle.notation.specs.Convert.{effect_of}
+use Rattle.notation.specs.Answers.{Answer}
 
 -- the answer and all bytes lent are those of the outcome o
 pub record Leaves (o : Outcome (List ℕ)) (output_before output_after memory_before memory_after : List ℕ) (answer : Answer) : Type 0 where

@@ -6,7 +6,7 @@ ghost use Rattle.rules.specs.Outcome.{refused, done};
 ghost use Rattle.text_answers.specs.Leaving.{Leaves, Clears};
 
 use notation::Answer;
-use values::Reason;
+use values::{Reason, Refusal};
 
 // The output from a place on, and the whole memory, become zero.
 fn clear_from(from: usize, out: &mut [u8], work: &mut [u8])
@@ -24,7 +24,7 @@ pub fn refuse(reason: Reason, place: u16, out: &mut [u8], work: &mut [u8]) -> An
     ensures { Leaves (refused reason place) out.old out.new work.old work.new result }
 {
     clear_from(0, out, work);
-    Answer::Refused { reason, place }
+    Err(Refusal { reason, place })
 }
 
 // What is written stays; all other bytes lent become zero.
@@ -33,5 +33,5 @@ pub fn accept(size: u16, out: &mut [u8], work: &mut [u8]) -> Answer
     ensures { Leaves (done (take size out.old)) out.old out.new work.old work.new result }
 {
     clear_from(size as usize, out, work);
-    Answer::Written { length: size }
+    Ok(size)
 }

@@ -2,7 +2,7 @@
 use mathlib.Core.Path.{◌≡◌, refl, sym, ap, subst, ◌∙◌}
 use mathlib.Core.Bool.{Bool, true, false}
 use mathlib.Core.List.{List, [], ◌∷◌, ◌++◌}
-use Prim.Native.Nat.{ℕ, ◌+◌, ◌-◌, ◌*◌, ◌≤◌, ◌<◌}
+use Prim.Native.Nat.{ℕ, ◌-◌, ◌*◌, ◌≤◌, ◌<◌}
 use native.Mathlib.Omega.{arith}
 use borrow.Author.Tests.{eqb-true, eqb-false}
 use lib.Dec.{eqb}
@@ -28,13 +28,13 @@ use Rattle.tree_builder.specs.Shows.{Shows}
 use Rattle.tree_builder.proofs.Ready.{ready}
 use Rattle.parser.specs.declared.text.Pass.{Pass}
 use Rattle.parser.specs.declared.text.Read.{Read}
-use Rattle.parser.specs.declared.text.Read.TheVariants.{On, Done, Fault}
+use Rattle.parser.specs.declared.text.Read.TheVariants.{On, Done}
 use Rattle.parser.specs.Reading.{tokens_left, symbols_of, strings_so_far, TokenTaken, ReadSo, ReadsToken, Begun, Readable, TextRead}
 use Rattle.parser.proofs.TextRead.{Along, going_first, answer, filled_next, going_next, along_next, whole_read, refused_read}
 use Rattle.text_places.specs.Marks.{start_of, body_of, size_of}
 use Rattle.text_places.specs.Log.{Insertion, is_operator, sort, top_before_parts, noted, logged, text_log, noted_by, log_in, Notable, Noted}
 use Rattle.text_places.specs.Places.{TextNoted}
-use Rattle.text_places.specs.declared.places.NotedText.TheVariants.{Whole, Refused}
+use Rattle.std.specs.Prelude.{Some, None, Result as CodeResult, Ok, Err}
 use Rattle.text_places.proofs.TextLeads.{refused_not_done}
 use Rattle.text_places.proofs.MarkedBytes.{shown_start, shown_body, shown_size}
 
@@ -147,21 +147,21 @@ module _ (types : Types) (t out₀ m₀ st₀ tb₀ log₀ out m st tb log : Lis
       taken_written room = n.is room ∙ ap (noted_by y r.kind r.start s next.machine.building) (g.written (omega (arith, n.no_less, n.size))) ∙ longer_so
 
   -- what reading the token answers
-  module _ (a : Read) (out' m' st' tb' : List ℕ) (reads : ReadsToken types t out m st tb p a out' m' st' tb') where
-    unfoldable told : (b : Read) → a ≡ b → ReadSo types t st tb p f b out' m' st' tb'
+  module _ (a : CodeResult Read ℕ) (out' m' st' tb' : List ℕ) (reads : ReadsToken types t out m st tb p a out' m' st' tb') where
+    unfoldable told : (b : CodeResult Read ℕ) → a ≡ b → ReadSo types t st tb p f b out' m' st' tb'
     told = answer types t (strings t tb₀ 0) out₀ m₀ st₀ tb₀ out m st tb p g.along a out' m' st' tb' reads
 
     -- more tokens follow
-    module _ (next : Pass) (i : a ≡ On next) where
+    module _ (next : Pass) (i : a ≡ Ok (On next)) where
       pub next_notable : Notable entries r.start s next.machine.building
       unfolding ReadSo
-      next_notable = taken_notable next out' m' st' tb' (tokens_left t next) (told (On next) i).0
+      next_notable = taken_notable next out' m' st' tb' (tokens_left t next) (told (Ok (On next)) i).0
 
       pub next_noting : {log' : List ℕ} {e : ℕ} → length out' ≡ length out → length m' ≡ length m → length st' ≡ length st → length tb' ≡ length tb → Noted log log' entries e (noted_by y r.kind r.start s next.machine.building)
           → Noting types t out₀ m₀ st₀ tb₀ log₀ out' m' st' tb' log' next e
       unfolding ReadSo along_next going_next told
       next_noting out_size frames_size stack_size table_size n =
-          let w = told (On next) i in
+          let w = told (Ok (On next)) i in
           record {
             along = along_next types t (strings t tb₀ 0) out₀ m₀ st₀ tb₀ out m st tb p g.along a out' m' st' tb' reads next i out_size frames_size stack_size table_size;
             so_far = longer next out' m' st' tb' (tokens_left t next) w.0;
@@ -173,15 +173,15 @@ module _ (types : Types) (t out₀ m₀ st₀ tb₀ log₀ out m st tb log : Lis
           }
 
     -- it was the end
-    module _ (last : Pass) (i : a ≡ Done last) where
+    module _ (last : Pass) (i : a ≡ Ok (Done last)) where
       pub last_notable : Notable entries r.start s last.machine.building
       unfolding ReadSo
-      last_notable = taken_notable last out' m' st' tb' [] (told (Done last) i)
+      last_notable = taken_notable last out' m' st' tb' [] (told (Ok (Done last)) i)
 
-      pub whole_noted : {log' : List ℕ} {e : ℕ} → Noted log log' entries e (noted_by y r.kind r.start s last.machine.building) → TextNoted types t (Whole last.count e) tb' log'
+      pub whole_noted : {log' : List ℕ} {e : ℕ} → Noted log log' entries e (noted_by y r.kind r.start s last.machine.building) → TextNoted types t (Some (record { count = last.count; entries = e })) tb' log'
       unfolding ReadSo TextRead TextNoted text_items strings listed
       whole_noted {log'} {e} n =
-          let w = told (Done last) i in
+          let w = told (Ok (Done last)) i in
           let whole = whole_read types t (strings t tb₀ 0) out₀ m₀ st₀ tb₀ out m st tb p g.along a out' m' st' tb' reads last i in
           let text_log_lem : text_log types t ≡ longer last out' m' st' tb' [] w = taken_log last out' m' st' tb' [] w ∙ logged_none types (symbols_of st' last) w.tree (longer last out' m' st' tb' [] w) in
           let pass = g.along.going.ready in
@@ -194,7 +194,7 @@ module _ (types : Types) (t out₀ m₀ st₀ tb₀ log₀ out m st tb log : Lis
           }
 
     -- it may not stand there
-    pub none_noted : (place : ℕ) → a ≡ Fault place → (log' : List ℕ) → TextNoted types t Refused tb' log'
+    pub none_noted : (place : ℕ) → a ≡ Err place → (log' : List ℕ) → TextNoted types t None tb' log'
     unfolding TextRead TextNoted text_items strings listed
     none_noted place i log' items e = refused_not_done (sym (refused_read types t (strings t tb₀ 0) out₀ m₀ st₀ tb₀ out m st tb p g.along a out' m' st' tb' reads place i).read ∙ e)
 

@@ -17,8 +17,8 @@ use Rattle.interner.specs.TableField.{table_bytes}
 use Rattle.text_places.specs.Marks.{Begins}
 use Rattle.text_places.specs.Log.{Insertion, followed, text_log, log_in}
 use Rattle.text_places.specs.Places.{Roomy, each_entry, short_manifest, any_text, NotedWhole, TextNoted, PlaceTold}
-use Rattle.text_places.specs.declared.places.NotedText.{NotedText}
-use Rattle.text_places.specs.declared.places.NotedText.TheVariants.{Whole, Refused}
+use Rattle.std.specs.Prelude.{Option, Some, None}
+use Rattle.text_places.specs.declared.places.Notes.{Notes}
 use Rattle.text_places.proofs.InManifest.{in_table, in_items}
 use Rattle.text_places.proofs.TextLeads.{items_lead, log_short}
 
@@ -33,13 +33,13 @@ pub told_any : (types : Types) (t : List ℕ) (offset room : ℕ) → (length t 
 told_any types t offset room none = record { low = omega arith; right = λ short items e roomy p b. absurd (none short items e) }
 
 -- what reading with the log answers
-pub whole_told : (types : Types) {t table log : List ℕ} {count entries : ℕ} (r : NotedText) → r ≡ Whole count entries → TextNoted types t r table log → NotedWhole types t table log count entries
+pub whole_told : (types : Types) {t table log : List ℕ} (r : Option Notes) (n : Notes) → r ≡ Some n → TextNoted types t r table log → NotedWhole types t table log n.count n.entries
 unfolding TextNoted
-whole_told types {t} {table} {log} r e h = subst (λ (a : NotedText). TextNoted types t a table log) e h
+whole_told types {t} {table} {log} r n e h = subst (λ (a : Option Notes). TextNoted types t a table log) e h
 
-pub refused_told : (types : Types) {t : List ℕ} {offset room : ℕ} (table log : List ℕ) (r : NotedText) → r ≡ Refused → TextNoted types t r table log → PlaceTold types t offset room 0
+pub refused_told : (types : Types) {t : List ℕ} {offset room : ℕ} (table log : List ℕ) (r : Option Notes) → r ≡ None → TextNoted types t r table log → PlaceTold types t offset room 0
 unfolding TextNoted
-refused_told types {t} {offset} {room} table log r e h = told_any types t offset room (λ short. subst (λ (a : NotedText). TextNoted types t a table log) e h)
+refused_told types {t} {offset} {room} table log r e h = told_any types t offset room (λ short. subst (λ (a : Option Notes). TextNoted types t a table log) e h)
 
 pub same_room : (types : Types) {t : List ℕ} {offset told : ℕ} (m n : ℕ) → m ≡ n → PlaceTold types t offset m told → PlaceTold types t offset n told
 same_room types {t} {offset} {told} m n e h = subst (λ (k : ℕ). PlaceTold types t offset k told) e h

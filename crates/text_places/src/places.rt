@@ -3,23 +3,22 @@ ghost use Rattle.std.specs.Prelude.{◌≡◌, true, ◌≤◌, eqb, length};
 ghost use Rattle.parse_table.specs.Codes.{symbol_of};
 ghost use Rattle.parse_table.specs.Stack.{stack_of};
 ghost use Rattle.rules.specs.Types.{Types, check_types};
-ghost use Rattle.rules.specs.declared.Verdict.TheVariants.{Sound};
 ghost use Rattle.type_list.specs.Listed.{chosen, Listed};
 ghost use Rattle.parser.specs.Reading.{Readable};
 ghost use Rattle.text_places.specs.Log.{sort, top_before_parts};
 ghost use Rattle.text_places.specs.Places.{NotedWhole, Noted, TextNoted, PlaceTold, PlaceGiven};
+ghost use Rattle.rules.specs.Verdicts.{no_fault};
 
 use crate::log::{follow, note};
 use interner::fields::table_size;
 use lexer::next_token;
 use parser::text::{Read, begin, read_token};
-use rules::Verdict;
 
-// What comes of a text: how many strings and how many entries of the log it has, or that it is refused.
+// How many strings and how many entries of the log a text has.
 #[derive(Clone, Copy)]
-pub enum NotedText {
-    Whole { count: usize, entries: usize },
-    Refused,
+pub struct Notes {
+    pub count: usize,
+    pub entries: usize,
 }
 
 // The symbol on top of the stack; 0 where there is none.
@@ -33,7 +32,7 @@ fn top_symbol(stack: &[u8], top: usize) -> u8
     stack[top - 1]
 }
 
-// All tokens of a text, with the log.
+// All tokens of a text, with the log; none if the text is refused.
 fn note_text(
     types: &[u8],
     index: &[u8],
@@ -44,7 +43,7 @@ fn note_text(
     stack: &mut [u8],
     table: &mut [u8],
     log: &mut [u8],
-) -> NotedText
+) -> Option<Notes>
     requires { Listed types.now index.now listed × Readable text.now out.old frames.old stack.old table.old 0 }
     ensures { TextNoted (chosen types.now) text.now result table.new log.new }
 {
@@ -55,7 +54,7 @@ fn note_text(
         let before = machine.building;
         let symbol = top_symbol(stack, machine.top);
         let token = next_token(text, pass.at, pass.line, pass.operand);
-        match read_token(types, index, listed, text, out, frames, stack, table, pass) {
+        match read_token(types, index, listed, text, out, frames, stack, table, pass).ok()? {
             Read::On(next) => {
                 let behind = next.machine;
                 entries = note(log, entries, symbol, token, before, behind.building);
@@ -64,12 +63,11 @@ fn note_text(
             Read::Done(last) => {
                 let behind = last.machine;
                 let all = note(log, entries, symbol, token, before, behind.building);
-                return NotedText::Whole {
+                return Some(Notes {
                     count: last.count,
                     entries: all,
-                };
+                });
             }
-            Read::Fault(place) => return NotedText::Refused,
         }
     }
 }
@@ -98,7 +96,7 @@ fn place_in(
 
 // The place in the text of the token that brought the field at the offset `field`, with types without fault.
 fn place_chosen(types: &[u8], text: &[u8], field: usize, log: &mut [u8]) -> usize
-    requires { check_types (chosen types.now) ≡ Sound }
+    requires { check_types (chosen types.now) ≡ no_fault }
     ensures { PlaceTold (chosen types.now) text.now field (length log.old) result }
 {
     if 65535 < text.len() {
@@ -121,26 +119,19 @@ fn place_chosen(types: &[u8], text: &[u8], field: usize, log: &mut [u8]) -> usiz
         &mut table,
         log,
     ) {
-        NotedText::Whole { count, entries } => place_in(text, &table, log, count, entries, field),
-        NotedText::Refused => 0,
+        Some(notes) => place_in(text, &table, log, notes.count, notes.entries, field),
+        None => 0,
     }
 }
 
 // Whether a list, which may be none, is without fault.
 fn is_sound(types: &[u8]) -> bool
-    ensures { (result ≡ true → check_types (chosen types.now) ≡ Sound) × (check_types (chosen types.now) ≡ Sound → result ≡ true) }
+    ensures { (result ≡ true → check_types (chosen types.now) ≡ no_fault) × (check_types (chosen types.now) ≡ no_fault → result ≡ true) }
 {
-    if types.len() == 0 {
+    if types.is_empty() {
         return true;
     }
-    let v = type_list::check_types(types);
-    match v {
-        Verdict::Sound => true,
-        Verdict::Fault {
-            reason: _,
-            place: _,
-        } => false,
-    }
+    type_list::check_types(types).is_ok()
 }
 
 // The place in the text of the token that brought the field at the offset `field` of the text's manifest, where these types are built in: an empty list means the

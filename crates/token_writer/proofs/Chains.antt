@@ -2,10 +2,10 @@
 use mathlib.Core.Path.{◌≡◌, refl, sym, ap, ◌∙◌}
 use mathlib.Core.List.{List, [], ◌∷◌, ◌++◌, append_assoc}
 use mathlib.Core.Option.{none, some}
-use Prim.Native.Nat.{ℕ, ◌+◌, ◌≤◌, ◌<◌}
+use Prim.Native.Nat.{ℕ, ◌+◌, ◌≤◌}
 use native.Mathlib.Omega.{arith}
-use borrow.Author.Tests.{ne_eqb}
 use lib.ListN.{length, take}
+use Rattle.std.specs.Prelude.{None}
 use Rattle.wire.proofs.Laws.{over_front}
 use Rattle.notation.specs.Tokens.{Token, kind, Lexeme, lexeme}
 use Rattle.notation.specs.Layout.{spelling, brackets_behind, laid_out}
@@ -26,29 +26,28 @@ put_token t {a} {b} {c} {pen} {pen'} {w} {at} {end} space token (fill, behind) =
 -- ---- What is to come
 
 -- a token, and what comes behind it
-pub text_next : (t : Token) {pen pen' : Pen} {w : ℕ} → kind t < 255 → Behind pen pen' (kind t) w → (p : ℕ) (xs : List Lexeme) → text_from pen (lexeme p w t ∷ xs) ≡ token_bytes pen w t ++ text_from pen' xs
+pub text_next : (t : Token) {pen pen' : Pen} {w : ℕ} → Behind pen pen' (kind t) w → (p : ℕ) (xs : List Lexeme) → text_from pen (lexeme p w t ∷ xs) ≡ token_bytes pen w t ++ text_from pen' xs
 unfolding text_from laid_out token_bytes gap_for last_kind
-text_next t {pen} {pen'} {w} known behind p xs =
-    let other : kind t ≡ 255 → ⊥ = λ e. omega (arith, e) in
-    rw (behind.before, behind.brackets, behind.line, ne_eqb (kind t) 255 other)
+text_next t {pen} {pen'} {w} behind p xs =
+    rw (behind.before, behind.brackets, behind.line)
     (sym (append_assoc (gap_for pen (kind t) w) (spelling t) (laid_out xs (some (kind t)) (brackets_behind (kind t) pen.brackets) w)))
 
 -- the whole text is still to come, before the first token
-pub at_start_lem : (out : List ℕ) (xs : List Lexeme) → Halfway out out (record { fill = 0; before = 255; brackets = 0; line = 0 }) (laid_out xs none 0 0) xs
+pub at_start_lem : (out : List ℕ) (xs : List Lexeme) → Halfway out out (record { fill = 0; before = None; brackets = 0; line = 0 }) (laid_out xs none 0 0) xs
 unfolding text_from last_kind
 at_start_lem out xs = record { done = []; wrote = wrote_none out 0; rest = refl }
 
 module _ {out₀ a : List ℕ} {pen : Pen} {whole : List ℕ} where
   -- the next token is written
   pub one_more : {b : List ℕ} {pen' : Pen} {w p : ℕ} {t : Token} {xs : List Lexeme}
-      → Halfway out₀ a pen whole (lexeme p w t ∷ xs) → kind t < 255 → Put a b pen pen' w t → Halfway out₀ b pen' whole xs
-  one_more {b} {pen'} {w} {p} {t} {xs} so known put =
+      → Halfway out₀ a pen whole (lexeme p w t ∷ xs) → Put a b pen pen' w t → Halfway out₀ b pen' whole xs
+  one_more {b} {pen'} {w} {p} {t} {xs} so put =
       record {
         done = so.done ++ token_bytes pen w t;
         wrote = wrote_join so.wrote put.bytes;
         rest =
             append_assoc so.done (token_bytes pen w t) (text_from pen' xs)
-            ∙ ap (λ (l : List ℕ). so.done ++ l) (sym (text_next t known put.behind p xs)) ∙ so.rest;
+            ∙ ap (λ (l : List ℕ). so.done ++ l) (sym (text_next t put.behind p xs)) ∙ so.rest;
       }
 
   -- the end is written

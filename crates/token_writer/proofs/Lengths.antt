@@ -43,7 +43,7 @@ keyword_short (x ∷ xs) k = go (eqb k x.1) (keyword_short xs k)
     go true h = omega arith
     go false h = omega (arith, h)
 
-mark_short : (k : ℕ) → length (mark_spelling k) ≤ 62
+pub mark_short : (k : ℕ) → length (mark_spelling k) ≤ 62
 unfolding mark_spelling together
 mark_short k = go (eqb k two_equals) (eqb k arrow) (eqb k equals)
   where

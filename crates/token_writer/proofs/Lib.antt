@@ -1,6 +1,5 @@
 pub mod Writing
 pub mod WhiteSpace
-pub mod Spelling
 pub mod Strings
 pub mod Numbers
 pub mod Chains

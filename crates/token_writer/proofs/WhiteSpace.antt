@@ -10,24 +10,28 @@ use lib.Dec.{ltb, eqb}
 use lib.ListN.{length, replicate, length-append, length-replicate}
 use Rattle.rules.specs.Bytes.{pick}
 use Rattle.notation.specs.Layout.{no_space_behind, no_space_before, gap, brackets_behind, laid_out}
+use Rattle.std.specs.Prelude.{Option as CodeOption, Some, None}
 use Rattle.token_writer.specs.declared.Pen.{Pen}
 use Rattle.token_writer.specs.Writing.{Wrote}
 use Rattle.token_writer.specs.Pens.{last_kind, gap_for, text_from, Ready}
 
 -- ---- Where no space stands
 
-module _ (k : ℕ) where
-  pub close_behind : (k ≡ 9) ⊎ ((k ≡ 11) ⊎ ((k ≡ 17) ⊎ (k ≡ 255))) → true ≡ no_space_behind (last_kind k)
-  unfolding last_kind no_space_behind
-  close_behind (inl e) = rw e
-  close_behind (inr (inl e)) = rw e
-  close_behind (inr (inr (inl e))) = rw e
-  close_behind (inr (inr (inr e))) = rw e
+-- before the first token
+pub none_behind : {o : CodeOption ℕ} → o ≡ None → true ≡ no_space_behind (last_kind o)
+unfolding last_kind no_space_behind
+none_behind is = rw is
 
-  pub apart_behind : ((k ≡ 9) ⊎ ((k ≡ 11) ⊎ ((k ≡ 17) ⊎ (k ≡ 255))) → ⊥) → false ≡ no_space_behind (last_kind k)
+module _ (k : ℕ) where
+  pub close_behind : {o : CodeOption ℕ} → o ≡ Some k → (k ≡ 9) ⊎ ((k ≡ 11) ⊎ (k ≡ 17)) → true ≡ no_space_behind (last_kind o)
   unfolding last_kind no_space_behind
-  apart_behind other =
-      rw (ne_eqb k 255 (λ e. other (inr (inr (inr e)))), ne_eqb k 9 (λ e. other (inl e)), ne_eqb k 11 (λ e. other (inr (inl e))), ne_eqb k 17 (λ e. other (inr (inr (inl e)))))
+  close_behind is (inl e) = rw (is, e)
+  close_behind is (inr (inl e)) = rw (is, e)
+  close_behind is (inr (inr e)) = rw (is, e)
+
+  pub apart_behind : {o : CodeOption ℕ} → o ≡ Some k → ((k ≡ 9) ⊎ ((k ≡ 11) ⊎ (k ≡ 17)) → ⊥) → false ≡ no_space_behind (last_kind o)
+  unfolding last_kind no_space_behind
+  apart_behind is other = rw (is, ne_eqb k 9 (λ e. other (inl e)), ne_eqb k 11 (λ e. other (inr (inl e))), ne_eqb k 17 (λ e. other (inr (inr e))))
 
   -- the kinds from 10 to 14
   pub close_before : 10 ≤ k → k ≤ 14 → true ≡ no_space_before k
@@ -134,10 +138,10 @@ after_gap pen k w r h gone = omega (arith, r.fill, gone.filled, gap_short pen k 
 -- ---- The end of the text
 
 module _ (pen : Pen) where
-  pub end_none : pen.before ≡ 255 → [] ≡ text_from pen []
+  pub end_none : pen.before ≡ None → [] ≡ text_from pen []
   unfolding text_from last_kind laid_out
   end_none e = rw e
 
-  pub end_feed : (pen.before ≡ 255 → ⊥) → 0x0a ∷ [] ≡ text_from pen []
+  pub end_feed : {k : ℕ} → pen.before ≡ Some k → 0x0a ∷ [] ≡ text_from pen []
   unfolding text_from last_kind laid_out
-  end_feed other = rw (ne_eqb pen.before 255 other)
+  end_feed e = rw e

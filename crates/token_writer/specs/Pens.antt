@@ -1,15 +1,15 @@
 -- A token more, by what stands before it; and a text of tokens that is written up to one of them.
-use Rattle.std.specs.Prelude.{◌≡◌, List, ◌++◌, ℕ, ◌≤◌, eqb}
+use Rattle.std.specs.Prelude.{◌≡◌, List, ◌++◌, ℕ, ◌≤◌, Option as CodeOption, Some, None}
 use Rattle.std.proofs.Math.Option.{Option, none, some}
-use Rattle.rules.specs.Bytes.{pick}
 use Rattle.notation.specs.Tokens.{Token, kind, Lexeme}
 use Rattle.notation.specs.Layout.{gap, spelling, brackets_behind, laid_out}
 use Rattle.token_writer.specs.declared.Pen.{Pen}
 use Rattle.token_writer.specs.Writing.{Wrote}
 
--- the kind of the last token; 255 says that there is none
-unfoldable pub last_kind : ℕ → Option ℕ
-last_kind k = pick (eqb k 255) none (some k)
+-- the kind of the last token, if there is one
+unfoldable pub last_kind : CodeOption ℕ → Option ℕ
+last_kind None = none
+last_kind (Some k) = some k
 
 -- the white space before a token of kind k on line w
 unfoldable pub gap_for : Pen → (k w : ℕ) → List ℕ
@@ -30,7 +30,7 @@ pub record Ready (pen : Pen) : Type 0 where
 
 -- what the pen tells behind a token of kind k on line w
 pub record Behind (pen pen' : Pen) (k w : ℕ) : Type 0 where
-  pub before : pen'.before ≡ k
+  pub before : pen'.before ≡ Some k
   pub brackets : pen'.brackets ≡ brackets_behind k pen.brackets
   pub line : pen'.line ≡ w
 

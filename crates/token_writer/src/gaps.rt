@@ -6,13 +6,19 @@ ghost use Rattle.token_writer.specs.Pens.{Ready, last_kind, gap_for};
 
 use crate::Pen;
 use crate::pieces::put_run;
+use notation::kinds::{
+    COMMA, EXCLAMATION, LEFT_BRACE, LEFT_ROUND, LEFT_SQUARE, RIGHT_BRACE, RIGHT_ROUND, RIGHT_SQUARE,
+};
 
 // Nothing before the first token, and behind `(`, `[` and `!`.
-fn no_space_behind(before: u8) -> bool
+fn no_space_behind(before: Option<u8>) -> bool
     ensures { result ≡ no_space_behind (last_kind before) }
 {
-    match before {
-        255 | 9 | 11 | 17 => true,
+    let Some(kind) = before else {
+        return true;
+    };
+    match kind {
+        LEFT_ROUND | LEFT_SQUARE | EXCLAMATION => true,
         _ => false,
     }
 }
@@ -22,7 +28,7 @@ fn no_space_before(kind: u8) -> bool
     ensures { result ≡ no_space_before kind }
 {
     match kind {
-        10..=14 => true,
+        RIGHT_ROUND..=COMMA => true,
         _ => false,
     }
 }
@@ -52,8 +58,8 @@ pub fn brackets_behind(kind: u8, brackets: usize) -> usize
     ensures { result ≡ brackets_behind kind brackets }
 {
     match kind {
-        7 | 9 | 11 => brackets + 1,
-        8 | 10 | 12 => {
+        LEFT_BRACE | LEFT_ROUND | LEFT_SQUARE => brackets + 1,
+        RIGHT_BRACE | RIGHT_ROUND | RIGHT_SQUARE => {
             if brackets == 0 {
                 return 0;
             }

@@ -7,33 +7,19 @@ ghost use Rattle.token_writer.specs.Writing.{Wrote};
 ghost use Rattle.token_writer.specs.Pens.{text_from, Ready, Behind, Put};
 
 use crate::gaps::{brackets_behind, put_gap};
-use crate::marks::put_spelling;
+use crate::marks::spelling;
 use crate::pieces::{put_bytes, put_integer, put_quoted, put_run};
+use notation::kinds::{A_NUMBER, A_QUALIFIED, A_TEXT, A_VARIABLE, A_WORD};
 
 mod gaps; // gaps.rt: the white space before a token
 mod marks; // marks.rt: signs and keywords
 mod pieces; // pieces.rt: bytes at a place
 
-// Kinds of tokens that their bytes tell apart.
-const WORD: u8 = 0;
-
-const NUMBER: u8 = 1;
-
-const TEXT: u8 = 2;
-
-const VARIABLE: u8 = 3;
-
-const QUALIFIED: u8 = 4;
-
-// No token yet.
-const NONE: u8 = 255;
-
-// Where the text stands: how long it is so far, the kind of its last token (255 where there is none), the brackets that are open, and the
-// line of the last token.
+// Where the text stands: how long it is so far, the kind of its last token, the brackets that are open, and the line of the last token.
 #[derive(Clone, Copy)]
 pub struct Pen {
     pub fill: usize,
-    pub before: u8,
+    pub before: Option<u8>,
     pub brackets: usize,
     pub line: u8,
 }
@@ -42,7 +28,7 @@ impl Pen {
     // Before the first token.
     pub const START: Pen = Pen {
         fill: 0,
-        before: NONE,
+        before: None,
         brackets: 0,
         line: 0,
     };
@@ -55,7 +41,7 @@ fn pen_behind(pen: Pen, fill: usize, kind: u8, line: u8) -> Pen
 {
     Pen {
         fill,
-        before: kind,
+        before: Some(kind),
         brackets: brackets_behind(kind, pen.brackets),
         line,
     }
@@ -67,7 +53,7 @@ pub fn put_mark(out: &mut [u8], pen: Pen, line: u8, kind: u8) -> Pen
     ensures { Put out.old out.new pen result line (mark kind) }
 {
     let at = put_gap(out, pen, kind, line);
-    let end = put_spelling(out, at, kind);
+    let end = put_bytes(out, at, spelling(kind));
     pen_behind(pen, end, kind, line)
 }
 
@@ -76,9 +62,9 @@ pub fn put_word(out: &mut [u8], pen: Pen, line: u8, name: &[u8]) -> Pen
     requires { Ready pen × (length name.now ≤ 65535) }
     ensures { Put out.old out.new pen result line (word name.now) }
 {
-    let at = put_gap(out, pen, WORD, line);
+    let at = put_gap(out, pen, A_WORD, line);
     let end = put_bytes(out, at, name);
-    pen_behind(pen, end, WORD, line)
+    pen_behind(pen, end, A_WORD, line)
 }
 
 // A string, in single quotes.
@@ -86,11 +72,11 @@ pub fn put_text(out: &mut [u8], pen: Pen, line: u8, string: &[u8]) -> Pen
     requires { Ready pen × (length string.now ≤ 65535) }
     ensures { Put out.old out.new pen result line (text string.now) }
 {
-    let at = put_gap(out, pen, TEXT, line);
+    let at = put_gap(out, pen, A_TEXT, line);
     let quote = put_bytes(out, at, b"'");
     let content = put_quoted(out, quote, string);
     let end = put_bytes(out, content, b"'");
-    pen_behind(pen, end, TEXT, line)
+    pen_behind(pen, end, A_TEXT, line)
 }
 
 // `$x`
@@ -98,10 +84,10 @@ pub fn put_variable(out: &mut [u8], pen: Pen, line: u8, name: &[u8]) -> Pen
     requires { Ready pen × (length name.now ≤ 65535) }
     ensures { Put out.old out.new pen result line (variable name.now) }
 {
-    let at = put_gap(out, pen, VARIABLE, line);
+    let at = put_gap(out, pen, A_VARIABLE, line);
     let sign = put_bytes(out, at, b"$");
     let end = put_bytes(out, sign, name);
-    pen_behind(pen, end, VARIABLE, line)
+    pen_behind(pen, end, A_VARIABLE, line)
 }
 
 // `$::x`
@@ -109,10 +95,10 @@ pub fn put_top_variable(out: &mut [u8], pen: Pen, line: u8, name: &[u8]) -> Pen
     requires { Ready pen × (length name.now ≤ 65535) }
     ensures { Put out.old out.new pen result line (top_variable name.now) }
 {
-    let at = put_gap(out, pen, QUALIFIED, line);
+    let at = put_gap(out, pen, A_QUALIFIED, line);
     let sign = put_bytes(out, at, b"$::");
     let end = put_bytes(out, sign, name);
-    pen_behind(pen, end, QUALIFIED, line)
+    pen_behind(pen, end, A_QUALIFIED, line)
 }
 
 // `$::a::x`
@@ -120,12 +106,12 @@ pub fn put_class_variable(out: &mut [u8], pen: Pen, line: u8, class: &[u8], name
     requires { Ready pen × (length class.now ≤ 65535) × (length name.now ≤ 65535) }
     ensures { Put out.old out.new pen result line (class_variable class.now name.now) }
 {
-    let at = put_gap(out, pen, QUALIFIED, line);
+    let at = put_gap(out, pen, A_QUALIFIED, line);
     let sign = put_bytes(out, at, b"$::");
     let whose = put_bytes(out, sign, class);
     let colons = put_bytes(out, whose, b"::");
     let end = put_bytes(out, colons, name);
-    pen_behind(pen, end, QUALIFIED, line)
+    pen_behind(pen, end, A_QUALIFIED, line)
 }
 
 // A number in decimal digits.
@@ -133,9 +119,9 @@ pub fn put_number(out: &mut [u8], pen: Pen, line: u8, value: i64) -> Pen
     requires { Ready pen }
     ensures { Put out.old out.new pen result line (number value) }
 {
-    let at = put_gap(out, pen, NUMBER, line);
+    let at = put_gap(out, pen, A_NUMBER, line);
     let end = put_integer(out, at, value);
-    pen_behind(pen, end, NUMBER, line)
+    pen_behind(pen, end, A_NUMBER, line)
 }
 
 // The line feed behind the last token, if there is one. The answer is the length of the whole text.
@@ -143,8 +129,8 @@ pub fn put_end(out: &mut [u8], pen: Pen) -> usize
     requires { Ready pen }
     ensures { Wrote out.old out.new pen.fill result (text_from pen []) }
 {
-    if pen.before == NONE {
-        return pen.fill;
+    match pen.before {
+        None => pen.fill,
+        Some(_) => put_run(out, pen.fill, b'\n', 1),
     }
-    put_run(out, pen.fill, b'\n', 1)
 }

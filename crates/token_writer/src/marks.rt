@@ -1,62 +1,48 @@
 // The spelling of signs and keywords.
-ghost use Rattle.std.specs.Prelude.{◌≤◌};
+ghost use Rattle.std.specs.Prelude.{◌≡◌, ◌≤◌};
 ghost use Rattle.notation.specs.Layout.{mark_spelling};
-ghost use Rattle.token_writer.specs.Writing.{Wrote};
 
-use crate::pieces::put_bytes;
+use notation::kinds::{
+    ABOVE, AND_WORD, ARROW, CASE_WORD, CLASS_WORD, COLON, COMMA, DEFAULT_WORD, DEFINE_WORD,
+    ELSE_WORD, EQUALS, EXCLAMATION, FALSE_WORD, IF_WORD, INCLUDE_WORD, LEFT_BRACE, LEFT_ROUND,
+    LEFT_SQUARE, MINUS_SIGN, NODE_WORD, OR_WORD, PLUS_SIGN, QUESTION, RIGHT_BRACE, RIGHT_ROUND,
+    RIGHT_SQUARE, SLASH, TRUE_WORD, TWO_EQUALS,
+};
 
-fn put_sign(out: &mut [u8], at: usize, kind: u8) -> usize
-    requires { (at ≤ 562949953421311) × (7 ≤ kind) × (kind ≤ 23) }
-    ensures { Wrote out.old out.new at result (mark_spelling kind) }
+pub fn spelling(kind: u8) -> &'static [u8]
+    requires { (7 ≤ kind) × (kind ≤ 36) }
+    ensures { result.now ≡ mark_spelling kind }
 {
     match kind {
-        7 => put_bytes(out, at, b"{"),
-        8 => put_bytes(out, at, b"}"),
-        9 => put_bytes(out, at, b"("),
-        10 => put_bytes(out, at, b")"),
-        11 => put_bytes(out, at, b"["),
-        12 => put_bytes(out, at, b"]"),
-        13 => put_bytes(out, at, b":"),
-        14 => put_bytes(out, at, b","),
-        15 => put_bytes(out, at, b"=>"),
-        16 => put_bytes(out, at, b"?"),
-        17 => put_bytes(out, at, b"!"),
-        18 => put_bytes(out, at, b"+"),
-        19 => put_bytes(out, at, b"-"),
-        20 => put_bytes(out, at, b"/"),
-        21 => put_bytes(out, at, b">"),
-        22 => put_bytes(out, at, b"=="),
-        _ => put_bytes(out, at, b"="),
+        LEFT_BRACE => b"{",
+        RIGHT_BRACE => b"}",
+        LEFT_ROUND => b"(",
+        RIGHT_ROUND => b")",
+        LEFT_SQUARE => b"[",
+        RIGHT_SQUARE => b"]",
+        COLON => b":",
+        COMMA => b",",
+        ARROW => b"=>",
+        QUESTION => b"?",
+        EXCLAMATION => b"!",
+        PLUS_SIGN => b"+",
+        MINUS_SIGN => b"-",
+        SLASH => b"/",
+        ABOVE => b">",
+        TWO_EQUALS => b"==",
+        EQUALS => b"=",
+        AND_WORD => b"and",
+        OR_WORD => b"or",
+        TRUE_WORD => b"true",
+        FALSE_WORD => b"false",
+        DEFAULT_WORD => b"default",
+        IF_WORD => b"if",
+        ELSE_WORD => b"else",
+        CASE_WORD => b"case",
+        CLASS_WORD => b"class",
+        INCLUDE_WORD => b"include",
+        NODE_WORD => b"node",
+        DEFINE_WORD => b"define",
+        _ => b"inherits",
     }
-}
-
-fn put_keyword(out: &mut [u8], at: usize, kind: u8) -> usize
-    requires { (at ≤ 562949953421311) × (24 ≤ kind) × (kind ≤ 36) }
-    ensures { Wrote out.old out.new at result (mark_spelling kind) }
-{
-    match kind {
-        24 => put_bytes(out, at, b"and"),
-        25 => put_bytes(out, at, b"or"),
-        26 => put_bytes(out, at, b"true"),
-        27 => put_bytes(out, at, b"false"),
-        28 => put_bytes(out, at, b"default"),
-        29 => put_bytes(out, at, b"if"),
-        30 => put_bytes(out, at, b"else"),
-        31 => put_bytes(out, at, b"case"),
-        32 => put_bytes(out, at, b"class"),
-        33 => put_bytes(out, at, b"include"),
-        34 => put_bytes(out, at, b"node"),
-        35 => put_bytes(out, at, b"define"),
-        _ => put_bytes(out, at, b"inherits"),
-    }
-}
-
-pub fn put_spelling(out: &mut [u8], at: usize, kind: u8) -> usize
-    requires { (at ≤ 562949953421311) × (7 ≤ kind) × (kind ≤ 36) }
-    ensures { Wrote out.old out.new at result (mark_spelling kind) }
-{
-    if kind < 24 {
-        return put_sign(out, at, kind);
-    }
-    put_keyword(out, at, kind)
 }

@@ -20,11 +20,8 @@ pub fn put_run(out: &mut [u8], at: usize, b: u8, count: usize) -> usize
     ensures { Wrote out.old out.new at result (replicate count b) }
 {
     let end = at + count;
-    let mut p = at;
-    while p < end && p < out.len() {
-        out[p] = b;
-        p += 1;
-    }
+    let room = out.len();
+    out[at.min(room)..end.min(room)].fill(b);
     end
 }
 
@@ -47,10 +44,8 @@ pub fn put_quoted(out: &mut [u8], at: usize, string: &[u8]) -> usize
     ensures { Wrote out.old out.new at result (escaped_all string.now) }
 {
     let mut end = at;
-    let mut i = 0;
-    while i < string.len() {
-        end = put_escaped(out, end, string[i]);
-        i += 1;
+    for byte in string {
+        end = put_escaped(out, end, *byte);
     }
     end
 }

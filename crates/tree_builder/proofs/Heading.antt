@@ -15,7 +15,6 @@ use Rattle.notation.specs.Building.{Piece, byte, name, Node, node, Nodes, empty,
 use Rattle.notation.specs.Tokens.{place_of, token_of}
 use Rattle.notation.specs.Convert.{label_in, late_in, late_among, or_later, head_bytes, piece_bytes, numbered, numbered_onto}
 use Rattle.tree_builder.specs.declared.Building.{Building}
-use Rattle.tree_builder.specs.declared.Step.TheVariants.{Did, No}
 use Rattle.tree_builder.specs.Open.{low, Holds, parts_bytes, around_bytes, opening, head_end, open_bytes, late_around, late_open, late_number}
 use Rattle.tree_builder.specs.State.{raised, with_part}
 use Rattle.tree_builder.specs.Shows.{number_in, LastPart, Shown, Shows, Answers, DoesAt, AName}
@@ -26,6 +25,7 @@ use Rattle.tree_builder.proofs.Late.{late_inner}
 use Rattle.tree_builder.proofs.Ready.{body_short}
 use Rattle.tree_builder.proofs.Adding.{false_not_true}
 use Rattle.tree_builder.proofs.Leaves.{name_bytes_lem}
+use Rattle.std.specs.Prelude.{Some, None}
 
 module _ (table : List (List ℕ)) where
   -- ---- A name more
@@ -199,7 +199,7 @@ module _ (table : List (List ℕ)) (s : Building) (m out : List ℕ) {moved out'
 -- ---- The ways of `add_name` and `parent_first`
 
 module _ (types : Types) (s : Building) (m out : List ℕ) (n : ℕ) {moved out' : List ℕ} {s' : Building} where
-  pub name_made : moved ≡ over out (s.body + 2) (bytes_at out s.body (s.fill - s.body)) → out' ≡ over moved s.body (high_bytes 2 n) → s' ≡ raised s 2 2 → DoesAt types (AName n) named s m out (Did s') m out'
+  pub name_made : moved ≡ over out (s.body + 2) (bytes_at out s.body (s.fill - s.body)) → out' ≡ over moved s.body (high_bytes 2 n) → s' ≡ raised s 2 2 → DoesAt types (AName n) named s m out (Some s') m out'
   unfolding DoesAt Answers act Shows AName raised
   name_made up put e table (build b (frame q t h ks) fs) x is a =
       record {
@@ -211,7 +211,7 @@ module _ (types : Types) (s : Building) (m out : List ℕ) (n : ℕ) {moved out'
       }
 
   module _ (room : s.depth < 32) (up : moved ≡ over out (s.body + 5) (bytes_at out s.body (s.fill - s.body))) (put : out' ≡ over moved s.body ((0x35 ∷ high_bytes 2 2) ++ high_bytes 2 n)) where
-    pub parent_only : s.tallest ≡ 0 → s' ≡ with_part s 5 s.late → DoesAt types (AName n) parent_first s m out (Did s') m out'
+    pub parent_only : s.tallest ≡ 0 → s' ≡ with_part s 5 s.late → DoesAt types (AName n) parent_first s m out (Some s') m out'
     unfolding DoesAt Answers act Shows AName added_first tallest height high_bytes with_part raised
     parent_only flat e table (build b (frame q t h (ks ▸ node p v g js)) fs) x is a = absurd (omega (arith, a.tall))
     parent_only flat e table (build b (frame q t h empty) fs) x is a =
@@ -225,7 +225,7 @@ module _ (types : Types) (s : Building) (m out : List ℕ) (n : ℕ) {moved out'
               (name_bytes_lem table (place_of x) 0x35 n (spelled (token_of x)) (omega arith) is) refl up put room a);
         }
 
-    pub parent_before : 0 < s.tallest → s' ≡ raised s 0 5 → DoesAt types (AName n) parent_first s m out (Did s') m out'
+    pub parent_before : 0 < s.tallest → s' ≡ raised s 0 5 → DoesAt types (AName n) parent_first s m out (Some s') m out'
     unfolding DoesAt Answers act Shows AName added_first tallest height high_bytes with_part raised
     parent_before tall e table (build b (frame q t h empty) fs) x is a = absurd (omega (arith, a.tall))
     parent_before tall e table (build b (frame q t h (ks ▸ j)) fs) x is a =
@@ -239,6 +239,6 @@ module _ (types : Types) (s : Building) (m out : List ℕ) (n : ℕ) {moved out'
               (name_bytes_lem table (place_of x) 0x35 n (spelled (token_of x)) (omega arith) is) refl up put room a);
         }
 
-pub parent_refused : (types : Types) (s : Building) (m out : List ℕ) (n : ℕ) → 32 ≤ s.depth → DoesAt types (AName n) parent_first s m out No m out
+pub parent_refused : (types : Types) (s : Building) (m out : List ℕ) (n : ℕ) → 32 ≤ s.depth → DoesAt types (AName n) parent_first s m out None m out
 unfolding DoesAt Answers act Shows added_first
 parent_refused types s m out n full table (build b (frame q t h ks) fs) x is a = rw (lt-leb (length fs + 1) 32 (omega (arith, a.depth)))

@@ -13,10 +13,9 @@ use Rattle.wire.proofs.Laws.{then_store}
 use Rattle.rules.specs.Fields.{write}
 use Rattle.rules.specs.Types.{Types}
 use Rattle.notation.specs.Tokens.{Lexeme, place_of}
-use Rattle.notation.specs.Building.{Piece, byte, name, Node, ◌▸◌, leaf, height, tallest, frame, build, void, constant, read, act, added, constant_node, variable_node}
+use Rattle.notation.specs.Building.{Piece, byte, name, Node, ◌▸◌, leaf, height, frame, build, void, constant, read, act, added, constant_node, variable_node}
 use Rattle.notation.specs.Convert.{late_in, late_among, piece_bytes, head_bytes, numbered}
 use Rattle.tree_builder.specs.declared.Building.{Building}
-use Rattle.tree_builder.specs.declared.Step.TheVariants.{Did, No}
 use Rattle.tree_builder.specs.Open.{low, late_number}
 use Rattle.tree_builder.specs.State.{with_part, late_with}
 use Rattle.tree_builder.specs.Shows.{number_in, LastPart, Shown, Shows, Answers, DoesAt, AnyToken, AnInteger, ABoolean, AString, AVariable, AClassVariable}
@@ -24,6 +23,7 @@ use Rattle.tree_builder.proofs.Stores.{low_append, low_length, kept_behind}
 use Rattle.tree_builder.proofs.Bytes.{low_high, low_leaf}
 use Rattle.tree_builder.proofs.Late.{late_plain, late_constant}
 use Rattle.tree_builder.proofs.Adding.{no_room, part_shown, part_added}
+use Rattle.std.specs.Prelude.{Some, None}
 
 -- ---- Their bytes
 
@@ -92,33 +92,33 @@ as_word r n o = record { brackets = r.brackets; depth = r.depth; fill = r.fill; 
 
 module _ (types : Types) (s : Building) (m out : List ℕ) where
   module _ (P : List (List ℕ) → Lexeme → Type 0) (full : 32 ≤ s.depth) where
-    pub void_refused : (t : ℕ) → DoesAt types P (void t) s m out No m out
+    pub void_refused : (t : ℕ) → DoesAt types P (void t) s m out None m out
     unfolding DoesAt Answers act
     void_refused t table f x p a = no_room table s m out (leaf (place_of x) t []) f full a
 
-    pub constant_refused : DoesAt types P constant s m out No m out
+    pub constant_refused : DoesAt types P constant s m out None m out
     unfolding DoesAt Answers act
     constant_refused table f x p a = no_room table s m out (constant_node x) f full a
 
-    pub read_refused : DoesAt types P read s m out No m out
+    pub read_refused : DoesAt types P read s m out None m out
     unfolding DoesAt Answers act
     read_refused table f x p a = no_room table s m out (variable_node x) f full a
 
   module _ {out' : List ℕ} {s' : Building} (room : s.depth < 32) where
-    pub void_made : (t : ℕ) → t < 256 → out' ≡ over out s.fill (t ∷ high_bytes 2 0) → s' ≡ with_part s 3 s.late → DoesAt types AnyToken (void t) s m out (Did s') m out'
+    pub void_made : (t : ℕ) → t < 256 → out' ≡ over out s.fill (t ∷ high_bytes 2 0) → s' ≡ with_part s 3 s.late → DoesAt types AnyToken (void t) s m out (Some s') m out'
     unfolding DoesAt Answers act height high_bytes
     void_made t small put e table f x p a =
         part_added table s m out (leaf (place_of x) t []) s.late 3 (t ∷ high_bytes 2 0) refl (void_bytes table (place_of x) t small) refl (omega arith) put
         (λ o n. n ∙ ap late_number (sym (late_plain (place_of x) t [] o (omega arith)))) f room e a
 
-    pub variable_made : (t n : ℕ) → t < 256 → out' ≡ over out s.fill ((t ∷ high_bytes 2 2) ++ high_bytes 2 n) → s' ≡ with_part s 5 s.late → DoesAt types (AVariable t n) read s m out (Did s') m out'
+    pub variable_made : (t n : ℕ) → t < 256 → out' ≡ over out s.fill ((t ∷ high_bytes 2 2) ++ high_bytes 2 n) → s' ≡ with_part s 5 s.late → DoesAt types (AVariable t n) read s m out (Some s') m out'
     unfolding DoesAt Answers act height high_bytes
     variable_made t n small put e table f x v a =
         rw v.is
         (part_added table s m out (leaf v.place t (name v.spelled ∷ [])) s.late 5 ((t ∷ high_bytes 2 2) ++ high_bytes 2 n) refl (name_bytes_lem table v.place t n v.spelled small v.number) refl (omega arith) put
         (λ o n. n ∙ ap late_number (sym (late_plain v.place t (name v.spelled ∷ []) o (omega arith)))) f room e a)
 
-    pub class_made : (c n : ℕ) → out' ≡ over out s.fill (((0x15 ∷ high_bytes 2 4) ++ high_bytes 2 c) ++ high_bytes 2 n) → s' ≡ with_part s 7 s.late → DoesAt types (AClassVariable c n) read s m out (Did s') m out'
+    pub class_made : (c n : ℕ) → out' ≡ over out s.fill (((0x15 ∷ high_bytes 2 4) ++ high_bytes 2 c) ++ high_bytes 2 n) → s' ≡ with_part s 7 s.late → DoesAt types (AClassVariable c n) read s m out (Some s') m out'
     unfolding DoesAt Answers act height high_bytes
     class_made c n put e table f x v a =
         rw v.is
@@ -127,21 +127,21 @@ module _ (types : Types) (s : Building) (m out : List ℕ) where
         (λ o n. n ∙ ap late_number (sym (late_plain v.place 0x15 (name v.scope ∷ name v.spelled ∷ []) o (omega arith)))) f room e a)
 
     module _ (l p : ℕ) {late : ℕ} (lately : late ≡ late_with s.late l p) where
-      pub integer_made : (z : ℤ) → out' ≡ over out s.fill ((0x10 ∷ high_bytes 2 9 ++ (l % 256 ∷ [])) ++ high_bytes 8 (word64 z)) → s' ≡ with_part s 12 late → DoesAt types (AnInteger l p z) constant s m out (Did s') m out'
+      pub integer_made : (z : ℤ) → out' ≡ over out s.fill ((0x10 ∷ high_bytes 2 9 ++ (l % 256 ∷ [])) ++ high_bytes 8 (word64 z)) → s' ≡ with_part s 12 late → DoesAt types (AnInteger l p z) constant s m out (Some s') m out'
       unfolding DoesAt Answers act height high_bytes AnInteger constant_node late_in late_among
       integer_made z put e table f x is a =
           rw is
           (part_added table s m out (leaf p 0x10 (byte l ∷ map byte (high_bytes 8 (word64 z)))) late 12 ((0x10 ∷ high_bytes 2 9 ++ (l % 256 ∷ [])) ++ high_bytes 8 (word64 z)) refl (integer_bytes table p l z) refl (omega arith) put
           (λ o n. lately ∙ late_constant o s.late l p n) f room e a)
 
-      pub boolean_made : (v : ℕ) → out' ≡ over out s.fill ((0x12 ∷ high_bytes 2 2 ++ (l % 256 ∷ [])) ++ high_bytes 1 v) → s' ≡ with_part s 5 late → DoesAt types (ABoolean l p v) constant s m out (Did s') m out'
+      pub boolean_made : (v : ℕ) → out' ≡ over out s.fill ((0x12 ∷ high_bytes 2 2 ++ (l % 256 ∷ [])) ++ high_bytes 1 v) → s' ≡ with_part s 5 late → DoesAt types (ABoolean l p v) constant s m out (Some s') m out'
       unfolding DoesAt Answers act height high_bytes ABoolean late_in late_among
       boolean_made v put e table f x is a =
           rw is
           (part_added table s m out (leaf p 0x12 (byte l ∷ byte v ∷ [])) late 5 ((0x12 ∷ high_bytes 2 2 ++ (l % 256 ∷ [])) ++ high_bytes 1 v) refl (boolean_bytes table p l v) refl (omega arith) put
           (λ o n. lately ∙ late_constant o s.late l p n) f room e a)
 
-      pub string_made : (n : ℕ) → out' ≡ over out s.fill ((0x11 ∷ high_bytes 2 3 ++ (l % 256 ∷ [])) ++ high_bytes 2 n) → s' ≡ with_part s 6 late → DoesAt types (AString l p n) constant s m out (Did (as_word s' n s.late)) m out'
+      pub string_made : (n : ℕ) → out' ≡ over out s.fill ((0x11 ∷ high_bytes 2 3 ++ (l % 256 ∷ [])) ++ high_bytes 2 n) → s' ≡ with_part s 6 late → DoesAt types (AString l p n) constant s m out (Some (as_word s' n s.late)) m out'
       unfolding DoesAt Answers act height high_bytes late_in late_among Shows added LastPart with_part
       string_made n put e table (build b (frame q t h ks) fs) x v a =
           let k : Node = leaf p 0x11 (byte l ∷ name v.spelled ∷ []) in

@@ -16,7 +16,6 @@ use Rattle.notation.specs.Building.{Piece, byte, name, Node, node, Nodes, empty,
 use Rattle.notation.specs.Tokens.{Lexeme, place_of}
 use Rattle.notation.specs.Convert.{label_in, head_bytes, piece_bytes, numbered}
 use Rattle.tree_builder.specs.declared.Building.{Building}
-use Rattle.tree_builder.specs.declared.Step.TheVariants.{Did, No}
 use Rattle.tree_builder.specs.Open.{low, Holds, head_end, open_bytes, late_open, late_number}
 use Rattle.tree_builder.specs.State.{slot_number, opened_at}
 use Rattle.tree_builder.specs.Shows.{number_in, LastPart, LastWord, Shown, Shows, Made, Answers, DoesAt, AnyToken, Ready}
@@ -25,6 +24,7 @@ use Rattle.tree_builder.proofs.Bytes.{head_end_lem, open_none, open_more, low_he
 use Rattle.tree_builder.proofs.Late.{late_begun, late_around_lem}
 use Rattle.tree_builder.proofs.Opening.{NewField, field_shown}
 use Rattle.tree_builder.proofs.Leaves.{head_name, head_none}
+use Rattle.std.specs.Prelude.{Some, None}
 
 module _ (types : Types) (table : List (List ℕ)) (s : Building) (m out : List ℕ) where
   -- the field being read has no part, or the last one would be too deep
@@ -145,30 +145,30 @@ operator_low table u o small =
 -- ---- The ways of the functions, whatever the table and the tree
 
 module _ (types : Types) (s : Building) (m out : List ℕ) where
-  pub flat_refused : (u : ℕ) (g : List Piece) → s.tallest ≡ 0 → DoesAt types AnyToken (around u g) s m out No m out
+  pub flat_refused : (u : ℕ) (g : List Piece) → s.tallest ≡ 0 → DoesAt types AnyToken (around u g) s m out None m out
   unfolding DoesAt Answers
   flat_refused u g flat table f x p a = around_nothing types table s m out u g x f flat a
 
-  pub deep_refused : (u : ℕ) (g : List Piece) → 32 ≤ s.depth + s.height → DoesAt types AnyToken (around u g) s m out No m out
+  pub deep_refused : (u : ℕ) (g : List Piece) → 32 ≤ s.depth + s.height → DoesAt types AnyToken (around u g) s m out None m out
   unfolding DoesAt Answers
   deep_refused u g deep table f x p a = around_refused types table s m out u g x f deep a
 
   module _ {m' out' : List ℕ} {s' : Building} (room : 256 ≤ length m) (ready : Ready s) (save : m' ≡ over m (8 * s.depth) (high_bytes 8 (slot_number s.start s.body s.tallest))) (u : ℕ) (small : u < 256) where
     pub plain_made : 0 < s.tallest → s.depth + s.height < 32 → out' ≡ over (over out (s.last + 3) (bytes_at out s.last (s.fill - s.last))) s.last (u ∷ high_bytes 2 0)
-        → s' ≡ opened_at s s.last (s.last + 3) (s.fill + 3) s.height s.late → DoesAt types AnyToken (around u []) s m out (Did s') m' out'
+        → s' ≡ opened_at s s.last (s.last + 3) (s.fill + 3) s.height s.late → DoesAt types AnyToken (around u []) s m out (Some s') m' out'
     unfolding DoesAt Answers head_bytes high_bytes
     plain_made tall shallow put e table f x p a =
         around_made types table s m out room ready save u [] (u ∷ high_bytes 2 0) 3 (low_header u small) refl (omega arith) (omega arith) refl put x f tall shallow e a
 
     pub operator_made : (o : ℕ) {mid : List ℕ} → o < 256 → 0 < s.tallest → s.depth + s.height < 32 → mid ≡ over (over out (s.last + 4) (bytes_at out s.last (s.fill - s.last))) s.last (u ∷ high_bytes 2 0)
-        → out' ≡ over mid (s.last + 3) (high_bytes 1 o) → s' ≡ opened_at s s.last (s.last + 4) (s.fill + 4) s.height s.late → DoesAt types AnyToken (around u (byte o ∷ [])) s m out (Did s') m' out'
+        → out' ≡ over mid (s.last + 3) (high_bytes 1 o) → s' ≡ opened_at s s.last (s.last + 4) (s.fill + 4) s.height s.late → DoesAt types AnyToken (around u (byte o ∷ [])) s m out (Some s') m' out'
     unfolding DoesAt Answers high_bytes
     operator_made o low tall shallow header put e table f x p a =
         around_made types table s m out room ready save u (byte o ∷ []) ((u ∷ high_bytes 2 0) ++ high_bytes 1 o) 4 (operator_low table u o small) refl (omega arith) (omega arith) refl
         (then_store (over out (s.last + 4) (bytes_at out s.last (s.fill - s.last))) s.last (u ∷ high_bytes 2 0) (s.last + 3) (high_bytes 1 o) header put (omega arith)) x f tall shallow e a
 
     pub word_made : {mid : List ℕ} → s.word ≡ true → mid ≡ over out s.last (u ∷ high_bytes 2 0) → out' ≡ over mid (s.last + 3) (high_bytes 2 s.name) → s' ≡ opened_at s s.last (s.last + 5) (s.last + 5) 0 s.before
-        → DoesAt types AnyToken (instead u) s m out (Did s') m' out'
+        → DoesAt types AnyToken (instead u) s m out (Some s') m' out'
     unfolding DoesAt Answers
     word_made is header put e table f x p a =
         instead_made types table s m out room ready save u small (then_store out s.last (u ∷ high_bytes 2 0) (s.last + 3) (high_bytes 2 s.name) header put (omega (arith, high_length 2 0))) x f is e a

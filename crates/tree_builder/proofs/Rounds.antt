@@ -6,9 +6,9 @@ use native.Mathlib.Omega.{arith}
 use borrow.Author.Tests.{lt-ltb, le-ltb}
 use Rattle.notation.specs.Building.{Piece, Nodes, Frame, frame, build, enter, leave, act}
 use Rattle.tree_builder.specs.declared.Building.{Building}
-use Rattle.tree_builder.specs.declared.Step.TheVariants.{Did, No}
 use Rattle.tree_builder.specs.Shows.{LastPart, LastWord, Shown, Shows, Answers, DoesAt, AnyToken}
 use Rattle.rules.specs.Types.{Types}
+use Rattle.std.specs.Prelude.{Some, None}
 
 -- the state with so many brackets open
 abbrev with_brackets : Building → ℕ → Building
@@ -37,21 +37,21 @@ module _ (types : Types) (s : Building) (m out : List ℕ) where
         word = λ w. (let l : LastWord table s _ _ = x.word w in record { kept = l.kept; place = l.place; line = l.line; spelled = l.spelled; is = l.is; number = l.number; before = l.before });
       }
 
-  pub enter_refused : 32 ≤ s.brackets → DoesAt types AnyToken enter s m out No m out
+  pub enter_refused : 32 ≤ s.brackets → DoesAt types AnyToken enter s m out None m out
   unfolding DoesAt Answers act Shows
   enter_refused full table (build b (frame p t h ks) fs) x u a = rw (le-ltb b 32 (omega (arith, a.rounds)))
 
-  pub enter_made : s.brackets < 32 → DoesAt types AnyToken enter s m out (Did (with_brackets s (s.brackets + 1))) m out
+  pub enter_made : s.brackets < 32 → DoesAt types AnyToken enter s m out (Some (with_brackets s (s.brackets + 1))) m out
   unfolding DoesAt Answers act Shows
   enter_made room table (build b (frame p t h ks) fs) x u a =
       record { made = build (suc b) (frame p t h ks) fs; is = rw (lt-ltb b 32 (omega (arith, a.rounds))); shows = bracketed table (s.brackets + 1) (omega (arith, a.rounds)) a; grown = omega arith; behind = λ i low c. refl }
 
-  pub leave_refused : s.brackets ≡ 0 → DoesAt types AnyToken leave s m out No m out
+  pub leave_refused : s.brackets ≡ 0 → DoesAt types AnyToken leave s m out None m out
   unfolding DoesAt Answers act Shows
   leave_refused none table (build zero (frame p t h ks) fs) x u a = refl
   leave_refused none table (build (suc b) (frame p t h ks) fs) x u a = absurd (omega (arith, a.rounds))
 
-  pub leave_made : 0 < s.brackets → DoesAt types AnyToken leave s m out (Did (with_brackets s (s.brackets - 1))) m out
+  pub leave_made : 0 < s.brackets → DoesAt types AnyToken leave s m out (Some (with_brackets s (s.brackets - 1))) m out
   unfolding DoesAt Answers act Shows
   leave_made some table (build zero (frame p t h ks) fs) x u a = absurd (omega (arith, a.rounds))
   leave_made some table (build (suc b) (frame p t h ks) fs) x u a =

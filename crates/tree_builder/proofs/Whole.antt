@@ -14,10 +14,10 @@ use Rattle.notation.specs.Tokens.{token_of}
 use Rattle.notation.specs.Building.{Nodes, tallest, frame, build, start, begin, begin_resource, resource_tag, spelled, act}
 use Rattle.notation.specs.Convert.{late_among, head_bytes, numbered, numbered_onto}
 use Rattle.tree_builder.specs.declared.Building.{Building}
-use Rattle.tree_builder.specs.declared.Step.{Step}
 use Rattle.tree_builder.specs.Open.{low, opening, parts_bytes, around_bytes, head_end, open_bytes, late_around, late_open, late_number}
 use Rattle.tree_builder.specs.Shows.{LastPart, Around, Shows, DoesAt, AnyToken}
 use Rattle.tree_builder.proofs.Adding.{false_not_true}
+use Rattle.std.specs.Prelude.{Option}
 
 -- nothing is read yet
 abbrev fresh : Building
@@ -77,6 +77,6 @@ module _ (table : List (List ℕ)) (s : Building) (m out : List ℕ) (b p t : �
       ap (λ (n : ℕ). take n out) size ∙ ap (take (0 + length bs)) is ∙ over_front base 0 bs (omega (arith, ap length is, over_length base 0 bs))
 
 -- a resource, of the tag that its type has
-pub resource_begins : (types : Types) (s : Building) (m out : List ℕ) (r : Step) (m' out' : List ℕ) (tag : ℕ) → DoesAt types AnyToken (begin tag) s m out r m' out' → DoesAt types (λ table x. tag ≡ resource_tag types (spelled (token_of x))) begin_resource s m out r m' out'
+pub resource_begins : (types : Types) (s : Building) (m out : List ℕ) (r : Option Building) (m' out' : List ℕ) (tag : ℕ) → DoesAt types AnyToken (begin tag) s m out r m' out' → DoesAt types (λ table x. tag ≡ resource_tag types (spelled (token_of x))) begin_resource s m out r m' out'
 unfolding DoesAt act
 resource_begins types s m out r m' out' tag does table f x e a = rw (sym e) (does table f x tt a)

@@ -1,5 +1,5 @@
 -- When the state, the slots and the output stand for a tree in the making, and what an action's answer says.
-use Rattle.std.specs.Prelude.{ℕ, suc, ◌+◌, ◌≤◌, ◌<◌, max, ◌≡◌, List, [], ◌∷◌, true, ℤ, length}
+use Rattle.std.specs.Prelude.{ℕ, suc, ◌+◌, ◌≤◌, ◌<◌, max, ◌≡◌, List, [], ◌∷◌, true, ℤ, length, Option as CodeOption, Some, None}
 use Rattle.std.proofs.Math.Option.{Option, none, some}
 use Rattle.wire.specs.Bytes.{byte as at}
 use Rattle.rules.specs.Compile.{string_number}
@@ -9,8 +9,6 @@ use Rattle.notation.specs.Tokens.{Lexeme, lexeme, number, token_of}
 use Rattle.notation.specs.Grammar.{or_zero}
 use Rattle.notation.specs.Convert.{label_in}
 use Rattle.tree_builder.specs.declared.Building.{Building}
-use Rattle.tree_builder.specs.declared.Step.{Step}
-use Rattle.tree_builder.specs.declared.Step.TheVariants.{Did, No}
 use Rattle.tree_builder.specs.Open.{low, Holds, around_bytes, head_end, open_bytes, late_open, late_number}
 use Rattle.tree_builder.specs.State.{slot_in, slot_number}
 
@@ -75,16 +73,16 @@ module _ (table : List (List ℕ)) where
     pub behind : (i : ℕ) → filled ≤ i → s.fill ≤ i → at out i ≡ at given i
 
   -- the answer is no exactly where nothing comes of the action
-  unfoldable pub Answers : (filled : ℕ) → (given : List ℕ) → Step → (frames out : List ℕ) → (wanted : Option Build) → Type 0
-  Answers n given No m out o = o ≡ none
-  Answers n given (Did s) m out o = Made n given s m out o
+  unfoldable pub Answers : (filled : ℕ) → (given : List ℕ) → CodeOption Building → (frames out : List ℕ) → (wanted : Option Build) → Type 0
+  Answers n given None m out o = o ≡ none
+  Answers n given (Some s) m out o = Made n given s m out o
 
 -- an action at any token of which P holds: from whatever tree the state, the slots and the output stand for, to what the answer says
-unfoldable pub DoesAt : Types → (P : (table : List (List ℕ)) → Lexeme → Type 0) → Action → Building → (frames out : List ℕ) → Step → (frames' out' : List ℕ) → Type 0
+unfoldable pub DoesAt : Types → (P : (table : List (List ℕ)) → Lexeme → Type 0) → Action → Building → (frames out : List ℕ) → CodeOption Building → (frames' out' : List ℕ) → Type 0
 DoesAt types P a s m out r m' out' = (table : List (List ℕ)) (f : Build) (x : Lexeme) → P table x → Shows table s m out f → Answers table s.fill out r m' out' (act types a x f)
 
 -- whatever types are built in: a field's tag is handed in
-abbrev pub Does : (P : (table : List (List ℕ)) → Lexeme → Type 0) → Action → Building → (frames out : List ℕ) → Step → (frames' out' : List ℕ) → Type 0
+abbrev pub Does : (P : (table : List (List ℕ)) → Lexeme → Type 0) → Action → Building → (frames out : List ℕ) → CodeOption Building → (frames' out' : List ℕ) → Type 0
 Does P a s m out r m' out' = (types : Types) → DoesAt types P a s m out r m' out'
 
 abbrev pub AnyToken : List (List ℕ) → Lexeme → Type 0
@@ -123,9 +121,9 @@ unfoldable pub AName : (n : ℕ) → List (List ℕ) → Lexeme → Type 0
 AName n table x = n ≡ number_in table (spelled (token_of x))
 
 -- the last part is a string constant just read
-unfoldable pub IsWord : Step → Type 0
-IsWord No = Unit {0}
-IsWord (Did s) = s.word ≡ true
+unfoldable pub IsWord : CodeOption Building → Type 0
+IsWord None = Unit {0}
+IsWord (Some s) = s.word ≡ true
 
 -- what every action needs, so that its sums and places are in range; it holds of a state that shows something (proofs/Ready.antt)
 pub record Ready (s : Building) : Type 0 where

@@ -2,11 +2,10 @@
 // not written, and nothing else changes: with no output at all the same calls find a text's faults and its manifest's size.
 #![tactic(auto)]
 
-ghost use Rattle.std.specs.Prelude.{◌≡◌, List, [], ◌∷◌, ◌++◌, true, ℕ, ◌+◌, ◌-◌, ◌*◌, ◌%◌, ◌≤◌, ◌<◌, max, length};
+ghost use Rattle.std.specs.Prelude.{◌≡◌, List, [], ◌∷◌, ◌++◌, true, ℕ, ◌+◌, ◌-◌, ◌*◌, ◌%◌, ◌≤◌, ◌<◌, max, length, Some};
 ghost use Rattle.wire.specs.Numbers.{high_bytes};
 ghost use Rattle.wire.specs.Runs.{bytes_at, over};
 ghost use Rattle.notation.specs.Building.{start, begin as begin_action, close as close_action, constant as constant_action, named as named_action, parent_first as parent_action, around as around_action, instead as instead_action, byte, read as read_action, enter as enter_action, leave as leave_action, void as void_action};
-ghost use Rattle.tree_builder.specs.declared.Step.TheVariants.{Did};
 ghost use Rattle.tree_builder.specs.State.{slot_number, opened_at, with_part, raised, closed_into, late_with};
 ghost use Rattle.tree_builder.specs.Shows.{Shows, Does, AnyToken, AnInteger, AString, ABoolean, IsWord, AName, AVariable, AClassVariable, Ready};
 
@@ -26,13 +25,6 @@ pub struct Building {
     pub before: usize, // what it was before a string constant just read
     pub name: u16, // and that string's name
     pub word: bool, // whether the last part is such a constant
-}
-
-// What an action answers: the new state, or that it passes a limit.
-#[derive(Clone, Copy)]
-pub enum Step {
-    Did(Building),
-    No,
 }
 
 // The state before the first token: nothing is open but what stands for the manifest.
@@ -57,26 +49,26 @@ pub fn nothing() -> Building
 
 // ---- Round brackets
 
-pub fn enter(s: Building) -> Step
+pub fn enter(s: Building) -> Option<Building>
     ensures { (frames out : List ℕ) → Does AnyToken enter_action s frames out result frames out }
 {
     if 32 <= s.brackets {
-        return Step::No;
+        return None;
     }
     let mut next = s;
     next.brackets = s.brackets + 1;
-    Step::Did(next)
+    Some(next)
 }
 
-pub fn leave(s: Building) -> Step
+pub fn leave(s: Building) -> Option<Building>
     ensures { (frames out : List ℕ) → Does AnyToken leave_action s frames out result frames out }
 {
     if s.brackets == 0 {
-        return Step::No;
+        return None;
     }
     let mut next = s;
     next.brackets = s.brackets - 1;
-    Step::Did(next)
+    Some(next)
 }
 
 // ---- Fields begin and end
@@ -117,17 +109,17 @@ fn save(frames: &mut [u8], s: Building)
     wire::put_eight(frames, 8 * s.depth, slot as u64);
 }
 
-pub fn begin(out: &mut [u8], frames: &mut [u8], s: Building, tag: u8) -> Step
+pub fn begin(out: &mut [u8], frames: &mut [u8], s: Building, tag: u8) -> Option<Building>
     requires { (256 ≤ length frames.old) × Ready s }
     ensures { Does AnyToken (begin_action tag) s frames.old out.old result frames.new out.new }
 {
     if 32 <= s.depth {
-        return Step::No;
+        return None;
     }
     save(frames, s);
     let at = s.fill;
     wire::put_header(out, at, tag, 0);
-    Step::Did(opened(s, at, at + 3, at + 3, 0, s.late))
+    Some(opened(s, at, at + 3, at + 3, 0, s.late))
 }
 
 // The field ends: the one around it comes from its slot.
@@ -153,17 +145,17 @@ fn closed(s: Building, slot: u64) -> Building
 }
 
 // The field's length is known now. One that does not fit two bytes is of a tree that does not fit the output.
-pub fn close(out: &mut [u8], frames: &[u8], s: Building) -> Step
+pub fn close(out: &mut [u8], frames: &[u8], s: Building) -> Option<Building>
     requires { (256 ≤ length frames.now) × Ready s }
     ensures { Does AnyToken close_action s frames.now out.old result frames.now out.new }
 {
     if s.depth == 0 {
-        return Step::No;
+        return None;
     }
     let size = s.fill - s.start - 3;
     wire::put_two(out, s.start + 1, (size % 65536) as u16);
     let slot = wire::number_in(frames, 8 * (s.depth - 1));
-    Step::Did(closed(s, slot))
+    Some(closed(s, slot))
 }
 
 // ---- Fields of one token
@@ -212,76 +204,94 @@ fn put_label(out: &mut [u8], at: usize, tag: u8, size: u16, line: usize)
     wire::put_byte(out, at + 3, (line % 256) as u8);
 }
 
-pub fn add_void(out: &mut [u8], s: Building, tag: u8) -> Step
+pub fn add_void(out: &mut [u8], s: Building, tag: u8) -> Option<Building>
     requires { Ready s }
     ensures { (frames : List ℕ) → Does AnyToken (void_action tag) s frames out.old result frames out.new }
 {
     if 32 <= s.depth {
-        return Step::No;
+        return None;
     }
     wire::put_header(out, s.fill, tag, 0);
-    Step::Did(with_part(s, 3, s.late))
+    Some(with_part(s, 3, s.late))
 }
 
 // A variable (13) or a top variable (14).
-pub fn add_variable(out: &mut [u8], s: Building, tag: u8, name: u16) -> Step
+pub fn add_variable(out: &mut [u8], s: Building, tag: u8, name: u16) -> Option<Building>
     requires { Ready s }
     ensures { (frames : List ℕ) → Does (AVariable tag name) read_action s frames out.old result frames out.new }
 {
     if 32 <= s.depth {
-        return Step::No;
+        return None;
     }
     wire::put_header(out, s.fill, tag, 2);
     wire::put_two(out, s.fill + 3, name);
-    Step::Did(with_part(s, 5, s.late))
+    Some(with_part(s, 5, s.late))
 }
 
-pub fn add_class_variable(out: &mut [u8], s: Building, class: u16, name: u16) -> Step
+pub fn add_class_variable(out: &mut [u8], s: Building, class: u16, name: u16) -> Option<Building>
     requires { Ready s }
     ensures { (frames : List ℕ) → Does (AClassVariable class name) read_action s frames out.old result frames out.new }
 {
     if 32 <= s.depth {
-        return Step::No;
+        return None;
     }
     wire::put_header(out, s.fill, 0x15, 4);
     wire::put_two(out, s.fill + 3, class);
     wire::put_two(out, s.fill + 5, name);
-    Step::Did(with_part(s, 7, s.late))
+    Some(with_part(s, 7, s.late))
 }
 
-pub fn add_integer(out: &mut [u8], s: Building, line: usize, place: usize, value: i64) -> Step
+pub fn add_integer(
+    out: &mut [u8],
+    s: Building,
+    line: usize,
+    place: usize,
+    value: i64,
+) -> Option<Building>
     requires { (place ≤ 1048576) × Ready s }
     ensures { (frames : List ℕ) → Does (AnInteger line place value) constant_action s frames out.old result frames out.new }
 {
     if 32 <= s.depth {
-        return Step::No;
+        return None;
     }
     put_label(out, s.fill, 0x10, 9, line);
     wire::put_signed(out, s.fill + 4, value);
     let late = late_with(s.late, line, place);
-    Step::Did(with_part(s, 12, late))
+    Some(with_part(s, 12, late))
 }
 
-pub fn add_boolean(out: &mut [u8], s: Building, line: usize, place: usize, value: u8) -> Step
+pub fn add_boolean(
+    out: &mut [u8],
+    s: Building,
+    line: usize,
+    place: usize,
+    value: u8,
+) -> Option<Building>
     requires { (place ≤ 1048576) × Ready s }
     ensures { (frames : List ℕ) → Does (ABoolean line place value) constant_action s frames out.old result frames out.new }
 {
     if 32 <= s.depth {
-        return Step::No;
+        return None;
     }
     put_label(out, s.fill, 0x12, 2, line);
     wire::put_byte(out, s.fill + 4, value);
     let late = late_with(s.late, line, place);
-    Step::Did(with_part(s, 5, late))
+    Some(with_part(s, 5, late))
 }
 
 // A string constant. It is remembered as the last part: it may turn out to be the name of a field.
-pub fn add_string(out: &mut [u8], s: Building, line: usize, place: usize, name: u16) -> Step
+pub fn add_string(
+    out: &mut [u8],
+    s: Building,
+    line: usize,
+    place: usize,
+    name: u16,
+) -> Option<Building>
     requires { (place ≤ 1048576) × Ready s }
     ensures { ((frames : List ℕ) → Does (AString line place name) constant_action s frames out.old result frames out.new) × IsWord result }
 {
     if 32 <= s.depth {
-        return Step::No;
+        return None;
     }
     put_label(out, s.fill, 0x11, 3, line);
     wire::put_two(out, s.fill + 4, name);
@@ -290,7 +300,7 @@ pub fn add_string(out: &mut [u8], s: Building, line: usize, place: usize, name: 
     next.word = true;
     next.name = name;
     next.before = s.late;
-    Step::Did(next)
+    Some(next)
 }
 
 // ---- Bytes before others
@@ -332,7 +342,7 @@ fn raised_by(s: Building, head: usize, size: usize) -> Building
 // A name of the field being read: it comes before the parts.
 pub fn add_name(out: &mut [u8], s: Building, name: u16) -> Building
     requires { Ready s }
-    ensures { (frames : List ℕ) → Does (AName name) named_action s frames out.old (Did result) frames out.new }
+    ensures { (frames : List ℕ) → Does (AName name) named_action s frames out.old (Some result) frames out.new }
 {
     move_up(out, s.body, s.fill, 2);
     wire::put_two(out, s.body, name);
@@ -340,20 +350,20 @@ pub fn add_name(out: &mut [u8], s: Building, name: u16) -> Building
 }
 
 // A parent (35) comes before the other parts.
-pub fn parent_first(out: &mut [u8], s: Building, name: u16) -> Step
+pub fn parent_first(out: &mut [u8], s: Building, name: u16) -> Option<Building>
     requires { Ready s }
     ensures { (frames : List ℕ) → Does (AName name) parent_action s frames out.old result frames out.new }
 {
     if 32 <= s.depth {
-        return Step::No;
+        return None;
     }
     move_up(out, s.body, s.fill, 5);
     wire::put_header(out, s.body, 0x35, 2);
     wire::put_two(out, s.body + 3, name);
     if s.tallest == 0 {
-        return Step::Did(with_part(s, 5, s.late));
+        return Some(with_part(s, 5, s.late));
     }
-    Step::Did(raised_by(s, 0, 5))
+    Some(raised_by(s, 0, 5))
 }
 
 // The header of a field comes before the last part, with `by` bytes of room for it and its head.
@@ -375,18 +385,18 @@ fn lifted(s: Building, by: usize) -> Building
 }
 
 // A field begins around the last part, which is its first one.
-pub fn around(out: &mut [u8], frames: &mut [u8], s: Building, tag: u8) -> Step
+pub fn around(out: &mut [u8], frames: &mut [u8], s: Building, tag: u8) -> Option<Building>
     requires { (256 ≤ length frames.old) × Ready s }
     ensures { Does AnyToken (around_action tag []) s frames.old out.old result frames.new out.new }
 {
     if s.tallest == 0 {
-        return Step::No;
+        return None;
     }
     if 32 <= s.depth + s.height {
-        return Step::No;
+        return None;
     }
     lift(out, frames, s, tag, 3);
-    Step::Did(lifted(s, 3))
+    Some(lifted(s, 3))
 }
 
 // The same, with an operator in the head.
@@ -396,25 +406,25 @@ pub fn around_operator(
     s: Building,
     tag: u8,
     operator: u8,
-) -> Step
+) -> Option<Building>
     requires { (256 ≤ length frames.old) × Ready s }
     ensures { Does AnyToken (around_action tag (byte operator ∷ [])) s frames.old out.old result frames.new out.new }
 {
     if s.tallest == 0 {
-        return Step::No;
+        return None;
     }
     if 32 <= s.depth + s.height {
-        return Step::No;
+        return None;
     }
     lift(out, frames, s, tag, 4);
     wire::put_byte(out, s.last + 3, operator);
-    Step::Did(lifted(s, 4))
+    Some(lifted(s, 4))
 }
 
 // The string constant just read is none: a field begins that has its name. It takes a byte less.
 pub fn instead(out: &mut [u8], frames: &mut [u8], s: Building, tag: u8) -> Building
     requires { (s.word ≡ true) × (256 ≤ length frames.old) × Ready s }
-    ensures { Does AnyToken (instead_action tag) s frames.old out.old (Did result) frames.new out.new }
+    ensures { Does AnyToken (instead_action tag) s frames.old out.old (Some result) frames.new out.new }
 {
     save(frames, s);
     let at = s.last;

@@ -1,43 +1,28 @@
 -- One law for each way through `is_lower_case`, `is_right` and `check_types`; and where a fault may stand.
-use Prim.Native.Nat.{ℕ, zero, suc, ◌+◌, ◌*◌, ◌-◌, ◌<◌, ◌≤◌}
+use Prim.Native.Nat.{ℕ, suc, ◌+◌, ◌*◌, ◌-◌, ◌<◌, ◌≤◌}
 use mathlib.Core.Path.{◌≡◌, refl, sym, ap, subst, ◌∙◌}
 use mathlib.Core.Bool.{Bool, true, false, ◌&&◌}
 use mathlib.Core.List.{List, [], ◌∷◌}
 use native.Mathlib.Omega.{arith}
-use native.Mathlib.Numerals.{add-one}
-use lib.Dec.{eqb, leb, ltb}
-use lib.ListN.{length, get_or, take, drop, drop_of_length-le}
-use lib.Seq.{drop-cons}
-use borrow.Author.Tests.{ltb-true, ltb-false, leb-true, le-leb, lt-leb, eq-eqb, ne_eqb}
-use Rattle.values.specs.declared.Reason.{Reason}
+use lib.Dec.{eqb, leb}
+use Rattle.std.specs.List.{list_all}
+use Rattle.std.specs.Char.{is_ascii_lowercase}
+use lib.ListN.{length, take, drop}
+use borrow.Author.Tests.{leb-true, le-leb, lt-leb, eq-eqb, ne_eqb}
 use Rattle.values.specs.declared.Reason.TheVariants.{TypeList}
 use Rattle.wire.proofs.Fields.{no_fields, field_first}
 use Rattle.rules.specs.Bytes.{pick, byte, two, end_of, fields_in}
 use Rattle.rules.specs.Check.{ascends, text}
 use Rattle.rules.specs.Types.{type_places, lower_case, field_right, types_right, check_list}
-use Rattle.rules.specs.declared.Verdict.{Verdict}
-use Rattle.rules.specs.declared.Verdict.TheVariants.{Sound, Fault}
 use Rattle.rules.proofs.Lists.{both_left, both_right}
+use Rattle.rules.specs.Verdicts.{fault_at, no_fault}
 
 -- ---- Letters
 
-module _ (x : List ℕ) (i : ℕ) {whole : Bool} (l : i < length x) (w : lower_case (drop i x) ≡ whole) where
-  this_letter : ((leb 0x61 (get_or x i 0) && leb (get_or x i 0) 0x7a) && lower_case (drop (i + 1) x)) ≡ whole
-  unfolding lower_case
-  this_letter = rw add-one (rw (drop-cons x i 0 l) at w)
-
-  pub below_a : get_or x i 0 < 0x61 → false ≡ whole
-  below_a h = rw (lt-leb _ _ h) at this_letter
-
-  pub above_z : 0x61 ≤ get_or x i 0 → 0x7a < get_or x i 0 → false ≡ whole
-  above_z a h = rw (le-leb _ _ a, lt-leb _ _ h) at this_letter
-
-  pub is_letter_lem : 0x61 ≤ get_or x i 0 → get_or x i 0 ≤ 0x7a → lower_case (drop (i + 1) x) ≡ whole
-  is_letter_lem a b = rw (le-leb _ _ a, le-leb _ _ b) at this_letter
-
-pub all_letters : (x : List ℕ) (i : ℕ) {whole : Bool} → length x ≤ i → lower_case (drop i x) ≡ whole → true ≡ whole
+pub each_letter : (x : List ℕ) → list_all is_ascii_lowercase x ≡ lower_case x
 unfolding lower_case
-all_letters x i h w = rw (drop_of_length-le x h) at w
+each_letter [] = refl
+each_letter (c ∷ cs) = ap (λ (b : Bool). (leb 0x61 c && leb c 0x7a) && b) (each_letter cs)
 
 -- ---- One field
 
@@ -112,11 +97,11 @@ module _ (list : List ℕ) where
     pub within : q ≤ length list
     pub early : q + 35 * more ≤ 2240
 
-  pub empty_list : length list ≡ 0 → Fault TypeList 0 ≡ check_list list
+  pub empty_list : length list ≡ 0 → fault_at TypeList 0 ≡ check_list list
   unfolding check_list
   empty_list none = go list none
     where
-      go : (l : List ℕ) → length l ≡ 0 → Fault TypeList 0 ≡ check_list l
+      go : (l : List ℕ) → length l ≡ 0 → fault_at TypeList 0 ≡ check_list l
       go [] h = refl
       go (b ∷ bs) h = absurd (omega arith)
 
@@ -129,18 +114,18 @@ module _ (list : List ℕ) where
       go (b ∷ bs) e z = record { verdict = rw (sym e) refl; ordered = omega arith; within = omega arith; early = omega arith }
 
   module _ (start q : ℕ) (l : q < length list) where
-    pub sixty_fifth : (more : ℕ) → more ≡ 0 → Left more start q → Fault TypeList q ≡ check_list list
+    pub sixty_fifth : (more : ℕ) → more ≡ 0 → Left more start q → fault_at TypeList q ≡ check_list list
     unfolding types_right
     sixty_fifth more none left = rw (field_first list q (length list) l, none) at left.verdict
 
     module _ (more : ℕ) {b : Bool} (told : b ≡ field_right list (between start q list) q) (some : more ≡ 0 → ⊥) (left : Left more start q) where
-      field_told : pick b (types_right list (more - 1) (text list q) (fields_in list (end_of list q) (length list))) (Fault TypeList q) ≡ check_list list
+      field_told : pick b (types_right list (more - 1) (text list q) (fields_in list (end_of list q) (length list))) (fault_at TypeList q) ≡ check_list list
       unfolding types_right
       field_told =
           let one_less : more ≡ suc (more - 1) = omega (arith, some) in
           rw (field_first list q (length list) l, sym told) at (subst (λ (k : ℕ). types_right list k (between start q list) (fields_in list q (length list)) ≡ check_list list) one_less left.verdict)
 
-      pub wrong_field : b ≡ false → Fault TypeList q ≡ check_list list
+      pub wrong_field : b ≡ false → fault_at TypeList q ≡ check_list list
       wrong_field h = rw h at field_told
 
       right : b ≡ true → Right list (between start q list) q
@@ -159,6 +144,6 @@ module _ (list : List ℕ) where
         early = omega (arith, (right h).short, left.early, some);
       }
 
-  pub all_right : (more start q : ℕ) → length list ≤ q → Left more start q → Sound ≡ check_list list
+  pub all_right : (more start q : ℕ) → length list ≤ q → Left more start q → no_fault ≡ check_list list
   unfolding types_right
   all_right more start q h left = rw (no_fields list q (length list) h) at left.verdict

@@ -1,7 +1,7 @@
 -- What a list without fault has, and a search in it.
 use Prim.Native.Nat.{ℕ, zero, suc, ◌+◌, ◌*◌, ◌-◌, ◌<◌, ◌≤◌}
 use mathlib.Core.Path.{◌≡◌, refl, sym, ap, ap₂, subst, ◌∙◌}
-use mathlib.Core.Bool.{Bool, true, false, ◌||◌}
+use mathlib.Core.Bool.{Bool, true, false}
 use mathlib.Core.List.{List, [], ◌∷◌, map}
 use mathlib.Core.Logic.{◌⊎◌, inl, inr}
 use native.Mathlib.Omega.{arith}
@@ -17,15 +17,15 @@ use Rattle.rules.specs.Check.{ascends, text}
 use Rattle.rules.specs.Types.{the_eight, lent, eight_types, type_places, types_in, field_right, types_right, check_list, built_in_types, check_types}
 use Rattle.rules.specs.Evaluate.{any}
 use Rattle.rules.specs.Compile.{same_bytes}
-use Rattle.rules.specs.declared.Verdict.{Verdict}
-use Rattle.rules.specs.declared.Verdict.TheVariants.{Sound, Fault}
 use Rattle.rules.proofs.Lists.{both_left, both_right, or_true_right}
 use Rattle.rules.proofs.Within.{false_not_true}
-use Rattle.rules.proofs.Ascending.{before_both, other_bytes, own_bytes, all_rise}
+use Rattle.rules.proofs.Ascending.{before_both, other_bytes, all_rise}
 use Rattle.syntax.specs.Strings.{is_built_in_text, place_bytes}
 use Rattle.syntax.proofs.StringsRead.{places_back, places_below}
 use Rattle.type_list.specs.Listed.{chosen, Listed, type_at, Belongs}
 use Rattle.type_list.proofs.Checking.{Right, right_field}
+use Rattle.std.specs.Prelude.{Ok, Err}
+use Rattle.rules.specs.Verdicts.{Verdict, fault_at, no_fault}
 
 -- ---- Lists
 
@@ -52,43 +52,43 @@ module _ (f : List ℕ → Bool) (g : ℕ → List ℕ) where
 -- ---- A list without fault
 
 is_sound : Verdict → Bool
-is_sound Sound = true
-is_sound (Fault r p) = false
+is_sound (Ok tt) = true
+is_sound (Err f) = false
 
-not_fault : {A : Type 0} {r : Reason} {p : ℕ} → Fault r p ≡ Sound → A
+not_fault : {A : Type 0} {r : Reason} {p : ℕ} → fault_at r p ≡ no_fault → A
 unfolding is_sound
 not_fault e = false_not_true (ap is_sound e)
 
 place_of : Verdict → ℕ
-place_of Sound = 0
-place_of (Fault r p) = p
+place_of (Ok tt) = 0
+place_of (Err f) = f.place
 
-same_place : {r s : Reason} {q p n : ℕ} → Fault r q ≡ Fault s p → q ≤ n → p ≤ n
+same_place : {r s : Reason} {q p n : ℕ} → fault_at r q ≡ fault_at s p → q ≤ n → p ≤ n
 unfolding place_of
 same_place e l = let same = ap place_of e in omega (arith, same)
 
 -- a first field that is right, where all are
-module _ (list before : List ℕ) (more q : ℕ) (qs : List ℕ) (e : types_right list (suc more) before (q ∷ qs) ≡ Sound) where
+module _ (list before : List ℕ) (more q : ℕ) (qs : List ℕ) (e : types_right list (suc more) before (q ∷ qs) ≡ no_fault) where
   first_right : field_right list before q ≡ true
   unfolding types_right
   first_right = go (field_right list before q) refl e
     where
-      go : (b : Bool) → field_right list before q ≡ b → pick b (types_right list more (text list q) qs) (Fault TypeList q) ≡ Sound → field_right list before q ≡ true
+      go : (b : Bool) → field_right list before q ≡ b → pick b (types_right list more (text list q) qs) (fault_at TypeList q) ≡ no_fault → field_right list before q ≡ true
       go true t e = t
       go false t e = not_fault e
 
-  others_right : types_right list more (text list q) qs ≡ Sound
+  others_right : types_right list more (text list q) qs ≡ no_fault
   unfolding types_right
   others_right = rw first_right at e
 
 -- there are not too many, and each comes before the next
-few_right : (list before : List ℕ) (more : ℕ) (qs : List ℕ) → types_right list more before qs ≡ Sound → length qs ≤ more
+few_right : (list before : List ℕ) (more : ℕ) (qs : List ℕ) → types_right list more before qs ≡ no_fault → length qs ≤ more
 unfolding types_right
 few_right list before more [] e = omega arith
 few_right list before zero (q ∷ qs) e = not_fault e
 few_right list before (suc more) (q ∷ qs) e = let few = few_right list (text list q) more qs (others_right list before more q qs e) in omega arith
 
-next_right : (list before : List ℕ) (more : ℕ) (qs : List ℕ) → types_right list more before qs ≡ Sound → (i : ℕ) → i + 1 < length qs → ascends (text list (get_or qs i 0)) (text list (get_or qs (suc i) 0)) ≡ true
+next_right : (list before : List ℕ) (more : ℕ) (qs : List ℕ) → types_right list more before qs ≡ no_fault → (i : ℕ) → i + 1 < length qs → ascends (text list (get_or qs i 0)) (text list (get_or qs (suc i) 0)) ≡ true
 unfolding types_right
 next_right list before more [] e i l = absurd (omega arith)
 next_right list before zero (q ∷ qs) e i l = not_fault e
@@ -104,7 +104,7 @@ has_letters [] [] e = false_not_true e
 has_letters (b ∷ before) [] e = false_not_true e
 has_letters before (a ∷ x) e = refl
 
-letters_right : (list before : List ℕ) (more : ℕ) (qs : List ℕ) → types_right list more before qs ≡ Sound → any (same_bytes []) (map (text list) qs) ≡ false
+letters_right : (list before : List ℕ) (more : ℕ) (qs : List ℕ) → types_right list more before qs ≡ no_fault → any (same_bytes []) (map (text list) qs) ≡ false
 unfolding types_right any
 letters_right list before more [] e = refl
 letters_right list before zero (q ∷ qs) e = not_fault e
@@ -113,7 +113,7 @@ letters_right list before (suc more) (q ∷ qs) e =
     (letters_right list (text list q) more qs (others_right list before more q qs e))
 
 -- and the list is short
-short_right : (list before : List ℕ) (more q : ℕ) → types_right list more before (fields_in list q (length list)) ≡ Sound → length list ≤ q + 35 * more
+short_right : (list before : List ℕ) (more q : ℕ) → types_right list more before (fields_in list q (length list)) ≡ no_fault → length list ≤ q + 35 * more
 unfolding types_right
 short_right list before zero q e = go (ltb q (length list)) refl
   where
@@ -122,25 +122,25 @@ short_right list before zero q e = go (ltb q (length list)) refl
     go true t = not_fault (rw (field_first list q (length list) (ltb-true q (length list) t)) at e)
 short_right list before (suc more) q e = go (ltb q (length list)) refl (λ b r h. short_right list b more r h)
   where
-    go : (b : Bool) → ltb q (length list) ≡ b → ((b : List ℕ) (r : ℕ) → types_right list more b (fields_in list r (length list)) ≡ Sound → length list ≤ r + 35 * more) → length list ≤ q + 35 * suc more
+    go : (b : Bool) → ltb q (length list) ≡ b → ((b : List ℕ) (r : ℕ) → types_right list more b (fields_in list r (length list)) ≡ no_fault → length list ≤ r + 35 * more) → length list ≤ q + 35 * suc more
     go false t others = let past = ltb-false q (length list) t in omega arith
     go true t others =
         let qs : List ℕ = fields_in list (end_of list q) (length list) in
-        let whole : types_right list (suc more) before (q ∷ qs) ≡ Sound = subst (λ (ps : List ℕ). types_right list (suc more) before ps ≡ Sound) (field_first list q (length list) (ltb-true q (length list) t)) e in
+        let whole : types_right list (suc more) before (q ∷ qs) ≡ no_fault = subst (λ (ps : List ℕ). types_right list (suc more) before ps ≡ no_fault) (field_first list q (length list) (ltb-true q (length list) t)) e in
         let right : Right list before q = right_field list before q (first_right list before more q qs whole) in
         let rest = others (text list q) (end_of list q) (others_right list before more q qs whole) in
         omega (arith, right.short, rest)
 
-module _ (list : List ℕ) (sound : check_types (chosen list) ≡ Sound) where
+module _ (list : List ℕ) (sound : check_types (chosen list) ≡ no_fault) where
   -- no list at all, or all fields are right
   abbrev NoneOrRight : Type 0
-  NoneOrRight = (length list ≡ 0) ⊎ (types_right list 64 [] (type_places list) ≡ Sound)
+  NoneOrRight = (length list ≡ 0) ⊎ (types_right list 64 [] (type_places list) ≡ no_fault)
 
   none_or_right : NoneOrRight
   unfolding chosen check_types check_list
   none_or_right = go list sound
     where
-      go : (l : List ℕ) → check_types (chosen l) ≡ Sound → (length l ≡ 0) ⊎ (types_right l 64 [] (type_places l) ≡ Sound)
+      go : (l : List ℕ) → check_types (chosen l) ≡ no_fault → (length l ≡ 0) ⊎ (types_right l 64 [] (type_places l) ≡ no_fault)
       go [] e = inl refl
       go (b ∷ bs) e = inr e
 
@@ -173,7 +173,7 @@ module _ (list : List ℕ) (sound : check_types (chosen list) ≡ Sound) where
   unfolding chosen check_types check_list is_built_in_text built_in_types types_in eight_types any same_bytes
   no_empty_type = go list sound
     where
-      go : (l : List ℕ) → check_types (chosen l) ≡ Sound → any (same_bytes []) (built_in_types (chosen l)) ≡ false
+      go : (l : List ℕ) → check_types (chosen l) ≡ no_fault → any (same_bytes []) (built_in_types (chosen l)) ≡ false
       go [] e = refl
       go (b ∷ bs) e = letters_right (b ∷ bs) [] 64 (type_places (b ∷ bs)) e
 
@@ -302,7 +302,7 @@ module _ (list index : List ℕ) (count : ℕ) (x : List ℕ) where
 
 -- ---- Where a fault may stand
 
-fault_before : (list before : List ℕ) (more q : ℕ) {r : Reason} {p : ℕ} → types_right list more before (fields_in list q (length list)) ≡ Fault r p → p ≤ q + 35 * more
+fault_before : (list before : List ℕ) (more q : ℕ) {r : Reason} {p : ℕ} → types_right list more before (fields_in list q (length list)) ≡ fault_at r p → p ≤ q + 35 * more
 unfolding types_right
 fault_before list before zero q {r} {p} e = go (ltb q (length list)) refl
   where
@@ -311,37 +311,37 @@ fault_before list before zero q {r} {p} e = go (ltb q (length list)) refl
     go true t = same_place (rw (field_first list q (length list) (ltb-true q (length list) t)) at e) (omega arith)
 fault_before list before (suc more) q {r} {p} e = go (ltb q (length list)) refl (λ b r h. fault_before list b more r h)
   where
-    go : (b : Bool) → ltb q (length list) ≡ b → ((b : List ℕ) (k : ℕ) → types_right list more b (fields_in list k (length list)) ≡ Fault r p → p ≤ k + 35 * more) → p ≤ q + 35 * suc more
+    go : (b : Bool) → ltb q (length list) ≡ b → ((b : List ℕ) (k : ℕ) → types_right list more b (fields_in list k (length list)) ≡ fault_at r p → p ≤ k + 35 * more) → p ≤ q + 35 * suc more
     go false t others = not_fault (sym (rw (no_fields list q (length list) (ltb-false q (length list) t)) at e))
     go true t others = by_field (field_right list before q) refl (rw (field_first list q (length list) (ltb-true q (length list) t)) at e)
       where
-        by_field : (b : Bool) → field_right list before q ≡ b → pick b (types_right list more (text list q) (fields_in list (end_of list q) (length list))) (Fault TypeList q) ≡ Fault r p → p ≤ q + 35 * suc more
+        by_field : (b : Bool) → field_right list before q ≡ b → pick b (types_right list more (text list q) (fields_in list (end_of list q) (length list))) (fault_at TypeList q) ≡ fault_at r p → p ≤ q + 35 * suc more
         by_field false is h = same_place h (omega arith)
         by_field true is h = let right : Right list before q = right_field list before q is in let later = others (text list q) (end_of list q) h in omega (arith, right.short, later)
 
-pub fault_early : (list : List ℕ) {r : Reason} {p : ℕ} → check_list list ≡ Fault r p → p ≤ 65535
+pub fault_early : (list : List ℕ) {r : Reason} {p : ℕ} → check_list list ≡ fault_at r p → p ≤ 65535
 unfolding check_list type_places
 fault_early [] e = same_place e (omega arith)
 fault_early (b ∷ bs) e = let early = fault_before (b ∷ bs) [] 64 0 e in omega (arith, early)
 
 -- ---- A list that is lent and has no fault is the one chosen
 
-pub lent_chosen : (list : List ℕ) → check_list list ≡ Sound → chosen list ≡ lent list
+pub lent_chosen : (list : List ℕ) → check_list list ≡ no_fault → chosen list ≡ lent list
 unfolding check_list chosen
 lent_chosen [] e = not_fault e
 lent_chosen (b ∷ bs) e = refl
 
-pub chosen_sound : (list : List ℕ) → check_list list ≡ Sound → check_types (chosen list) ≡ Sound
+pub chosen_sound : (list : List ℕ) → check_list list ≡ no_fault → check_types (chosen list) ≡ no_fault
 unfolding check_types
 chosen_sound list e = rw (lent_chosen list e) e
 
 -- where none is lent there is no fault, and where one is lent its check decides
-pub none_sound : (list : List ℕ) → length list ≡ 0 → check_types (chosen list) ≡ Sound
+pub none_sound : (list : List ℕ) → length list ≡ 0 → check_types (chosen list) ≡ no_fault
 unfolding chosen check_types
 none_sound [] h = refl
 none_sound (b ∷ bs) h = absurd (omega arith)
 
-pub fault_not_sound : {A : Type 0} (list : List ℕ) {r : Reason} {p : ℕ} → (length list ≡ 0 → ⊥) → check_list list ≡ Fault r p → check_types (chosen list) ≡ Sound → A
+pub fault_not_sound : {A : Type 0} (list : List ℕ) {r : Reason} {p : ℕ} → (length list ≡ 0 → ⊥) → check_list list ≡ fault_at r p → check_types (chosen list) ≡ no_fault → A
 unfolding chosen check_types
 fault_not_sound [] some f e = absurd (some refl)
 fault_not_sound (b ∷ bs) some f e = not_fault (sym f ∙ e)

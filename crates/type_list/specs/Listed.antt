@@ -3,7 +3,7 @@ use Rattle.std.specs.Prelude.{ℕ, ◌*◌, ◌-◌, ◌<◌, ◌≤◌, ◌≡�
 use Rattle.rules.specs.Bytes.{two}
 use Rattle.rules.specs.Check.{ascends, text}
 use Rattle.rules.specs.Types.{Types, the_eight, lent, type_places, check_types}
-use Rattle.rules.specs.declared.Verdict.TheVariants.{Sound}
+use Rattle.rules.specs.Verdicts.{no_fault}
 
 -- an empty list stands for none, and means the eight: one that is lent is empty only where it is at fault
 unfoldable pub chosen : (list : List ℕ) → Types
@@ -12,7 +12,7 @@ chosen (b ∷ bs) = lent (b ∷ bs)
 
 -- a list without fault, and a table that has the place of each of its types
 pub record Listed (list index : List ℕ) (count : ℕ) : Type 0 where
-  pub sound : check_types (chosen list) ≡ Sound
+  pub sound : check_types (chosen list) ≡ no_fault
   pub many : count ≡ length (type_places list)
   pub place : (n : ℕ) → n < count → two index (2 * n) ≡ get_or (type_places list) n 0
 

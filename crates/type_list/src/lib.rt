@@ -3,13 +3,12 @@
 #![tactic(auto)]
 
 ghost use Rattle.std.specs.Prelude.{◌≡◌, ◌<◌, ◌≤◌, length};
-ghost use Rattle.values.specs.declared.Reason.TheVariants.{TypeList};
 ghost use Rattle.rules.specs.Types.{lower_case, field_right, check_list, check_types};
-ghost use Rattle.rules.specs.declared.Verdict.TheVariants.{Sound, Fault};
 ghost use Rattle.syntax.specs.Strings.{is_built_in_text};
 ghost use Rattle.type_list.specs.Listed.{chosen, Listed, Belongs};
+ghost use Rattle.rules.specs.Verdicts.{no_fault};
 
-use rules::Verdict;
+use rules::{Fault, Verdict};
 use syntax::order::comes_before;
 use syntax::strings::{index_fields, is_built_in_text, same_bytes, text_of};
 use values::Reason;
@@ -28,29 +27,10 @@ pub const INDEX: usize = 128;
 
 // ---- The check
 
-fn faulty(place: usize) -> Verdict
-    ensures { result ≡ Fault TypeList place }
-{
-    Verdict::Fault {
-        reason: Reason::TypeList,
-        place,
-    }
-}
-
 fn is_lower_case(text: &[u8]) -> bool
     ensures { result ≡ lower_case text.now }
 {
-    let mut i: usize = 0;
-    while i < text.len() {
-        if text[i] < 0x61 {
-            return false;
-        }
-        if 0x7a < text[i] {
-            return false;
-        }
-        i += 1;
-    }
-    true
+    text.iter().all(|letter| letter.is_ascii_lowercase())
 }
 
 // Whether the field at `q` may stand behind the type `before`.
@@ -87,30 +67,30 @@ pub fn check_types(list: &[u8]) -> Verdict
     ensures { result ≡ check_list list.now }
 {
     if list.len() == 0 {
-        return faulty(0);
+        return Err(Fault::at(Reason::TypeList, 0));
     }
     let mut more = MOST;
     let mut start: usize = 0;
     let mut q: usize = 0;
     while q < list.len() {
         if more == 0 {
-            return faulty(q);
+            return Err(Fault::at(Reason::TypeList, q));
         }
         if !is_right(list, &list[start..q], q) {
-            return faulty(q);
+            return Err(Fault::at(Reason::TypeList, q));
         }
         start = q + HEADER;
         q = end_of(list, q);
         more -= 1;
     }
-    Verdict::Sound
+    Ok(())
 }
 
 // ---- What it holds
 
 // Puts the places of the types into `index`, and returns how many there are.
 pub fn index_types(list: &[u8], index: &mut [u8]) -> u16
-    requires { (check_types (chosen list.now) ≡ Sound) × (128 ≤ length index.old) }
+    requires { (check_types (chosen list.now) ≡ no_fault) × (128 ≤ length index.old) }
     ensures { Listed list.now index.new result }
 {
     index_fields(list, 0, list.len(), index)

@@ -13,10 +13,11 @@ use lib.Signed.{lt_z, quot_z, rem_z, mag_rem}
 use mir.Syntax.{w64}
 use mir.Val.{SFits, to_z, of_z}
 use mir.ValLaws.{to_z-of_z, sfits_le}
-use Rattle.values.specs.declared.Computed.TheVariants.{Integer, Overflow, DivisionByZero}
 use Rattle.values.specs.Computed.{computed}
 use Rattle.values.specs.Integers.{fits64, is_zero, floor_divide}
 use Rattle.values.proofs.Parts.{never, answer_in}
+use Rattle.std.specs.Prelude.{Ok, Err}
+use Rattle.values.specs.declared.ArithmeticError.TheVariants.{DivisionByZero, Overflow}
 
 -- ---- numbers: q * m + r is divided by m
 
@@ -157,11 +158,11 @@ quotient_fits (negsuc a) (negsuc (suc b)) f h = record { sfits = omega (arith, d
 
 -- ---- the paths through `quotient`
 
-pub divides_by_zero : (a b : ℤ) → SFits w64 b → of_z w64 b ≡ 0 → DivisionByZero ≡ computed (is_zero b) (floor_divide a b)
+pub divides_by_zero : (a b : ℤ) → SFits w64 b → of_z w64 b ≡ 0 → Err DivisionByZero ≡ computed (is_zero b) (floor_divide a b)
 unfolding computed
 divides_by_zero a b f e = ap (λ (t : Bool). computed t (floor_divide a b)) (sym (is_zero_lem b f e))
 
-pub divides_least : (a b : ℤ) → SFits w64 a → SFits w64 b → of_z w64 a ≡ 9223372036854775808 → of_z w64 b ≡ 18446744073709551615 → Overflow ≡ computed (is_zero b) (floor_divide a b)
+pub divides_least : (a b : ℤ) → SFits w64 a → SFits w64 b → of_z w64 a ≡ 9223372036854775808 → of_z w64 b ≡ 18446744073709551615 → Err Overflow ≡ computed (is_zero b) (floor_divide a b)
 unfolding computed is_zero floor_divide fits64
 divides_least a b f g p q =
     let least : a ≡ negsuc 9223372036854775807 = same_bits a (negsuc 9223372036854775807) f (record { sfits = lit< tt }) p in
@@ -171,10 +172,10 @@ divides_least a b f g p q =
 -- the quotient and the remainder of x and y answer for a and b
 pub record Ways (a b x y : ℤ) : Type 0 where
   pub small : SFits w64 (quot_z x y)
-  pub at_zero : of_z w64 (rem_z x y) ≡ 0 → Integer (to_z w64 (of_z w64 (quot_z x y))) ≡ computed (is_zero b) (floor_divide a b)
-  pub at_like : beq (lt_z (to_z w64 (of_z w64 (rem_z x y))) (pos 0)) (lt_z y (pos 0)) ≡ true → Integer (to_z w64 (of_z w64 (quot_z x y))) ≡ computed (is_zero b) (floor_divide a b)
+  pub at_zero : of_z w64 (rem_z x y) ≡ 0 → Ok (to_z w64 (of_z w64 (quot_z x y))) ≡ computed (is_zero b) (floor_divide a b)
+  pub at_like : beq (lt_z (to_z w64 (of_z w64 (rem_z x y))) (pos 0)) (lt_z y (pos 0)) ≡ true → Ok (to_z w64 (of_z w64 (quot_z x y))) ≡ computed (is_zero b) (floor_divide a b)
   pub less_small : (of_z w64 (rem_z x y) ≡ 0 → ⊥) → beq (lt_z (to_z w64 (of_z w64 (rem_z x y))) (pos 0)) (lt_z y (pos 0)) ≡ false → SFits w64 (to_z w64 (of_z w64 (quot_z x y)) -ℤ pos 1)
-  pub at_unlike : (of_z w64 (rem_z x y) ≡ 0 → ⊥) → beq (lt_z (to_z w64 (of_z w64 (rem_z x y))) (pos 0)) (lt_z y (pos 0)) ≡ false → Integer (to_z w64 (of_z w64 (to_z w64 (of_z w64 (quot_z x y)) -ℤ pos 1))) ≡ computed (is_zero b) (floor_divide a b)
+  pub at_unlike : (of_z w64 (rem_z x y) ≡ 0 → ⊥) → beq (lt_z (to_z w64 (of_z w64 (rem_z x y))) (pos 0)) (lt_z y (pos 0)) ≡ false → Ok (to_z w64 (of_z w64 (to_z w64 (of_z w64 (quot_z x y)) -ℤ pos 1))) ≡ computed (is_zero b) (floor_divide a b)
 
 module _ (a b : ℤ) (fa : SFits w64 a) (fb : SFits w64 b) (n : of_z w64 b ≡ 0 → ⊥) (h : of_z w64 a ≡ 9223372036854775808 → of_z w64 b ≡ 18446744073709551615 → ⊥) where
   plain : Ways a b a b

@@ -11,10 +11,11 @@ use lib.Signed.{lt_z, le_z}
 use mir.Syntax.{w64}
 use mir.Val.{SFits, to_z, of_z}
 use mir.ValLaws.{to_z-of_z}
-use Rattle.values.specs.declared.Computed.{Computed}
-use Rattle.values.specs.declared.Computed.TheVariants.{Integer, Overflow}
 use Rattle.values.specs.Computed.{computed}
 use Rattle.values.specs.Integers.{fits64}
+use Rattle.std.specs.Prelude.{Result, Ok, Err}
+use Rattle.values.specs.declared.ArithmeticError.{ArithmeticError}
+use Rattle.values.specs.declared.ArithmeticError.TheVariants.{Overflow}
 
 unfoldable pub up : ℤ → ℕ
 up (pos n) = n
@@ -123,18 +124,18 @@ below (negsuc n) h = le-ltb n 9223372036854775808 (omega arith)
 
 -- ---- what an operation answers
 
-abbrev inside : Bool → ℤ → Computed
-inside b z = elim b [ true ↦ Integer z | false ↦ Overflow ]
+abbrev inside : Bool → ℤ → Result ℤ ArithmeticError
+inside b z = elim b [ true ↦ Ok z | false ↦ Err Overflow ]
 
-pub answer_over : (z : ℤ) → 2 ^ 63 + down z ≤ up z → Overflow ≡ computed false z
+pub answer_over : (z : ℤ) → 2 ^ 63 + down z ≤ up z → Err Overflow ≡ computed false z
 unfolding computed
 answer_over z h = ap (λ (b : Bool). inside b z) (sym (above z h))
 
-pub answer_under : (z : ℤ) → 2 ^ 63 + up z < down z → Overflow ≡ computed false z
+pub answer_under : (z : ℤ) → 2 ^ 63 + up z < down z → Err Overflow ≡ computed false z
 unfolding computed
 answer_under z h = ap (λ (b : Bool). inside b z) (sym (below z h))
 
 -- the integer is read from the bits that hold it
-pub answer_in : (z : ℤ) → SFits w64 z → Integer (to_z w64 (of_z w64 z)) ≡ computed false z
+pub answer_in : (z : ℤ) → SFits w64 z → Ok (to_z w64 (of_z w64 z)) ≡ computed false z
 unfolding computed
-answer_in z f = ap Integer (to_z-of_z w64 z f) ∙ ap (λ (b : Bool). inside b z) (sym (in_range_lem z f))
+answer_in z f = ap Ok (to_z-of_z w64 z f) ∙ ap (λ (b : Bool). inside b z) (sym (in_range_lem z f))

@@ -8,9 +8,10 @@ use lib.Signed.{lt_z, le_z}
 use mir.Syntax.{w64}
 use mir.Val.{SFits, to_z, of_z}
 use mir.ValLaws.{to_z-of_z}
-use Rattle.values.specs.declared.Computed.TheVariants.{Overflow}
 use Rattle.values.specs.Computed.{computed}
 use Rattle.values.proofs.Parts.{up, down, plus_parts, minus_parts, lt_parts, ge_parts, leq_parts, gt_parts, up_small, down_small, within, answer_over, answer_under}
+use Rattle.std.specs.Prelude.{Err}
+use Rattle.values.specs.declared.ArithmeticError.TheVariants.{Overflow}
 
 abbrev seen : ℤ → ℤ
 seen z = to_z w64 (of_z w64 z)
@@ -41,7 +42,7 @@ module _ (x y : ℤ) (fx : SFits w64 x) (fy : SFits w64 y) where
   unfolding up down
   sum_in_up p q = within _ (omega (arith, plus_parts x y, minus_parts greatest y, leq_parts x (greatest -ℤ y) (seen_right _ x true (sum_room_up p) q))) (omega (arith, plus_parts x y, lt_parts (pos 0) y p, down_small x fx))
 
-  pub sum_over : lt_z (pos 0) y ≡ true → le_z x (seen (greatest -ℤ y)) ≡ false → Overflow ≡ computed false (x +ℤ y)
+  pub sum_over : lt_z (pos 0) y ≡ true → le_z x (seen (greatest -ℤ y)) ≡ false → Err Overflow ≡ computed false (x +ℤ y)
   unfolding up down
   sum_over p q = answer_over _ (omega (arith, plus_parts x y, minus_parts greatest y, gt_parts x (greatest -ℤ y) (seen_right _ x false (sum_room_up p) q)))
 
@@ -55,7 +56,7 @@ module _ (x y : ℤ) (fx : SFits w64 x) (fy : SFits w64 y) where
   unfolding up down
   sum_in_down p q = within _ (omega (arith, plus_parts x y, ge_parts (pos 0) y p, up_small x fx)) (omega (arith, plus_parts x y, minus_parts least y, leq_parts (least -ℤ y) x (seen_left _ x true (sum_room_down p) q)))
 
-  pub sum_under : lt_z (pos 0) y ≡ false → le_z (seen (least -ℤ y)) x ≡ false → Overflow ≡ computed false (x +ℤ y)
+  pub sum_under : lt_z (pos 0) y ≡ false → le_z (seen (least -ℤ y)) x ≡ false → Err Overflow ≡ computed false (x +ℤ y)
   unfolding up down
   sum_under p q = answer_under _ (omega (arith, plus_parts x y, minus_parts least y, gt_parts (least -ℤ y) x (seen_left _ x false (sum_room_down p) q)))
 
@@ -69,7 +70,7 @@ module _ (x y : ℤ) (fx : SFits w64 x) (fy : SFits w64 y) where
   unfolding up down
   difference_in_up p q = within _ (omega (arith, minus_parts x y, lt_parts (pos 0) y p, up_small x fx)) (omega (arith, minus_parts x y, plus_parts least y, leq_parts (least +ℤ y) x (seen_left _ x true (difference_room_up p) q)))
 
-  pub difference_under : lt_z (pos 0) y ≡ true → le_z (seen (least +ℤ y)) x ≡ false → Overflow ≡ computed false (x -ℤ y)
+  pub difference_under : lt_z (pos 0) y ≡ true → le_z (seen (least +ℤ y)) x ≡ false → Err Overflow ≡ computed false (x -ℤ y)
   unfolding up down
   difference_under p q = answer_under _ (omega (arith, minus_parts x y, plus_parts least y, gt_parts (least +ℤ y) x (seen_left _ x false (difference_room_up p) q)))
 
@@ -83,6 +84,6 @@ module _ (x y : ℤ) (fx : SFits w64 x) (fy : SFits w64 y) where
   unfolding up down
   difference_in_down p q = within _ (omega (arith, minus_parts x y, plus_parts greatest y, leq_parts x (greatest +ℤ y) (seen_right _ x true (difference_room_down p) q))) (omega (arith, minus_parts x y, ge_parts (pos 0) y p, down_small x fx))
 
-  pub difference_over : lt_z (pos 0) y ≡ false → le_z x (seen (greatest +ℤ y)) ≡ false → Overflow ≡ computed false (x -ℤ y)
+  pub difference_over : lt_z (pos 0) y ≡ false → le_z x (seen (greatest +ℤ y)) ≡ false → Err Overflow ≡ computed false (x -ℤ y)
   unfolding up down
   difference_over p q = answer_over _ (omega (arith, minus_parts x y, plus_parts greatest y, gt_parts x (greatest +ℤ y) (seen_right _ x false (difference_room_down p) q)))

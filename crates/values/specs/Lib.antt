@@ -4,3 +4,4 @@ pub mod Computed
 pub mod Decimal
 pub mod Refusals
 pub mod Labelled
+pub mod Answers

@@ -1,11 +1,10 @@
 -- The papers' number for each reason, and what each answer says in its numbers.
-use Rattle.std.specs.Prelude.{ℕ}
+use Rattle.std.specs.Prelude.{ℕ, Ok, Err}
 use Rattle.values.specs.declared.Reason.{Reason}
 use Rattle.values.specs.declared.Reason.TheVariants.{MemoryTooShort, ManifestLength, Malformed, TooDeep, StringOrder, StepLimit, LevelLimit, DefinedAgain, Unknown, DeclaredAgain, UnknownParameter, MissingParameter, NoValue, AssignedAgain, WrongKind, Overflow, DivisionByZero, NoMatch, NotInCatalog, ResourceAgain, AttributeAgain, CellLimit, OutputFull, OutsideNotation, PastLine255, Unprintable, NoSuchAttribute, TypeList}
 use Rattle.values.specs.declared.SetPart.{SetPart}
 use Rattle.values.specs.declared.SetPart.TheVariants.{Title, Path, Trail, Marks, Value}
-use Rattle.values.specs.declared.Answer.{Answer}
-use Rattle.values.specs.declared.Answer.TheVariants.{Catalog, Refused}
+use Rattle.values.specs.Answers.{Answer}
 
 -- "Reasons for refusing, in checking order"
 unfoldable pub number_of : Reason → ℕ
@@ -52,5 +51,5 @@ pub data Said : Type 0 where
   refused : (number place : ℕ) → Said
 
 unfoldable pub said : Answer → Said
-said (Catalog n s) = accepted n s
-said (Refused r p) = refused (number_of r) p
+said (Ok c) = accepted c.length c.steps
+said (Err f) = refused (number_of f.reason) f.place

@@ -83,12 +83,15 @@ pub struct Refusal {
     pub place: u16,
 }
 
-// What a compile answers: the catalog's length and the steps taken, or the reason for refusing and its place.
+// What a compile has made: the catalog's length, and the steps taken.
 #[derive(Clone, Copy)]
-pub enum Answer {
-    Catalog { length: u16, steps: u16 },
-    Refused { reason: Reason, place: u16 },
+pub struct Compiled {
+    pub length: u16,
+    pub steps: u16,
 }
+
+// What a compile answers.
+pub type Answer = Result<Compiled, Refusal>;
 
 // The parts of an attribute's set, in the order in which a label is looked for in them.
 #[derive(Clone, Copy)]
@@ -100,18 +103,19 @@ pub enum SetPart {
     Value,
 }
 
-// Why a label counts for an attribute: the first part of its set that holds the label and the place of a constant with it, or that the set lacks it; or the reason for refusing and its place.
+// The first part of an attribute's set that holds a label, and the place of a constant with it.
 #[derive(Clone, Copy)]
-pub enum Explanation {
-    Among { part: SetPart, place: u16 },
-    NotAmong,
-    Refused { reason: Reason, place: u16 },
+pub struct Among {
+    pub part: SetPart,
+    pub place: u16,
 }
+
+// Why a label counts for an attribute, or that its set lacks it.
+pub type Explanation = Result<Option<Among>, Refusal>;
 
 // What an operation on integers answers.
 #[derive(Clone, Copy)]
-pub enum Computed {
-    Integer(i64),
+pub enum ArithmeticError {
     Overflow,
     DivisionByZero,
 }

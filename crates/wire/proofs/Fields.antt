@@ -1,11 +1,12 @@
 -- The fields from a place up to an end, `fields_in`: none at the end; before it, the first one and then the fields from its end on. The bound on
 -- how many there are, which `fields_up` counts down, does not matter.
-use Prim.Native.Nat.{ℕ, zero, suc, ◌-◌, ◌<◌, ◌≤◌}
+use Prim.Native.Nat.{ℕ, zero, suc, ◌+◌, ◌*◌, ◌-◌, ◌<◌, ◌≤◌}
 use mathlib.Core.Path.{◌≡◌, refl, ap}
 use mathlib.Core.Bool.{Bool, true, false}
 use mathlib.Core.List.{List, [], ◌∷◌}
 use native.Mathlib.Omega.{arith}
 use lib.Dec.{ltb}
+use lib.ListN.{length}
 use borrow.Author.Tests.{lt-ltb, le-ltb, ltb-true}
 use Rattle.wire.specs.Bytes.{pick, end_of, fields_up, fields_in}
 
@@ -45,3 +46,18 @@ field_first m p e h = go (e - p) refl
     go : (k : ℕ) → e - p ≡ k → fields_up k m p e ≡ p ∷ fields_up (e - end_of m p) m (end_of m p) e
     go zero q = absurd (omega arith)
     go (suc k) q = rw (lt-ltb p e h, bounds_agree k (e - end_of m p) m (end_of m p) e (omega arith) (omega arith))
+
+-- each field takes three bytes at least
+pub few_fields : (m : List ℕ) (p e : ℕ) → 3 * length (fields_in m p e) ≤ (e - p) + 2
+unfolding fields_in fields_up
+few_fields m p e = few (e - p) p
+  where
+    few : (k p : ℕ) → 3 * length (fields_up k m p e) ≤ (e - p) + 2
+    few zero p = omega arith
+    few (suc k) p = by (λ (q : ℕ). few k q) (ltb p e) refl
+      where
+        by : ((q : ℕ) → 3 * length (fields_up k m q e) ≤ (e - q) + 2) → (t : Bool) → ltb p e ≡ t → 3 * length (pick t (p ∷ fields_up k m (end_of m p) e) []) ≤ (e - p) + 2
+        by later true t =
+            let before : p < e = ltb-true p e t in
+            omega (arith, later (end_of m p))
+        by later false t = omega arith

@@ -1,10 +1,14 @@
 // Bytes, big-endian numbers and fields in lent slices. Reads and stores are total: past the end a byte reads as 0, and nothing is stored there.
 #![tactic(auto)]
 
+mod walking;
+
 ghost use Rattle.std.specs.Prelude.{◌≡◌, ◌∷◌, ◌+◌, ◌-◌, ◌≤◌, ◌<◌, length, drop};
 ghost use Rattle.wire.specs.Bytes.{byte, two, end_of};
 ghost use Rattle.wire.specs.Numbers.{number, signed64, high_bytes, word64};
 ghost use Rattle.wire.specs.Runs.{bytes_at, over, zeros};
+
+pub use walking::{Walk, fields_in};
 
 fn wide(b: u8) -> u64
     ensures { result ≡ b }

@@ -1,4 +1,8 @@
 -- `add_given`: no such name, a value given before, or the store.
+use mathlib.Core.Path.{◌≡◌}
+use mathlib.Core.Bool.{true}
+use native.Mathlib.Omega.{arith}
+use Rattle.std.specs.Prelude.{None, is_some}
 use Rattle.attributes.proofs.Table.{adds_past, adds_has, adds_put}
 use Rattle.attributes.proofs.add_given.Goals as goal
 
@@ -8,8 +12,8 @@ returns-then-name-ge1024 c = adds_past _ _ _ c.if-name-ge1024.true
 pub put_given-requires : goal.put_given-requires
 put_given-requires c = c.requires c.if-name-ge1024.false
 
-pub returns-in-Holds : goal.returns-in-Holds
-returns-in-Holds c = adds_has _ _ _ c.given-held.ensures c.in-Holds.is
+pub returns-then-is_none : goal.returns-then-is_none
+returns-then-is_none c = let nothing : c.given.result ≡ None = grind arith in adds_put _ _ _ c.given.ensures nothing c.put_given.ensures
 
-pub returns-in-Empty : goal.returns-in-Empty
-returns-in-Empty c = adds_put _ _ _ c.given-held.ensures c.in-Empty.is c.put_given.ensures
+pub returns-else-is_none : goal.returns-else-is_none
+returns-else-is_none c = let there : is_some c.given.result ≡ true = grind arith in adds_has _ _ _ c.given.ensures there

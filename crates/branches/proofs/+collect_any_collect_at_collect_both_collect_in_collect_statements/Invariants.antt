@@ -3,8 +3,8 @@ use Rattle.places.specs.At.{branches_at, statements_at, Siblings}
 use Rattle.rules.specs.declared.Kind.TheVariants.{Statement as StatementKind, Branch}
 use Rattle.wire.specs.Bytes.{fields_in}
 use Rattle.branches.specs.Texts.{text_in, text_any}
-use Rattle.branches.proofs.Texts.{assignment_text, conditional_text, choice_text, defined_text, class_text, include_text, other_text, block_text, statements_text, no_statement_text, empty_block_text, branches_text, no_branch_text, small_first, small_same, small_named, second_block, collects_same, collects_none, collects_then, Collecting, collecting, collected_all, here_small, collected_here}
-use Prim.Native.Nat.{ℕ, ◌+◌, ◌-◌, ◌*◌, ◌<◌}
+use Rattle.branches.proofs.Texts.{Collecting}
+use Prim.Native.Nat.{◌+◌, ◌-◌, ◌*◌}
 use Rattle.branches.proofs.+collect_any_collect_at_collect_both_collect_in_collect_statements.Given as goal
 
 abbrev pub decreases-collect_any : goal.decreases-collect_any
@@ -23,13 +23,13 @@ abbrev pub decreases-collect_statements : goal.decreases-collect_statements
 decreases-collect_statements l = 2 * l.depth + 1
 
 abbrev pub invariant-collect_any-loop-q : goal.invariant-collect_any-loop-q
-invariant-collect_any-loop-q l = Siblings l.m l.depth Branch l.q l.end × Collecting l.initial.names l.names l.declares (text_any (branches_at l.m l.depth (fields_in l.m l.q l.end))) (text_any (branches_at l.m l.depth (fields_in l.m l.from l.end)))
+invariant-collect_any-loop-q l = Siblings l.m l.depth Branch l.q l.end × Collecting l.initial.collected l.collected (text_any (branches_at l.m l.depth (fields_in l.m l.q l.end))) (text_any (branches_at l.m l.depth (fields_in l.m l.from l.end)))
 
 abbrev pub decreases-collect_any-loop-q : goal.decreases-collect_any-loop-q
 decreases-collect_any-loop-q l = l.end - l.q
 
 abbrev pub invariant-collect_statements-loop-q : goal.invariant-collect_statements-loop-q
-invariant-collect_statements-loop-q l = Siblings l.m l.depth StatementKind l.q l.end × Collecting l.initial.names l.names l.declares (text_in (statements_at l.m l.depth (fields_in l.m l.q l.end))) (text_in (statements_at l.m l.depth (fields_in l.m l.from l.end)))
+invariant-collect_statements-loop-q l = Siblings l.m l.depth StatementKind l.q l.end × Collecting l.initial.collected l.collected (text_in (statements_at l.m l.depth (fields_in l.m l.q l.end))) (text_in (statements_at l.m l.depth (fields_in l.m l.from l.end)))
 
 abbrev pub decreases-collect_statements-loop-q : goal.decreases-collect_statements-loop-q
 decreases-collect_statements-loop-q l = l.end - l.q

@@ -1,5 +1,4 @@
 -- `mark_names`: an empty set leaves nothing to mark; at the loop's head the names left are those of the words from i on.
-use Prim.Native.Nat.{◌-◌}
 use Rattle.cells.specs.Scopes.{scope_of}
 use Rattle.branches.specs.Names.{contains}
 use Rattle.branches.proofs.Names.{words_from}
@@ -8,6 +7,3 @@ use Rattle.branches.proofs.mark_names.Given as goal
 
 abbrev pub invariant-loop-i : goal.invariant-loop-i
 invariant-loop-i l = ToMark l.initial.work l.work (scope_of l.scope) (words_from l.i l.names) (contains l.names) l.k
-
-abbrev pub decreases-loop-i : goal.decreases-loop-i
-decreases-loop-i l = 16 - l.i

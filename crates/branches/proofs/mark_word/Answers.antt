@@ -1,5 +1,6 @@
 -- `mark_word`: at the loop's head the names left are those from `at` on; each turn takes the first of them.
 use Prim.Native.Nat.{ℕ, ◌/◌, ◌^◌, ◌<◌}
+use Rattle.std.specs.Prelude.{Err}
 use mathlib.Core.Path.{◌≡◌, ◌∙◌}
 use native.Mathlib.Omega.{arith}
 use lib.Count.{count_trailing_zeros}
@@ -20,14 +21,14 @@ overflow_cast-name c = omega (arith, zeros_small c.loop-rest.at _ c.loop-rest.in
 pub overflow_add-name : goal.overflow_add-name
 overflow_add-name c = omega (arith, first_small _ _ c.loop-rest.invariant.1.1 c.loop-rest-test.true c.loop-rest.invariant.1.0)
 
-pub join_mark-stored-requires : goal.join_mark-stored-requires
-join_mark-stored-requires c = (omega (arith, c.requires.0, c.loop-rest.invariant.0.size), first_small _ _ c.loop-rest.invariant.1.1 c.loop-rest-test.true c.loop-rest.invariant.1.0)
+pub join_mark-requires : goal.join_mark-requires
+join_mark-requires c = (omega (arith, c.requires.0, c.loop-rest.invariant.0.size), first_small _ _ c.loop-rest.invariant.1.1 c.loop-rest-test.true c.loop-rest.invariant.1.0)
 
-pub shape_of-work-in_default : goal.shape_of-work-in_default
-shape_of-work-in_default c = c.join_mark-stored.auto.work ∙ c.loop-rest.invariant.0.size
+pub shape_of-work-in_err-join_mark : goal.shape_of-work-in_err-join_mark
+shape_of-work-in_err-join_mark c = c.join_mark.auto.work ∙ c.loop-rest.invariant.0.size
 
-pub returns-in_default : goal.returns-in_default
-returns-in_default c = stops_here c.loop-rest.invariant.0 _ _ (first_then _ _ c.loop-rest.invariant.1.1 c.loop-rest-test.true) (one_mark (first_small _ _ c.loop-rest.invariant.1.1 c.loop-rest-test.true c.loop-rest.invariant.1.0) c.join_mark-stored.ensures) c.in_default.not-Done
+pub returns-in_err-join_mark : goal.returns-in_err-join_mark
+returns-in_err-join_mark c = let handed_on : c.from_residual.result ≡ Err c.in_err-join_mark.field-0.0 = grind arith in rw handed_on (stops_here c.loop-rest.invariant.0 _ _ (first_then _ _ c.loop-rest.invariant.1.1 c.loop-rest-test.true) (one_mark (first_small _ _ c.loop-rest.invariant.1.1 c.loop-rest-test.true c.loop-rest.invariant.1.0) c.join_mark.ensures) c.in_err-join_mark.was)
 
 pub overflow_cast-rest : goal.overflow_cast-rest
 overflow_cast-rest c = omega (arith, zeros_small c.loop-rest.at _ c.loop-rest.invariant.1.1 c.loop-rest-test.true)
@@ -42,7 +43,7 @@ pub loop-rest-smaller : goal.loop-rest-smaller
 loop-rest-smaller c = falls c.loop-rest.rest c.loop-rest-test.true
 
 pub loop-rest-preserved : goal.loop-rest-preserved
-loop-rest-preserved c = (goes_on c.loop-rest.invariant.0 _ _ (first_then _ _ c.loop-rest.invariant.1.1 c.loop-rest-test.true) (one_mark (first_small _ _ c.loop-rest.invariant.1.1 c.loop-rest-test.true c.loop-rest.invariant.1.0) c.join_mark-stored.ensures) c.in-Done.is c.join_mark-stored.auto.work, (after_small _ _ c.loop-rest.invariant.1.1 c.loop-rest-test.true c.loop-rest.invariant.1.0, omega (arith, falls c.loop-rest.rest c.loop-rest-test.true, c.loop-rest.invariant.1.1)))
+loop-rest-preserved c = (goes_on c.loop-rest.invariant.0 _ _ (first_then _ _ c.loop-rest.invariant.1.1 c.loop-rest-test.true) (one_mark (first_small _ _ c.loop-rest.invariant.1.1 c.loop-rest-test.true c.loop-rest.invariant.1.0) c.join_mark.ensures) c.in_ok-join_mark.was c.join_mark.auto.work, (after_small _ _ c.loop-rest.invariant.1.1 c.loop-rest-test.true c.loop-rest.invariant.1.0, omega (arith, falls c.loop-rest.rest c.loop-rest-test.true, c.loop-rest.invariant.1.1)))
 
 pub shape_of-work : goal.shape_of-work
 shape_of-work c = c.loop-rest.invariant.0.size

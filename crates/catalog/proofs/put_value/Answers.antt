@@ -3,7 +3,8 @@ use borrow.Author.Rules.{rules}
 use mir.Val.{SFits}
 use mir.ValLaws.{to_z-of_z}
 use mir.Syntax.{w64}
-use Rattle.catalog.proofs.Making.{integer_stored, string_stored, boolean_stored}
+use mathlib.Core.Path.{◌∙◌}
+use Rattle.catalog.proofs.Making.{as_byte, integer_stored, string_stored, boolean_stored}
 use Rattle.catalog.proofs.put_value.Goals as goal
 
 pub returns-in-Integer : goal.returns-in-Integer
@@ -20,4 +21,4 @@ returns-in-String c =
 pub returns-in-Boolean : goal.returns-in-Boolean
 returns-in-Boolean c =
     let a = c.args in
-    boolean_stored a.rest.now a.at c.in-Boolean.b c.boolean_byte.result c.in-Boolean.is c.boolean_byte.ensures c.put_header-in-Boolean.ensures c.put_byte.ensures
+    boolean_stored a.rest.now a.at c.in-Boolean.b c.from.result c.in-Boolean.is (c.from.ensures ∙ as_byte c.in-Boolean.b) c.put_header-in-Boolean.ensures c.put_byte.ensures

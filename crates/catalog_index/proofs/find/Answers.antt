@@ -5,18 +5,18 @@ use mathlib.Core.Bool.{Bool}
 use native.Mathlib.Omega.{arith}
 use Rattle.cells.specs.Layout.{most_records}
 use Rattle.catalog.specs.Finding.{Below}
-use Rattle.catalog.specs.declared.Place.TheVariants.{Nothing}
 use Rattle.catalog_index.specs.Chains.{follow, last_with}
 use Rattle.catalog_index.specs.Index.{places_of, links_of, chain_in, sought_at}
 use Rattle.catalog_index.proofs.Chains.{taken, passed_over, below_place, below_same, walk_on, walk_ends, walk_breaks}
 use Rattle.catalog_index.proofs.find.Goals as goal
 use Rattle.catalog_index.proofs.find.Goals.{then-is_sought, else-is_sought}
+use Rattle.std.specs.Prelude.{None}
 
 pub loop-r-init : goal.loop-r-init
 unfolding chain_in Below
 loop-r-init c = (
   omega arith,
-  (ap (λ (r : ℕ). last_with (sought_at c.args.out.now c.args.fill c.args.sought) Nothing (follow (places_of c.args.work.now) (links_of c.args.work.now) most_records r)) c.two_in-r.ensures, tt),
+  (ap (λ (r : ℕ). last_with (sought_at c.args.out.now c.args.fill c.args.sought) None (follow (places_of c.args.work.now) (links_of c.args.work.now) most_records r)) c.two_in-r.ensures, tt),
 )
 
 pub returns-then-below-r : goal.returns-then-below-r

@@ -1,21 +1,15 @@
--- `find_free`: at the loop's head all slots before i are in use.
-use mathlib.Core.Bool.{true}
-use mathlib.Core.Path.{◌∙◌, refl}
+-- `find_free`: the first of the slots that is not in use, or they all are.
 use native.Mathlib.Omega.{arith}
-use borrow.Author.Count.{below_none, below_more}
-use Rattle.cells.specs.Slots.{opened, full}
-use Rattle.cells.proofs.SlotReads.{turn_at}
-use Rattle.cells.proofs.Slots.{used_read}
+use borrow.Author.Tests.{tests}
+use borrow.Author.Rules.{rules}
+use Rattle.std.proofs.lemmas.List.{length-take-le}
+use lib.ListN.{take}
+use Rattle.std.proofs.lemmas.Iterator.{IsFirst-from_position, YieldsList-from_slice}
+use Rattle.cells.proofs.SlotReads.{Used, first_free}
 use Rattle.cells.proofs.find_free.Goals as goal
 
-pub loop-i-init : goal.loop-i-init
-loop-i-init c = (omega arith, below_none _)
-
-pub returns-then-work-i-ne-USED : goal.returns-then-work-i-ne-USED
-returns-then-work-i-ne-USED c = opened (turn_at _ _ c.loop-i-test.true c.loop-i.invariant.1 c.if-work-i-ne-USED.true)
-
-pub loop-i-preserved : goal.loop-i-preserved
-loop-i-preserved c = (omega arith, below_more _ _ c.loop-i.invariant.1 (used_read _ _ c.loop-i-test.true ∙ rw c.if-work-i-ne-USED.false refl))
+pub slice_bounds-iter-end : goal.slice_bounds-iter-end
+slice_bounds-iter-end c = omega (arith, length-take-le 512 c.args.work.now)
 
 pub returns : goal.returns
-returns c = full (λ k l. c.loop-i.invariant.1 k (omega arith))
+returns c = first_free _ (omega arith) _ (IsFirst-from_position _ _ _ (λ state. Used state → ⊥) Used c.position.ensures.ran (YieldsList-from_slice (take 512 c.args.work.now) cc) (λ x q k. search (rules, tests)) (λ x q k. search (rules, tests)))

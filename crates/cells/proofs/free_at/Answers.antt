@@ -2,9 +2,6 @@
 use Rattle.cells.proofs.Free.{free_yes, free_no}
 use Rattle.cells.proofs.free_at.Goals as goal
 
-pub in_scope-requires : goal.in_scope-requires
-in_scope-requires c = c.requires
-
 pub returns-then-in_scope : goal.returns-then-in_scope
 returns-then-in_scope c =
     free_yes _ _ _ _ c.requires.0 c.requires.1 c.in_scope.ensures c.if-in_scope.true c.put_byte.ensures

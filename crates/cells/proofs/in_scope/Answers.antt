@@ -9,8 +9,8 @@ pub returns-then-work-low : goal.returns-then-work-low
 returns-then-work-low c =
     low_not_of_scope _ _ c.requires.0 _ c.if-work-low.true (omega (arith, c.type_inv.work (key_at c.args.i + 1)))
 
-pub returns-then-work-i-ne-USED : goal.returns-then-work-i-ne-USED
-returns-then-work-i-ne-USED c = not_used _ _ c.requires.0 _ c.if-work-i-ne-USED.true
+pub returns-then-work-i : goal.returns-then-work-i
+returns-then-work-i c = not_used _ _ c.requires.0 _ c.if-work-i.true
 
 pub returns : goal.returns
-returns c = used_for _ _ c.requires.0 _ c.if-work-i-ne-USED.false c.two_in.ensures
+returns c = used_for _ _ c.requires.0 _ c.if-work-i.false c.two_in.ensures

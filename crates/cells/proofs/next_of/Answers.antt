@@ -1,7 +1,6 @@
--- `next_of`: after a slot, or at the head.
-use mathlib.Core.Path.{◌≡◌}
-use native.Mathlib.Omega.{arith}
+-- `next_of`: the link of a slot or of the head, if it counts.
+use Rattle.cells.proofs.SlotReads.{next_by}
 use Rattle.cells.proofs.next_of.Goals as goal
 
 pub returns : goal.returns
-returns c = let end : c.args.p ≡ 512 = omega arith in rw end c.first_of.ensures
+returns c = next_by _ _ _ c.requires.1.0 c.link_place.ensures.0 c.two_in-link.ensures c.counted_link.ensures

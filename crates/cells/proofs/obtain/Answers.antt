@@ -3,10 +3,10 @@ use mathlib.Core.Path.{refl, sym, ◌∙◌}
 use Rattle.cells.specs.Slots.{holds, lacks}
 use Rattle.cells.proofs.obtain.Goals as goal
 
-pub returns-in-At : goal.returns-in-At
-returns-in-At c = (holds (sym c.find.ensures ∙ c.in-At.is), refl)
+pub returns-in-Some : goal.returns-in-Some
+returns-in-Some c = (holds (sym c.find.ensures ∙ c.in-Some.is), refl)
 
-pub returns-in-Nothing : goal.returns-in-Nothing
-returns-in-Nothing c =
+pub returns : goal.returns
+returns c =
     let claim-open = c.claim_open.ensures in
-    (lacks (sym c.find.ensures ∙ c.in-Nothing.is) claim-open.0, claim-open.1)
+    (lacks (sym c.find.ensures ∙ c.in_default.is) claim-open.0, claim-open.1)

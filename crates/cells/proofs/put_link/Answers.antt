@@ -1,9 +1,10 @@
 -- `put_link`: at the link of a slot, or at the head of a chain.
-use Rattle.cells.proofs.Links.{put_slot, put_head}
+use mathlib.Core.Path.{◌≡◌, refl, ◌∙◌}
+use borrow.Author.Rules.{rules}
+use Rattle.cells.specs.Chains.{reference}
 use Rattle.cells.proofs.put_link.Goals as goal
 
-pub returns-then-p-lt-SLOTS : goal.returns-then-p-lt-SLOTS
-returns-then-p-lt-SLOTS c = put_slot _ _ _ _ c.if-p-lt-SLOTS.true c.put_two.ensures
-
 pub returns : goal.returns
-returns c = put_head _ _ _ _ c.if-p-lt-SLOTS.false c.put_two-2.ensures
+returns c =
+    let link : c.match-next.link ≡ reference c.args.next = search rules in
+    c.put_two.ensures ∙ rw (link, c.link_place.ensures.0) refl

@@ -4,7 +4,8 @@ use Rattle.type_list.proofs.Searching.{fault_early, lent_chosen, chosen_sound}
 use Rattle.compiler.proofs.Whole.{short_memory, fault_of_types, refuses}
 use native.Mathlib.Omega.{arith}
 use Rattle.evaluator.specs.Answers.{refused_by}
-use mathlib.Core.Path.{ap, ◌∙◌, refl, sym}
+use Rattle.rules.specs.Outcome.{refused}
+use mathlib.Core.Path.{ap, ap₂, ◌∙◌, refl, sym}
 use Rattle.compiler.proofs.compile_with_types.Goals as goal
 
 pub returns-then-work-lt65536 : goal.returns-then-work-lt65536
@@ -13,18 +14,15 @@ returns-then-work-lt65536 c = record {
   leaves = refuses _ _ _ _ _ _ _ _ _ refl refl c.refuse.ensures.1.1 (short_memory _ _ _ _ _ _ c.if-work-lt65536.true ∙ sym (ap refused_by c.at.ensures)) c.refuse.ensures.0 c.refuse.ensures.1.0;
 }
 
-pub at-requires-in-Fault : goal.at-requires-in-Fault
-at-requires-in-Fault c = fault_early _ (sym c.check_types-v.ensures ∙ c.in-Fault.is)
-
 pub compile_chosen-requires : goal.compile_chosen-requires
-compile_chosen-requires c = (c.if-work-lt65536.false, chosen_sound _ (sym c.check_types-v.ensures ∙ c.in-Sound.is))
+compile_chosen-requires c = (c.if-work-lt65536.false, chosen_sound _ (sym c.check_types.ensures ∙ c.in-Ok.is))
 
-pub returns-in-Fault : goal.returns-in-Fault
+pub returns-in-Err : goal.returns-in-Err
 unfolding check_types
-returns-in-Fault c = record {
+returns-in-Err c = record {
   bytes = record { below = λ i. omega (arith, c.type_inv.manifest i) };
-  leaves = refuses _ _ _ _ _ _ _ _ _ refl refl c.refuse-in-Fault.ensures.1.1 (fault_of_types _ _ _ _ _ _ c.if-work-lt65536.false c.check_types-v.ensures c.in-Fault.is ∙ sym (ap refused_by c.at-in-Fault.ensures)) c.refuse-in-Fault.ensures.0 c.refuse-in-Fault.ensures.1.0;
+  leaves = refuses _ _ _ _ _ _ _ _ _ refl refl c.refuse-in-Err.ensures.1.1 (fault_of_types _ _ _ _ _ _ c.if-work-lt65536.false c.check_types.ensures c.in-Err.is ∙ ap₂ refused (sym c.from.ensures.0) (sym (c.from.ensures.1 (fault_early _ (sym c.check_types.ensures ∙ c.in-Err.is))))) c.refuse-in-Err.ensures.0 c.refuse-in-Err.ensures.1.0;
 }
 
-pub returns-in-Sound : goal.returns-in-Sound
-returns-in-Sound c = rw (lent_chosen _ (sym c.check_types-v.ensures ∙ c.in-Sound.is)) at c.compile_chosen.ensures
+pub returns-in-Ok : goal.returns-in-Ok
+returns-in-Ok c = rw (lent_chosen _ (sym c.check_types.ensures ∙ c.in-Ok.is)) at c.compile_chosen.ensures

@@ -9,15 +9,15 @@ use Rattle.converter.proofs.convert_with_types.Goals as goal
 pub returns-then-work-lt65536 : goal.returns-then-work-lt65536
 returns-then-work-lt65536 c = converts _ _ (short_memory _ _ _ _ c.if-work-lt65536.true) refl refl c.refuse.ensures
 
-pub overflow_cast-place : goal.overflow_cast-place
-overflow_cast-place c = omega (arith, fault_early _ (sym c.check_types-v.ensures ∙ c.in-Fault.is))
+pub overflow_cast-fault : goal.overflow_cast-fault
+overflow_cast-fault c = omega (arith, fault_early _ (sym c.check_types.ensures ∙ c.in-Err.is))
 
 pub convert_chosen-requires : goal.convert_chosen-requires
-convert_chosen-requires c = (c.if-work-lt65536.false, chosen_sound _ (sym c.check_types-v.ensures ∙ c.in-Sound.is))
+convert_chosen-requires c = (c.if-work-lt65536.false, chosen_sound _ (sym c.check_types.ensures ∙ c.in-Ok.is))
 
-pub returns-in-Fault : goal.returns-in-Fault
+pub returns-in-Err : goal.returns-in-Err
 unfolding check_types
-returns-in-Fault c = converts _ _ (fault_of_types _ _ _ _ c.if-work-lt65536.false c.check_types-v.ensures c.in-Fault.is) refl refl c.refuse-in-Fault.ensures
+returns-in-Err c = converts _ _ (fault_of_types _ _ _ _ c.if-work-lt65536.false c.check_types.ensures c.in-Err.is) refl refl c.refuse-in-Err.ensures
 
-pub returns-in-Sound : goal.returns-in-Sound
-returns-in-Sound c = rw (lent_chosen _ (sym c.check_types-v.ensures ∙ c.in-Sound.is)) at c.convert_chosen.ensures
+pub returns-in-Ok : goal.returns-in-Ok
+returns-in-Ok c = rw (lent_chosen _ (sym c.check_types.ensures ∙ c.in-Ok.is)) at c.convert_chosen.ensures

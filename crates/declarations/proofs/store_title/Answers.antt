@@ -3,10 +3,10 @@ use Rattle.declarations.proofs.Types.{number_small, title_nowhere, title_stored}
 use Rattle.declarations.proofs.store_title.Goals as goal
 
 pub store-requires : goal.store-requires
-store-requires c = (c.requires.0, (number_small _ c.title-t.ensures c.in-At.is, c.requires.1))
+store-requires c = (c.requires.0, (number_small _ c.title.ensures c.in-Some.is, c.requires.1))
 
-pub returns-in-Nothing : goal.returns-in-Nothing
-returns-in-Nothing c = title_nowhere _ c.title-t.ensures _ _ c.in-Nothing.is
+pub returns-in_default : goal.returns-in_default
+returns-in_default c = title_nowhere _ c.title.ensures _ _ c.in_default.is
 
-pub returns-in-At : goal.returns-in-At
-returns-in-At c = title_stored _ c.title-t.ensures _ _ _ c.in-At.is c.store.ensures
+pub returns : goal.returns
+returns c = title_stored _ c.title.ensures _ _ _ c.in-Some.is c.store.ensures

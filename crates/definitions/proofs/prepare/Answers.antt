@@ -9,10 +9,10 @@ pub mark_types-requires : goal.mark_types-requires
 mark_types-requires c = (c.requires.0.0, (omega (arith, c.requires.1, c.begin.auto.work), few_strings_lem _ c.requires.0.1.0))
 
 pub set_title-requires : goal.set_title-requires
-set_title-requires c = (omega (arith, c.requires.1, c.begin.auto.work, c.mark_types.auto.work), title_below _ c.title_number-title.ensures (few_strings_lem _ c.requires.0.1.0) c.in-At.is)
+set_title-requires c = (omega (arith, c.requires.1, c.begin.auto.work, c.mark_types.auto.work), title_below _ c.title_number.ensures (few_strings_lem _ c.requires.0.1.0) c.in-Some.is)
 
-pub returns-in-At : goal.returns-in-At
-returns-in-At c = titled _ _ _ _ (no_empty_type _ c.requires.0.0) c.requires.0.1.0 c.begin.ensures c.mark_types.ensures (omega (arith, c.requires.1, c.begin.auto.work)) c.requires.0.1.1 c.mark_types.auto.work _ c.title_number-title.ensures c.in-At.is c.set_title.ensures c.set_title.auto.work
+pub returns-in-Some : goal.returns-in-Some
+returns-in-Some c = titled _ _ _ _ (no_empty_type _ c.requires.0.0) c.requires.0.1.0 c.begin.ensures c.mark_types.ensures (omega (arith, c.requires.1, c.begin.auto.work)) c.requires.0.1.1 c.mark_types.auto.work _ c.title_number.ensures c.in-Some.is c.set_title.ensures c.set_title.auto.work
 
-pub returns-in-Nothing : goal.returns-in-Nothing
-returns-in-Nothing c = untitled _ _ _ _ (no_empty_type _ c.requires.0.0) c.requires.0.1.0 c.begin.ensures c.mark_types.ensures (omega (arith, c.requires.1, c.begin.auto.work)) c.requires.0.1.1 c.mark_types.auto.work c.title_number-title.ensures c.in-Nothing.is
+pub returns-in_default : goal.returns-in_default
+returns-in_default c = untitled _ _ _ _ (no_empty_type _ c.requires.0.0) c.requires.0.1.0 c.begin.ensures c.mark_types.ensures (omega (arith, c.requires.1, c.begin.auto.work)) c.requires.0.1.1 c.mark_types.auto.work c.title_number.ensures c.in_default.is

@@ -1,5 +1,4 @@
 -- The cycle of `evaluate` and what it calls for expressions with parts: the measures and the answers of each member stand in the files below.
-use Prim.Native.Nat.{ℕ, ◌<◌, ◌+◌, ◌*◌}
 use native.Mathlib.Omega.{arith}
 use Rattle.labels.proofs.Words.{grows_on, grows_none, grows_joined}
 use Rattle.evaluator.proofs.Expressions.{resized, title_stops, title_goes_on, negation_stops, negation_goes_on, left_stops, left_unlike, left_decides, right_stops, right_goes_on}
@@ -11,17 +10,17 @@ use Rattle.evaluator.proofs.+attribute_read_choose_composed_evaluate_negation_op
 pub attribute_read-overflow_add-p : goal.attribute_read-overflow_add-p
 attribute_read-overflow_add-p t c = omega (arith, c.requires.0.place)
 
-pub attribute_read-evaluate-a-requires : goal.attribute_read-evaluate-a-requires
-attribute_read-evaluate-a-requires t c = (omega arith, (resized c.requires.0 c.place-title.ensures.0, c.requires.1))
+pub attribute_read-evaluate-requires : goal.attribute_read-evaluate-requires
+attribute_read-evaluate-requires t c = (omega arith, (resized c.requires.0 c.place-title.ensures.0, c.requires.1))
 
-pub attribute_read-returns-in_default : goal.attribute_read-returns-in_default
-attribute_read-returns-in_default t c = (c.evaluate-a.ensures.0, λ d o. title_stops _ _ _ _ _ o c.requires.0.manifest c.place-title.ensures c.evaluate-a.ensures.1 c.value_of.ensures c.in_default.is)
+pub attribute_read-returns-in_err-x : goal.attribute_read-returns-in_err-x
+attribute_read-returns-in_err-x t c = (c.evaluate.ensures.0, λ d o. title_stops _ _ _ _ _ o c.requires.0.manifest c.place-title.ensures c.evaluate.ensures.1 c.in_err-x.was (grind arith))
 
 pub attribute_read-attribute_of-requires : goal.attribute_read-attribute_of-requires
-attribute_read-attribute_of-requires t c = (c.requires.0, (c.place-title.ensures.0, c.evaluate-a.ensures.0.size))
+attribute_read-attribute_of-requires t c = (c.requires.0, (c.place-title.ensures.0, c.evaluate.ensures.0.size))
 
 pub attribute_read-returns : goal.attribute_read-returns
-attribute_read-returns t c = (grows_on c.evaluate-a.ensures.0 c.attribute_of.ensures.0, λ d o. title_goes_on _ _ _ _ _ o c.requires.0.manifest c.place-title.ensures c.evaluate-a.ensures.1 c.value_of.ensures _ _ c.in-Value.is c.attribute_of.ensures.1)
+attribute_read-returns t c = (grows_on c.evaluate.ensures.0 c.attribute_of.ensures.0, λ d o. title_goes_on _ _ _ _ _ o c.requires.0.manifest c.place-title.ensures c.evaluate.ensures.1 _ _ c.in_ok-x.was c.attribute_of.ensures.1)
 
 pub choose-overflow_add-p : goal.choose-overflow_add-p
 choose-overflow_add-p t c = omega (arith, c.requires.0.place)
@@ -32,29 +31,29 @@ choose-end_of-first-requires t c = omega (arith, c.requires.0.place)
 pub choose-end_of-requires : goal.choose-end_of-requires
 choose-end_of-requires t c = omega (arith, c.requires.0.place)
 
-pub choose-struck_pattern-struck-requires : goal.choose-struck_pattern-struck-requires
-choose-struck_pattern-struck-requires t c = (c.place-end.ensures.0, c.requires.0.memory)
+pub choose-struck_pattern-requires : goal.choose-struck_pattern-requires
+choose-struck_pattern-requires t c = (c.place-end.ensures.0, c.requires.0.memory)
 
 pub choose-at-requires : goal.choose-at-requires
-choose-at-requires t c = near_at c.in-At.is c.struck_pattern-struck.ensures.1
+choose-at-requires t c = near_at c.in-Some.is c.struck_pattern.ensures.1
 
-pub choose-returns-in-At : goal.choose-returns-in-At
-choose-returns-in-At t c = (grows_none c.requires.1, λ d e arms short. chosen_here_lem _ _ _ _ _ d _ _ c.end_of-first.ensures c.end_of.ensures c.place-end.ensures (λ s. choosing_struck _ _ _ _ _ d _ _ _ _ c.struck_pattern-struck.ensures.0 _ c.in-At.is c.at.ensures) arms short)
+pub choose-returns-in-Some : goal.choose-returns-in-Some
+choose-returns-in-Some t c = (grows_none c.requires.1, λ d e arms short. chosen_here_lem _ _ _ _ _ d _ _ c.end_of-first.ensures c.end_of.ensures c.place-end.ensures (λ s. choosing_struck _ _ _ _ _ d _ _ _ _ c.struck_pattern.ensures.0 _ c.in-Some.is c.at.ensures) arms short)
 
-pub choose-try_patterns-at-requires : goal.choose-try_patterns-at-requires
-choose-try_patterns-at-requires t c = (c.place-end.ensures.0, c.requires.1)
+pub choose-try_patterns-requires : goal.choose-try_patterns-requires
+choose-try_patterns-requires t c = (c.place-end.ensures.0, c.requires.1)
 
-pub choose-at-requires-in-Nothing-at : goal.choose-at-requires-in-Nothing-at
-choose-at-requires-in-Nothing-at t c = c.requires.0.place
+pub choose-at-requires-in_default-try_patterns : goal.choose-at-requires-in_default-try_patterns
+choose-at-requires-in_default-try_patterns t c = c.requires.0.place
 
 pub choose-evaluate-requires : goal.choose-evaluate-requires
-choose-evaluate-requires t c = (omega arith, (resized c.requires.0 c.place.ensures.0, c.try_patterns-at.ensures.labels.size))
+choose-evaluate-requires t c = (omega arith, (resized c.requires.0 c.place.ensures.0, c.try_patterns.ensures.labels.size))
 
-pub choose-returns-in-Nothing-at : goal.choose-returns-in-Nothing-at
-choose-returns-in-Nothing-at t c = (grows_joined c.try_patterns-at.ensures.labels, λ d e arms short. chosen_here_lem _ _ _ _ _ d _ _ c.end_of-first.ensures c.end_of.ensures c.place-end.ensures (λ s. choosing_fails _ _ _ _ _ d _ _ _ _ c.struck_pattern-struck.ensures.0 c.in-Nothing.is c.try_patterns-at.ensures c.in-Nothing-at.is c.at-in-Nothing-at.ensures) arms short)
+pub choose-returns-in_default-try_patterns : goal.choose-returns-in_default-try_patterns
+choose-returns-in_default-try_patterns t c = (grows_joined c.try_patterns.ensures.labels, λ d e arms short. chosen_here_lem _ _ _ _ _ d _ _ c.end_of-first.ensures c.end_of.ensures c.place-end.ensures (λ s. choosing_fails _ _ _ _ _ d _ _ _ _ c.struck_pattern.ensures.0 c.in_default.is c.try_patterns.ensures c.in_default-try_patterns.is c.at-in_default-try_patterns.ensures) arms short)
 
-pub choose-returns-in-At-at : goal.choose-returns-in-At-at
-choose-returns-in-At-at t c = (grows_on (grows_joined c.try_patterns-at.ensures.labels) c.evaluate.ensures.0, λ d e arms short. chosen_here_lem _ _ _ _ _ d _ _ c.end_of-first.ensures c.end_of.ensures c.place-end.ensures (λ s. choosing_ends _ _ _ _ _ d _ _ _ _ c.struck_pattern-struck.ensures.0 c.in-Nothing.is c.try_patterns-at.ensures e c.requires.0.manifest s c.in-At-at.is c.place.ensures c.evaluate.ensures.1) arms short)
+pub choose-returns : goal.choose-returns
+choose-returns t c = (grows_on (grows_joined c.try_patterns.ensures.labels) c.evaluate.ensures.0, λ d e arms short. chosen_here_lem _ _ _ _ _ d _ _ c.end_of-first.ensures c.end_of.ensures c.place-end.ensures (λ s. choosing_ends _ _ _ _ _ d _ _ _ _ c.struck_pattern.ensures.0 c.in_default.is c.try_patterns.ensures e c.requires.0.manifest s c.in-Some-try_patterns.is c.place.ensures c.evaluate.ensures.1) arms short)
 
 pub composed-at-requires : goal.composed-at-requires
 composed-at-requires t c = c.requires.0.place
@@ -110,26 +109,26 @@ evaluate-returns t c = (c.composed.ensures.0, λ s. c.composed.ensures.1 s (omeg
 pub negation-overflow_add-p : goal.negation-overflow_add-p
 negation-overflow_add-p t c = omega (arith, c.requires.0.place)
 
-pub negation-evaluate-a-requires : goal.negation-evaluate-a-requires
-negation-evaluate-a-requires t c = (omega arith, (resized c.requires.0 c.place-operand.ensures.0, c.requires.1))
+pub negation-evaluate-requires : goal.negation-evaluate-requires
+negation-evaluate-requires t c = (omega arith, (resized c.requires.0 c.place-operand.ensures.0, c.requires.1))
 
-pub negation-returns-in_default : goal.negation-returns-in_default
-negation-returns-in_default t c = (c.evaluate-a.ensures.0, λ d o. negation_stops _ _ _ _ _ o c.requires.0.manifest c.place-operand.ensures c.evaluate-a.ensures.1 c.value_of.ensures c.in_default.is)
+pub negation-returns-in_err-x : goal.negation-returns-in_err-x
+negation-returns-in_err-x t c = (c.evaluate.ensures.0, λ d o. negation_stops _ _ _ _ _ o c.requires.0.manifest c.place-operand.ensures c.evaluate.ensures.1 c.in_err-x.was (grind arith))
 
 pub negation-negated-requires : goal.negation-negated-requires
 negation-negated-requires t c = c.place-operand.ensures.0
 
 pub negation-returns : goal.negation-returns
-negation-returns t c = (c.evaluate-a.ensures.0, λ d o. negation_goes_on _ _ _ _ _ o c.requires.0.manifest c.place-operand.ensures c.evaluate-a.ensures.1 c.value_of.ensures c.in-Value.is c.negated.ensures)
+negation-returns t c = (c.evaluate.ensures.0, λ d o. negation_goes_on _ _ _ _ _ o c.requires.0.manifest c.place-operand.ensures c.evaluate.ensures.1 c.in_ok-x.was c.negated.ensures)
 
 pub operation-overflow_add-p : goal.operation-overflow_add-p
 operation-overflow_add-p t c = omega (arith, c.requires.0.place)
 
-pub operation-evaluate-a-requires : goal.operation-evaluate-a-requires
-operation-evaluate-a-requires t c = (omega arith, (resized c.requires.0 c.place-left.ensures.0, c.requires.1))
+pub operation-evaluate-requires : goal.operation-evaluate-requires
+operation-evaluate-requires t c = (omega arith, (resized c.requires.0 c.place-left.ensures.0, c.requires.1))
 
-pub operation-returns-in_default : goal.operation-returns-in_default
-operation-returns-in_default t c = (c.evaluate-a.ensures.0, λ d o. left_stops _ _ _ _ _ o c.requires.0.manifest c.place-left.ensures c.evaluate-a.ensures.1 c.value_of.ensures c.in_default.is)
+pub operation-returns-in_err-x : goal.operation-returns-in_err-x
+operation-returns-in_err-x t c = (c.evaluate.ensures.0, λ d o. left_stops _ _ _ _ _ o c.requires.0.manifest c.place-left.ensures c.evaluate.ensures.1 c.in_err-x.was (grind arith))
 
 pub operation-overflow_add-p-2 : goal.operation-overflow_add-p-2
 operation-overflow_add-p-2 t c = omega (arith, c.requires.0.place)
@@ -143,23 +142,23 @@ operation-overflow_add-p-in-Open t c = omega (arith, c.requires.0.place)
 pub operation-end_of-requires : goal.operation-end_of-requires
 operation-end_of-requires t c = omega (arith, c.requires.0.place)
 
-pub operation-evaluate-b-requires : goal.operation-evaluate-b-requires
-operation-evaluate-b-requires t c = (omega arith, (resized c.requires.0 c.place-right.ensures.0, c.evaluate-a.ensures.0.size))
+pub operation-evaluate-requires-in-Open : goal.operation-evaluate-requires-in-Open
+operation-evaluate-requires-in-Open t c = (omega arith, (resized c.requires.0 c.place-right.ensures.0, c.evaluate.ensures.0.size))
 
-pub operation-returns-in_default-value_of : goal.operation-returns-in_default-value_of
-operation-returns-in_default-value_of t c = (grows_on c.evaluate-a.ensures.0 c.evaluate-b.ensures.0, λ d o. right_stops _ _ _ _ _ o c.requires.0.manifest c.place-left.ensures c.evaluate-a.ensures.1 c.value_of.ensures c.in-Value.is c.byte_at-op.ensures c.begin.ensures c.in-Open.is c.end_of.ensures c.place-right.ensures c.evaluate-b.ensures.1 c.value_of-in-Open.ensures c.in_default-value_of.is)
+pub operation-returns-in_err-y-in-Open : goal.operation-returns-in_err-y-in-Open
+operation-returns-in_err-y-in-Open t c = (grows_on c.evaluate.ensures.0 c.evaluate-in-Open.ensures.0, λ d o. right_stops _ _ _ _ _ o c.requires.0.manifest c.place-left.ensures c.evaluate.ensures.1 c.in_ok-x.was c.byte_at-op.ensures c.begin.ensures c.in-Open.is c.end_of.ensures c.place-right.ensures c.evaluate-in-Open.ensures.1 c.in_err-y-in-Open.was (grind arith))
 
 pub operation-combine-requires : goal.operation-combine-requires
 operation-combine-requires t c = (c.requires.0.place, c.place-right.ensures.0)
 
 pub operation-returns-in-WrongKind : goal.operation-returns-in-WrongKind
-operation-returns-in-WrongKind t c = (c.evaluate-a.ensures.0, λ d o. left_unlike _ _ _ _ _ o c.requires.0.manifest c.place-left.ensures c.evaluate-a.ensures.1 c.value_of.ensures c.in-Value.is c.byte_at-op.ensures c.begin.ensures c.in-WrongKind.is c.at.ensures)
+operation-returns-in-WrongKind t c = (c.evaluate.ensures.0, λ d o. left_unlike _ _ _ _ _ o c.requires.0.manifest c.place-left.ensures c.evaluate.ensures.1 c.in_ok-x.was c.byte_at-op.ensures c.begin.ensures c.in-WrongKind.is c.at.ensures)
 
 pub operation-returns-in-Decided : goal.operation-returns-in-Decided
-operation-returns-in-Decided t c = (c.evaluate-a.ensures.0, λ d o. left_decides _ _ _ _ _ o c.requires.0.manifest c.place-left.ensures c.evaluate-a.ensures.1 c.value_of.ensures c.in-Value.is c.byte_at-op.ensures c.begin.ensures c.in-Decided.is)
+operation-returns-in-Decided t c = (c.evaluate.ensures.0, λ d o. left_decides _ _ _ _ _ o c.requires.0.manifest c.place-left.ensures c.evaluate.ensures.1 c.in_ok-x.was c.byte_at-op.ensures c.begin.ensures c.in-Decided.is)
 
-pub operation-returns-in-Value-value_of : goal.operation-returns-in-Value-value_of
-operation-returns-in-Value-value_of t c = (grows_on c.evaluate-a.ensures.0 c.evaluate-b.ensures.0, λ d o. right_goes_on _ _ _ _ _ o c.requires.0.manifest c.place-left.ensures c.evaluate-a.ensures.1 c.value_of.ensures c.in-Value.is c.byte_at-op.ensures c.begin.ensures c.in-Open.is c.end_of.ensures c.place-right.ensures c.evaluate-b.ensures.1 c.value_of-in-Open.ensures c.in-Value-value_of.is c.combine.ensures)
+pub operation-returns-in_ok-y-in-Open : goal.operation-returns-in_ok-y-in-Open
+operation-returns-in_ok-y-in-Open t c = (grows_on c.evaluate.ensures.0 c.evaluate-in-Open.ensures.0, λ d o. right_goes_on _ _ _ _ _ o c.requires.0.manifest c.place-left.ensures c.evaluate.ensures.1 c.in_ok-x.was c.byte_at-op.ensures c.begin.ensures c.in-Open.is c.end_of.ensures c.place-right.ensures c.evaluate-in-Open.ensures.1 c.in_ok-y-in-Open.was c.combine.ensures)
 
 pub selector-at-requires : goal.selector-at-requires
 selector-at-requires t c = c.requires.0.place
@@ -170,17 +169,17 @@ selector-returns-then-below-eq0 t c = (grows_none c.requires.1, λ d o. absurd (
 pub selector-overflow_add-p : goal.selector-overflow_add-p
 selector-overflow_add-p t c = omega (arith, c.requires.0.place)
 
-pub selector-evaluate-a-requires : goal.selector-evaluate-a-requires
-selector-evaluate-a-requires t c = (omega arith, (resized c.requires.0 c.place.ensures.0, c.requires.1))
+pub selector-evaluate-requires : goal.selector-evaluate-requires
+selector-evaluate-requires t c = (omega arith, (resized c.requires.0 c.place.ensures.0, c.requires.1))
 
-pub selector-returns-in_default : goal.selector-returns-in_default
-selector-returns-in_default t c = (c.evaluate-a.ensures.0, λ d o. selector_stops _ _ _ _ _ o c.requires.0.manifest c.place.ensures c.evaluate-a.ensures.1 c.value_of.ensures c.in_default.is)
+pub selector-returns-in_err-x : goal.selector-returns-in_err-x
+selector-returns-in_err-x t c = (c.evaluate.ensures.0, λ d o. selector_stops _ _ _ _ _ o c.requires.0.manifest c.place.ensures c.evaluate.ensures.1 c.in_err-x.was (grind arith))
 
 pub selector-overflow_sub-below : goal.selector-overflow_sub-below
 selector-overflow_sub-below t c = omega (arith, c.if-below-eq0.false)
 
 pub selector-choose-requires : goal.selector-choose-requires
-selector-choose-requires t c = (omega (arith, c.if-below-eq0.false), (c.requires.0, c.evaluate-a.ensures.0.size))
+selector-choose-requires t c = (omega (arith, c.if-below-eq0.false), (c.requires.0, c.evaluate.ensures.0.size))
 
 pub selector-returns : goal.selector-returns
-selector-returns t c = (grows_on c.evaluate-a.ensures.0 c.choose.ensures.0, λ d o. selector_goes_on _ _ _ _ _ o c.requires.0.manifest c.place.ensures c.evaluate-a.ensures.1 c.value_of.ensures c.if-below-eq0.false c.in-Value.is c.choose.ensures.1)
+selector-returns t c = (grows_on c.evaluate.ensures.0 c.choose.ensures.0, λ d o. selector_goes_on _ _ _ _ _ o c.requires.0.manifest c.place.ensures c.evaluate.ensures.1 c.if-below-eq0.false c.in_ok-x.was c.choose.ensures.1)

@@ -1,5 +1,5 @@
 -- The cycle of `evaluate` and what it calls for expressions with parts: the measures and the answers of each member stand in the files below.
-use Prim.Native.Nat.{ℕ, ◌<◌, ◌+◌, ◌*◌}
+use Prim.Native.Nat.{◌+◌, ◌*◌}
 use Rattle.evaluator.proofs.+attribute_read_choose_composed_evaluate_negation_operation_selector.Given as goal
 
 abbrev pub decreases-attribute_read : goal.decreases-attribute_read

@@ -3,8 +3,6 @@ use mathlib.Core.Path.{ap}
 use Rattle.values.specs.contracts.Value.{the_type}
 use denote.Enum.Declared.{tag_of}
 use Rattle.evaluator.proofs.Operators.{integer_not, integer_open, unlike_integer}
-use mathlib.Core.Logic.{⊎_elim}
-use native.Mathlib.Omega.{arith}
 use Rattle.evaluator.proofs.begin_integer.Goals as goal
 
 pub returns-in_default : goal.returns-in_default

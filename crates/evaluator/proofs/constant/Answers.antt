@@ -1,5 +1,6 @@
 -- `constant`: struck out, or its label joined and its value read.
 use Rattle.evaluator.proofs.Constants.{constant_struck, constant_kept}
+use Rattle.evaluator.proofs.Outcomes.{value_is}
 use native.Mathlib.Omega.{arith}
 use Rattle.evaluator.proofs.constant.Goals as goal
 
@@ -16,4 +17,4 @@ pub value_at-requires : goal.value_at-requires
 value_at-requires c = omega (arith, c.requires.0.1)
 
 pub returns : goal.returns
-returns c = constant_kept _ _ _ c.is_struck.ensures _ c.if-is_struck.false c.byte_at.ensures c.one.ensures c.join.ensures c.value_at.ensures c.answer.ensures
+returns c = constant_kept _ _ _ c.is_struck.ensures _ c.if-is_struck.false c.byte_at.ensures c.one.ensures c.join.ensures c.value_at.ensures (value_is _)

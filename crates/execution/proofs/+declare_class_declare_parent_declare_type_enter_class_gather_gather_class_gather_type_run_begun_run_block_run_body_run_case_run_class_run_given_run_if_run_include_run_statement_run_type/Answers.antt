@@ -1,73 +1,72 @@
 -- The cycle of blocks, statements and declarations: the answers of each member.
-use Rattle.resources.specs.declared.Filled.TheVariants.{Refused}
 use mathlib.Core.Path.{ap, ◌≡◌, ◌∙◌, refl, sym}
-use Prim.Native.Nat.{ℕ, suc, ◌-◌, ◌+◌, ◌*◌, ◌<◌}
+use Prim.Native.Nat.{suc, ◌-◌}
 use native.Mathlib.Omega.{arith}
 use Rattle.execution.proofs.Ends.{able_after, able_kept, able_preserved}
 use Rattle.execution.proofs.Classes.{class_too_deep, found_stands, check_refused, parent_refused, class_meanwhile, class_entered, parent_name, class_near, nothing_given, no_parent_lem, parent_declared, parent_no_step, parent_declares, enter_refused, enter_runs, class_body_stands, class_name, class_attributes, class_refused, class_declares, include_declared, include_declares}
-use Rattle.rules.specs.Run.{declaration_place, run_block, declaration}
+use Rattle.rules.specs.Run.{declaration_place}
 use Rattle.execution.proofs.Types.{too_deep, type_refused, type_runs_body, type_body_stands, defined_name_lem, defined_refused, defined_declares, body_refused, body_done}
 use Rattle.execution.proofs.Tables.{not_class, fresh_class, fresh_defined, table_none, table_all, table_below}
 use Rattle.places.proofs.Open.{level, header_within}
 use Rattle.evaluator.proofs.Expressions.{resized}
 use Rattle.execution.proofs.Statements.{sized, is_include, include_runs_here, include_known, testable, case_block, case_refused, case_passed, case_chosen, if_refused, if_goes_on, if_place, if_block, no_step, step_taken}
-use Rattle.places.specs.At.{block_at}
 use Rattle.branches.proofs.Standing.{has_level, sibling_here}
-use Rattle.memory.specs.Contexts.{context_of}
-use Rattle.execution.proofs.Blocks.{ToRun, block_begins, block_ends, block_stops, block_goes_on, block_empty}
-use borrow.Author.Rules.{rules}
+use Rattle.execution.proofs.Blocks.{block_begins, block_ends, block_stops, block_goes_on, block_empty}
 use Rattle.execution.specs.Executed.{after_name, after_title}
 use Rattle.execution.proofs.+declare_class_declare_parent_declare_type_enter_class_gather_gather_class_gather_type_run_begun_run_block_run_body_run_case_run_class_run_given_run_if_run_include_run_statement_run_type.Goals as goal
+use Rattle.std.specs.Prelude.{Err}
 
 pub declare_class-at-requires : goal.declare_class-at-requires
 declare_class-at-requires t c = c.requires.1.0.0
 
 pub declare_class-returns-then-levels-eq0 : goal.declare_class-returns-then-levels-eq0
-declare_class-returns-then-levels-eq0 t c = λ gs gives alikes empty. class_too_deep _ _ _ gs c.if-levels-eq0.true (ap Refused c.at.ensures)
+declare_class-returns-then-levels-eq0 t c = λ gs gives alikes empty. class_too_deep _ _ _ gs c.if-levels-eq0.true (ap Err c.at.ensures)
 
-pub declare_class-check_class-c-requires : goal.declare_class-check_class-c-requires
-declare_class-check_class-c-requires t c = (c.requires.0.set, c.requires.1)
+pub declare_class-check_class-requires : goal.declare_class-check_class-requires
+declare_class-check_class-requires t c = (c.requires.0.set, c.requires.1)
 
-pub declare_class-returns-in-Refused : goal.declare_class-returns-in-Refused
-declare_class-returns-in-Refused t c =
+pub declare_class-returns-in_err-d : goal.declare_class-returns-in_err-d
+declare_class-returns-in_err-d t c =
     let up : c.args.levels ≡ suc (c.args.levels - 1) = omega (arith, c.if-levels-eq0.false) in
-    λ gs gives alikes empty. check_refused _ up c.check_class-c.ensures c.in-Refused.is gs gives alikes empty
+    let handed_on : c.from_residual.result ≡ Err c.in_err-d.field-0.0 = grind arith in
+    λ gs gives alikes empty. rw handed_on (check_refused _ up c.check_class.ensures c.in_err-d.was gs gives alikes empty)
 
 pub declare_class-overflow_sub-levels : goal.declare_class-overflow_sub-levels
 declare_class-overflow_sub-levels t c = omega (arith, c.if-levels-eq0.false)
 
-pub declare_class-declare_parent-r-requires : goal.declare_class-declare_parent-r-requires
-declare_class-declare_parent-r-requires t c =
+pub declare_class-declare_parent-requires : goal.declare_class-declare_parent-requires
+declare_class-declare_parent-requires t c =
     let up : c.args.levels ≡ suc (c.args.levels - 1) = omega (arith, c.if-levels-eq0.false) in
-    (omega (arith, c.if-levels-eq0.false), (c.requires.0, found_stands _ up c.check_class-c.ensures c.in-At.is))
+    (omega (arith, c.if-levels-eq0.false), (c.requires.0, found_stands _ up c.check_class.ensures c.in_ok-d.was))
 
-pub declare_class-shape_of-work-in_default : goal.declare_class-shape_of-work-in_default
-declare_class-shape_of-work-in_default t c = c.declare_parent-r.auto.work
+pub declare_class-shape_of-work-in_err-filled : goal.declare_class-shape_of-work-in_err-filled
+declare_class-shape_of-work-in_err-filled t c = c.declare_parent.auto.work
 
-pub declare_class-shape_of-out-in_default : goal.declare_class-shape_of-out-in_default
-declare_class-shape_of-out-in_default t c = c.declare_parent-r.auto.out
+pub declare_class-shape_of-out-in_err-filled : goal.declare_class-shape_of-out-in_err-filled
+declare_class-shape_of-out-in_err-filled t c = c.declare_parent.auto.out
 
-pub declare_class-returns-in_default : goal.declare_class-returns-in_default
-declare_class-returns-in_default t c =
+pub declare_class-returns-in_err-filled : goal.declare_class-returns-in_err-filled
+declare_class-returns-in_err-filled t c =
     let up : c.args.levels ≡ suc (c.args.levels - 1) = omega (arith, c.if-levels-eq0.false) in
-    λ gs gives alikes empty. parent_refused _ up c.check_class-c.ensures c.in-At.is gs gives alikes empty c.declare_parent-r.ensures c.in_default.is
+    let handed_on : c.from_residual-in_err-filled.result ≡ c.declare_parent.result = grind arith in
+    λ gs gives alikes empty. rw handed_on (parent_refused _ up c.check_class.ensures c.in_ok-d.was gs gives alikes empty c.declare_parent.ensures c.in_err-filled.was)
 
 pub declare_class-is_declared-requires : goal.declare_class-is_declared-requires
-declare_class-is_declared-requires t c = ((able_after c.in-Done.is c.declare_parent-r.ensures.able).set.memory, c.requires.1.1)
+declare_class-is_declared-requires t c = ((able_after c.in_ok-filled.was c.declare_parent.ensures.able).set.memory, c.requires.1.1)
 
 pub declare_class-declared_meanwhile-requires : goal.declare_class-declared_meanwhile-requires
 declare_class-declared_meanwhile-requires t c = c.requires.1.0.0
 
 pub declare_class-shape_of-work-then-is_declared : goal.declare_class-shape_of-work-then-is_declared
-declare_class-shape_of-work-then-is_declared t c = c.declare_parent-r.auto.work
+declare_class-shape_of-work-then-is_declared t c = c.declare_parent.auto.work
 
 pub declare_class-shape_of-out-then-is_declared : goal.declare_class-shape_of-out-then-is_declared
-declare_class-shape_of-out-then-is_declared t c = c.declare_parent-r.auto.out
+declare_class-shape_of-out-then-is_declared t c = c.declare_parent.auto.out
 
 pub declare_class-returns-then-is_declared : goal.declare_class-returns-then-is_declared
 declare_class-returns-then-is_declared t c =
     let up : c.args.levels ≡ suc (c.args.levels - 1) = omega (arith, c.if-levels-eq0.false) in
-    λ gs gives alikes empty. class_meanwhile _ up c.check_class-c.ensures c.in-At.is gs gives alikes empty c.declare_parent-r.ensures c.in-Done.is c.is_declared.ensures c.if-is_declared.true c.declared_meanwhile.ensures
+    λ gs gives alikes empty. class_meanwhile _ up c.check_class.ensures c.in_ok-d.was gs gives alikes empty c.declare_parent.ensures c.in_ok-filled.was c.is_declared.ensures c.if-is_declared.true c.declared_meanwhile.ensures
 
 pub declare_class-overflow_sub-levels-2 : goal.declare_class-overflow_sub-levels-2
 declare_class-overflow_sub-levels-2 t c = omega (arith, c.if-levels-eq0.false)
@@ -75,18 +74,18 @@ declare_class-overflow_sub-levels-2 t c = omega (arith, c.if-levels-eq0.false)
 pub declare_class-enter_class-requires : goal.declare_class-enter_class-requires
 declare_class-enter_class-requires t c =
     let up : c.args.levels ≡ suc (c.args.levels - 1) = omega (arith, c.if-levels-eq0.false) in
-    (omega (arith, c.if-levels-eq0.false, c.declare_parent-r.ensures.steps), (able_after c.in-Done.is c.declare_parent-r.ensures.able, found_stands _ up c.check_class-c.ensures c.in-At.is))
+    (omega (arith, c.if-levels-eq0.false, c.declare_parent.ensures.steps), (able_after c.in_ok-filled.was c.declare_parent.ensures.able, found_stands _ up c.check_class.ensures c.in_ok-d.was))
 
 pub declare_class-shape_of-work : goal.declare_class-shape_of-work
-declare_class-shape_of-work t c = c.enter_class.auto.work ∙ c.declare_parent-r.auto.work
+declare_class-shape_of-work t c = c.enter_class.auto.work ∙ c.declare_parent.auto.work
 
 pub declare_class-shape_of-out : goal.declare_class-shape_of-out
-declare_class-shape_of-out t c = c.enter_class.auto.out ∙ c.declare_parent-r.auto.out
+declare_class-shape_of-out t c = c.enter_class.auto.out ∙ c.declare_parent.auto.out
 
 pub declare_class-returns : goal.declare_class-returns
 declare_class-returns t c =
     let up : c.args.levels ≡ suc (c.args.levels - 1) = omega (arith, c.if-levels-eq0.false) in
-    λ gs gives alikes empty. class_entered _ up c.check_class-c.ensures c.in-At.is gs gives alikes empty c.declare_parent-r.ensures c.in-Done.is c.is_declared.ensures c.if-is_declared.false c.enter_class.ensures
+    λ gs gives alikes empty. class_entered _ up c.check_class.ensures c.in_ok-d.was gs gives alikes empty c.declare_parent.ensures c.in_ok-filled.was c.is_declared.ensures c.if-is_declared.false c.enter_class.ensures
 
 pub declare_parent-overflow_add-q : goal.declare_parent-overflow_add-q
 declare_parent-overflow_add-q t c = omega (arith, class_near c.requires.0.set c.requires.1)
@@ -107,7 +106,7 @@ pub declare_parent-at-requires : goal.declare_parent-at-requires
 declare_parent-at-requires t c = omega (arith, class_near c.requires.0.set c.requires.1)
 
 pub declare_parent-returns-then-remaining-eq0 : goal.declare_parent-returns-then-remaining-eq0
-declare_parent-returns-then-remaining-eq0 t c = parent_no_step _ _ _ _ c.byte_at.ensures c.if-byte_at-ne53.false c.two_at-name.ensures c.is_declared.ensures c.if-is_declared.false c.if-remaining-eq0.true (ap Refused c.at.ensures)
+declare_parent-returns-then-remaining-eq0 t c = parent_no_step _ _ _ _ c.byte_at.ensures c.if-byte_at-ne53.false c.two_at-name.ensures c.is_declared.ensures c.if-is_declared.false c.if-remaining-eq0.true (ap Err c.at.ensures)
 
 pub declare_parent-overflow_sub-left : goal.declare_parent-overflow_sub-left
 declare_parent-overflow_sub-left t c = omega (arith, c.if-remaining-eq0.false)
@@ -129,7 +128,7 @@ declare_type-at-requires t c = c.requires.1.0.0
 
 pub declare_type-returns-then-levels-lt1 : goal.declare_type-returns-then-levels-lt1
 unfolding declaration_place
-declare_type-returns-then-levels-lt1 t c = λ gs gives alikes. too_deep _ (omega (arith, c.if-levels-lt1.true)) (ap Refused c.at.ensures)
+declare_type-returns-then-levels-lt1 t c = λ gs gives alikes. too_deep _ (omega (arith, c.if-levels-lt1.true)) (ap Err c.at.ensures)
 
 pub declare_type-overflow_add-p : goal.declare_type-overflow_add-p
 declare_type-overflow_add-p t c = omega (arith, c.requires.1.0.0)
@@ -140,51 +139,54 @@ declare_type-end_of-requires t c = omega (arith, c.requires.1.0.0)
 pub declare_type-end_of-requires-2 : goal.declare_type-end_of-requires-2
 declare_type-end_of-requires-2 t c = omega (arith, c.requires.1.0.0)
 
-pub declare_type-start_type-s-requires : goal.declare_type-start_type-s-requires
-declare_type-start_type-s-requires t c = (c.requires.0.set, ((c.requires.1.0.0, omega (arith, c.end_of-2.ensures, c.requires.1.0.1)), c.requires.1.1))
+pub declare_type-start_type-requires : goal.declare_type-start_type-requires
+declare_type-start_type-requires t c = (c.requires.0.set, ((c.requires.1.0.0, omega (arith, c.end_of-2.ensures, c.requires.1.0.1)), c.requires.1.1))
 
 pub declare_type-run_body-requires : goal.declare_type-run_body-requires
-declare_type-run_body-requires t c = (omega (arith, c.if-levels-lt1.false), (able_kept c.start_type-s.ensures.keeps c.start_type-s.auto.work c.requires.0, type_body_stands c.start_type-s.ensures c.in-Body.is))
+declare_type-run_body-requires t c = (omega (arith, c.if-levels-lt1.false), (able_kept c.start_type.ensures.keeps c.start_type.auto.work c.requires.0, type_body_stands c.start_type.ensures c.in_ok-block.was))
 
-pub declare_type-shape_of-work-in-Refused : goal.declare_type-shape_of-work-in-Refused
-declare_type-shape_of-work-in-Refused t c = c.start_type-s.auto.work
+pub declare_type-shape_of-work-in_err-block : goal.declare_type-shape_of-work-in_err-block
+declare_type-shape_of-work-in_err-block t c = c.start_type.auto.work
 
-pub declare_type-returns-in-Refused : goal.declare_type-returns-in-Refused
-declare_type-returns-in-Refused t c =
+pub declare_type-returns-in_err-block : goal.declare_type-returns-in_err-block
+declare_type-returns-in_err-block t c =
     let up : c.args.levels ≡ suc (c.args.levels - 1) = omega (arith, c.if-levels-lt1.false) in
-    type_refused _ _ c.end_of.ensures c.end_of-2.ensures c.body_context-inside.ensures c.start_type-s.ensures up c.in-Refused.is
+    let handed_on : c.from_residual.result ≡ Err c.in_err-block.field-0.0 = grind arith in
+    rw handed_on (type_refused _ _ c.end_of.ensures c.end_of-2.ensures c.body_context-inside.ensures c.start_type.ensures up c.in_err-block.was)
 
-pub declare_type-shape_of-work-in-Body : goal.declare_type-shape_of-work-in-Body
-declare_type-shape_of-work-in-Body t c = c.run_body.auto.work ∙ c.start_type-s.auto.work
+pub declare_type-shape_of-work : goal.declare_type-shape_of-work
+declare_type-shape_of-work t c = c.run_body.auto.work ∙ c.start_type.auto.work
 
 pub declare_type-shape_of-out : goal.declare_type-shape_of-out
 declare_type-shape_of-out t c = c.run_body.auto.out
 
-pub declare_type-returns-in-Body : goal.declare_type-returns-in-Body
-declare_type-returns-in-Body t c =
+pub declare_type-returns : goal.declare_type-returns
+declare_type-returns t c =
     let up : c.args.levels ≡ suc (c.args.levels - 1) = omega (arith, c.if-levels-lt1.false) in
-    type_runs_body _ _ c.end_of.ensures c.end_of-2.ensures c.body_context-inside.ensures c.start_type-s.ensures up c.in-Body.is c.run_body.ensures
+    type_runs_body _ _ c.end_of.ensures c.end_of-2.ensures c.body_context-inside.ensures c.start_type.ensures up c.in_ok-block.was c.run_body.ensures
 
-pub enter_class-start_class-s-requires : goal.enter_class-start_class-s-requires
-enter_class-start_class-s-requires t c = (c.requires.0.set, c.requires.1)
+pub enter_class-start_class-requires : goal.enter_class-start_class-requires
+enter_class-start_class-requires t c = (c.requires.0.set, c.requires.1)
 
 pub enter_class-run_block-requires : goal.enter_class-run_block-requires
-enter_class-run_block-requires t c = (omega arith, (able_kept c.start_class-s.ensures.keeps c.start_class-s.auto.work c.requires.0, class_body_stands c.start_class-s.ensures c.in-Body.is))
+enter_class-run_block-requires t c = (omega arith, (able_kept c.start_class.ensures.keeps c.start_class.auto.work c.requires.0, class_body_stands c.start_class.ensures c.in_ok-body.was))
 
-pub enter_class-shape_of-work-in-Refused : goal.enter_class-shape_of-work-in-Refused
-enter_class-shape_of-work-in-Refused t c = c.start_class-s.auto.work
+pub enter_class-shape_of-work-in_err-body : goal.enter_class-shape_of-work-in_err-body
+enter_class-shape_of-work-in_err-body t c = c.start_class.auto.work
 
-pub enter_class-returns-in-Refused : goal.enter_class-returns-in-Refused
-enter_class-returns-in-Refused t c = enter_refused c.start_class-s.ensures _ c.in-Refused.is
+pub enter_class-returns-in_err-body : goal.enter_class-returns-in_err-body
+enter_class-returns-in_err-body t c =
+    let handed_on : c.from_residual.result ≡ Err c.in_err-body.field-0.0 = grind arith in
+    rw handed_on (enter_refused c.start_class.ensures _ c.in_err-body.was)
 
-pub enter_class-shape_of-work-in-Body : goal.enter_class-shape_of-work-in-Body
-enter_class-shape_of-work-in-Body t c = c.run_block.auto.work ∙ c.start_class-s.auto.work
+pub enter_class-shape_of-work : goal.enter_class-shape_of-work
+enter_class-shape_of-work t c = c.run_block.auto.work ∙ c.start_class.auto.work
 
 pub enter_class-shape_of-out : goal.enter_class-shape_of-out
 enter_class-shape_of-out t c = c.run_block.auto.out
 
-pub enter_class-returns-in-Body : goal.enter_class-returns-in-Body
-enter_class-returns-in-Body t c = enter_runs c.start_class-s.ensures _ _ c.in-Body.is c.run_block.ensures
+pub enter_class-returns : goal.enter_class-returns
+enter_class-returns t c = enter_runs c.start_class.ensures _ _ c.in_ok-body.was c.run_block.ensures
 
 pub gather-gather_class-requires : goal.gather-gather_class-requires
 gather-gather_class-requires t c = (omega arith, (c.requires.0, (sym c.byte_at.ensures ∙ c.if-byte_at-eq40.true, c.requires.1)))
@@ -225,8 +227,8 @@ gather_class-end_of-end-requires t c = omega (arith, header_within c.requires.0.
 pub gather_class-overflow_sub-depth : goal.gather_class-overflow_sub-depth
 gather_class-overflow_sub-depth t c = omega (arith, level c.requires.0.1.0.stands)
 
-pub gather_class-evaluate_attributes-g-requires : goal.gather_class-evaluate_attributes-g-requires
-gather_class-evaluate_attributes-g-requires t c =
+pub gather_class-evaluate_attributes-requires : goal.gather_class-evaluate_attributes-requires
+gather_class-evaluate_attributes-requires t c =
     let pre = c.requires in
     ((resized (sized pre.0.0 pre.0.1.0) (omega (arith, c.end_of-end.ensures, pre.0.1.0.stands.ends, pre.0.0.set.manifest)), class_attributes pre.0.1.0 pre.1.0 c.end_of-end.ensures), fresh_class pre.1.0 c.end_of-end.ensures pre.1.1)
 
@@ -238,26 +240,28 @@ gather_class-declare_class-requires t c =
     let pre = c.requires in
     (omega arith, (pre.0.0, ((omega (arith, header_within pre.0.1.0.stands, pre.0.0.set.manifest), omega (arith, c.end_of-end.ensures, pre.0.1.0.stands.ends, pre.0.0.set.manifest)), omega (arith, c.two_at.ensures, class_name pre.0.0.set pre.0.1.0 pre.1.0 pre.0.1.1))))
 
-pub gather_class-shape_of-table-in-Refused : goal.gather_class-shape_of-table-in-Refused
-gather_class-shape_of-table-in-Refused t c = c.evaluate_attributes-g.auto.table
+pub gather_class-shape_of-table-in_err-evaluate_attributes : goal.gather_class-shape_of-table-in_err-evaluate_attributes
+gather_class-shape_of-table-in_err-evaluate_attributes t c = c.evaluate_attributes.auto.table
 
-pub gather_class-returns-in-Refused : goal.gather_class-returns-in-Refused
-gather_class-returns-in-Refused t c = class_refused c.requires.0.1.0 c.requires.1.0 _ c.end_of-end.ensures c.evaluate_attributes-g.ensures c.in-Refused.is
+pub gather_class-returns-in_err-evaluate_attributes : goal.gather_class-returns-in_err-evaluate_attributes
+gather_class-returns-in_err-evaluate_attributes t c =
+    let handed_on : c.from_residual.result ≡ Err c.in_err-evaluate_attributes.field-0.0 = grind arith in
+    rw handed_on (class_refused c.requires.0.1.0 c.requires.1.0 _ c.end_of-end.ensures c.evaluate_attributes.ensures c.in_err-evaluate_attributes.was)
 
-pub gather_class-shape_of-work-in-Done : goal.gather_class-shape_of-work-in-Done
-gather_class-shape_of-work-in-Done t c = c.declare_class.auto.work
+pub gather_class-shape_of-work : goal.gather_class-shape_of-work
+gather_class-shape_of-work t c = c.declare_class.auto.work
 
-pub gather_class-shape_of-out-in-Done : goal.gather_class-shape_of-out-in-Done
-gather_class-shape_of-out-in-Done t c = c.declare_class.auto.out
+pub gather_class-shape_of-out : goal.gather_class-shape_of-out
+gather_class-shape_of-out t c = c.declare_class.auto.out
 
-pub gather_class-shape_of-table-in-Done : goal.gather_class-shape_of-table-in-Done
-gather_class-shape_of-table-in-Done t c = c.evaluate_attributes-g.auto.table
+pub gather_class-shape_of-table : goal.gather_class-shape_of-table
+gather_class-shape_of-table t c = c.evaluate_attributes.auto.table
 
-pub gather_class-returns-in-Done : goal.gather_class-returns-in-Done
-gather_class-returns-in-Done t c = class_declares c.requires.0.1.0 c.requires.1.0 _ c.end_of-end.ensures c.evaluate_attributes-g.ensures c.in-Done.is c.two_at.ensures c.declare_class.ensures
+pub gather_class-returns : goal.gather_class-returns
+gather_class-returns t c = class_declares c.requires.0.1.0 c.requires.1.0 _ c.end_of-end.ensures c.evaluate_attributes.ensures c.in_ok-evaluate_attributes.was c.two_at.ensures c.declare_class.ensures
 
-pub gather_type-evaluate_titled-t-requires : goal.gather_type-evaluate_titled-t-requires
-gather_type-evaluate_titled-t-requires t c =
+pub gather_type-evaluate_titled-requires : goal.gather_type-evaluate_titled-requires
+gather_type-evaluate_titled-requires t c =
     let pre = c.requires in
     (((sized pre.0.0 pre.0.1.0, pre.0.1.0), pre.1.0), fresh_defined pre.1.0 pre.1.1)
 
@@ -266,23 +270,25 @@ gather_type-declare_type-requires t c =
     let pre = c.requires in
     (omega arith, (pre.0.0, ((omega (arith, header_within pre.0.1.0.stands, pre.0.0.set.manifest), omega (arith, pre.0.1.0.stands.ends, pre.0.0.set.manifest)), defined_name_lem pre.0.0.set pre.0.1.0 pre.1.0 pre.0.1.1)))
 
-pub gather_type-shape_of-table-in-Refused : goal.gather_type-shape_of-table-in-Refused
-gather_type-shape_of-table-in-Refused t c = c.evaluate_titled-t.auto.table
+pub gather_type-shape_of-table-in_err-x : goal.gather_type-shape_of-table-in_err-x
+gather_type-shape_of-table-in_err-x t c = c.evaluate_titled.auto.table
 
-pub gather_type-returns-in-Refused : goal.gather_type-returns-in-Refused
-gather_type-returns-in-Refused t c = defined_refused c.requires.0.1.0 c.requires.1.0 _ c.evaluate_titled-t.ensures c.in-Refused.is
+pub gather_type-returns-in_err-x : goal.gather_type-returns-in_err-x
+gather_type-returns-in_err-x t c =
+    let handed_on : c.from_residual.result ≡ Err c.in_err-x.field-0.0 = grind arith in
+    rw handed_on (defined_refused c.requires.0.1.0 c.requires.1.0 _ c.evaluate_titled.ensures c.in_err-x.was)
 
-pub gather_type-shape_of-work-in-Value : goal.gather_type-shape_of-work-in-Value
-gather_type-shape_of-work-in-Value t c = c.declare_type.auto.work
+pub gather_type-shape_of-work : goal.gather_type-shape_of-work
+gather_type-shape_of-work t c = c.declare_type.auto.work
 
-pub gather_type-shape_of-out-in-Value : goal.gather_type-shape_of-out-in-Value
-gather_type-shape_of-out-in-Value t c = c.declare_type.auto.out
+pub gather_type-shape_of-out : goal.gather_type-shape_of-out
+gather_type-shape_of-out t c = c.declare_type.auto.out
 
-pub gather_type-shape_of-table-in-Value : goal.gather_type-shape_of-table-in-Value
-gather_type-shape_of-table-in-Value t c = c.evaluate_titled-t.auto.table
+pub gather_type-shape_of-table : goal.gather_type-shape_of-table
+gather_type-shape_of-table t c = c.evaluate_titled.auto.table
 
-pub gather_type-returns-in-Value : goal.gather_type-returns-in-Value
-gather_type-returns-in-Value t c = defined_declares c.requires.0.1.0 c.requires.1.0 _ c.evaluate_titled-t.ensures c.in-Value.is c.declare_type.ensures
+pub gather_type-returns : goal.gather_type-returns
+gather_type-returns t c = defined_declares c.requires.0.1.0 c.requires.1.0 _ c.evaluate_titled.ensures c.in_ok-x.was c.declare_type.ensures
 
 pub run_begun-run_assignment-requires : goal.run_begun-run_assignment-requires
 run_begun-run_assignment-requires t c = (c.requires, sym c.byte_at.ensures ∙ c.in-33.is)
@@ -381,17 +387,19 @@ run_block-loop-q-init t c = block_begins _ _ c.requires.0 c.requires.1.0 c.requi
 pub run_block-overflow_sub-depth : goal.run_block-overflow_sub-depth
 run_block-overflow_sub-depth t c = omega (arith, has_level c.requires.1.0)
 
-pub run_block-run_statement-r-requires : goal.run_block-run_statement-r-requires
-run_block-run_statement-r-requires t c = (omega (arith, has_level c.requires.1.0, c.loop-q.invariant.steps), (c.loop-q.invariant.able, (sibling_here c.loop-q.invariant.siblings c.loop-q-test.true, c.loop-q.invariant.names)))
+pub run_block-run_statement-requires : goal.run_block-run_statement-requires
+run_block-run_statement-requires t c = (omega (arith, has_level c.requires.1.0, c.loop-q.invariant.steps), (c.loop-q.invariant.able, (sibling_here c.loop-q.invariant.siblings c.loop-q-test.true, c.loop-q.invariant.names)))
 
-pub run_block-shape_of-work-in_default : goal.run_block-shape_of-work-in_default
-run_block-shape_of-work-in_default t c = c.run_statement-r.auto.work ∙ c.loop-q.invariant.size
+pub run_block-shape_of-work-in_err-filled : goal.run_block-shape_of-work-in_err-filled
+run_block-shape_of-work-in_err-filled t c = c.run_statement.auto.work ∙ c.loop-q.invariant.size
 
-pub run_block-shape_of-out-in_default : goal.run_block-shape_of-out-in_default
-run_block-shape_of-out-in_default t c = c.run_statement-r.auto.out ∙ c.loop-q.invariant.long
+pub run_block-shape_of-out-in_err-filled : goal.run_block-shape_of-out-in_err-filled
+run_block-shape_of-out-in_err-filled t c = c.run_statement.auto.out ∙ c.loop-q.invariant.long
 
-pub run_block-returns-in_default : goal.run_block-returns-in_default
-run_block-returns-in_default t c = block_stops c.loop-q.invariant c.loop-q-test.true c.run_statement-r.ensures c.in_default.is
+pub run_block-returns-in_err-filled : goal.run_block-returns-in_err-filled
+run_block-returns-in_err-filled t c =
+    let handed_on : c.from_residual.result ≡ c.run_statement.result = grind arith in
+    rw handed_on (block_stops c.loop-q.invariant c.loop-q-test.true c.run_statement.ensures c.in_err-filled.was)
 
 pub run_block-end_of-q-requires : goal.run_block-end_of-q-requires
 run_block-end_of-q-requires t c = omega (arith, (sized c.loop-q.invariant.able (sibling_here c.loop-q.invariant.siblings c.loop-q-test.true)).place)
@@ -400,7 +408,7 @@ pub run_block-loop-q-smaller : goal.run_block-loop-q-smaller
 run_block-loop-q-smaller t c = omega (arith, c.loop-q-test.true, c.end_of-q.ensures)
 
 pub run_block-loop-q-preserved : goal.run_block-loop-q-preserved
-run_block-loop-q-preserved t c = block_goes_on c.loop-q.invariant c.loop-q-test.true c.run_statement-r.ensures c.in-Done.is c.run_statement-r.auto.work c.run_statement-r.auto.out c.end_of-q.ensures
+run_block-loop-q-preserved t c = block_goes_on c.loop-q.invariant c.loop-q-test.true c.run_statement.ensures c.in_ok-filled.was c.run_statement.auto.work c.run_statement.auto.out c.end_of-q.ensures
 
 pub run_block-shape_of-work : goal.run_block-shape_of-work
 run_block-shape_of-work t c = c.loop-q.invariant.size
@@ -411,72 +419,76 @@ run_block-shape_of-out t c = c.loop-q.invariant.long
 pub run_block-returns : goal.run_block-returns
 run_block-returns t c = block_ends c.loop-q.invariant c.loop-q-test.false
 
-pub run_body-run_block-r-requires : goal.run_body-run_block-r-requires
-run_body-run_block-r-requires t c = (omega arith, c.requires)
+pub run_body-run_block-requires : goal.run_body-run_block-requires
+run_body-run_block-requires t c = (omega arith, c.requires)
 
 pub run_body-free_scope-requires : goal.run_body-free_scope-requires
-run_body-free_scope-requires t c = let able = able_after c.in-Done.is c.run_block-r.ensures.able in (able.set.memory, able.fine)
+run_body-free_scope-requires t c = let able = able_after c.in_ok-filled.was c.run_block.ensures.able in (able.set.memory, able.fine)
 
-pub run_body-shape_of-work-in-Refused : goal.run_body-shape_of-work-in-Refused
-run_body-shape_of-work-in-Refused t c = c.run_block-r.auto.work
+pub run_body-shape_of-work-in_err-filled : goal.run_body-shape_of-work-in_err-filled
+run_body-shape_of-work-in_err-filled t c = c.run_block.auto.work
 
-pub run_body-shape_of-out-in-Refused : goal.run_body-shape_of-out-in-Refused
-run_body-shape_of-out-in-Refused t c = c.run_block-r.auto.out
+pub run_body-shape_of-out-in_err-filled : goal.run_body-shape_of-out-in_err-filled
+run_body-shape_of-out-in_err-filled t c = c.run_block.auto.out
 
-pub run_body-returns-in-Refused : goal.run_body-returns-in-Refused
-run_body-returns-in-Refused t c = body_refused _ _ c.run_block-r.ensures c.in-Refused.is
+pub run_body-returns-in_err-filled : goal.run_body-returns-in_err-filled
+run_body-returns-in_err-filled t c =
+    let handed_on : c.from_residual.result ≡ Err c.in_err-filled.field-0.0 = grind arith in
+    rw handed_on (body_refused _ _ c.run_block.ensures c.in_err-filled.was)
 
-pub run_body-shape_of-work-in-Done : goal.run_body-shape_of-work-in-Done
-run_body-shape_of-work-in-Done t c = c.free_scope.auto.work ∙ c.run_block-r.auto.work
+pub run_body-shape_of-work : goal.run_body-shape_of-work
+run_body-shape_of-work t c = c.free_scope.auto.work ∙ c.run_block.auto.work
 
-pub run_body-shape_of-out-in-Done : goal.run_body-shape_of-out-in-Done
-run_body-shape_of-out-in-Done t c = c.run_block-r.auto.out
+pub run_body-shape_of-out : goal.run_body-shape_of-out
+run_body-shape_of-out t c = c.run_block.auto.out
 
-pub run_body-returns-in-Done : goal.run_body-returns-in-Done
-run_body-returns-in-Done t c = body_done _ _ c.run_block-r.ensures c.in-Done.is c.free_scope.ensures c.free_scope.auto.work
+pub run_body-returns : goal.run_body-returns
+run_body-returns t c = body_done _ _ c.run_block.ensures c.in_ok-filled.was c.free_scope.ensures c.free_scope.auto.work
 
-pub run_case-test_case-t-requires : goal.run_case-test_case-t-requires
-run_case-test_case-t-requires t c = ((sized c.requires.0.0 c.requires.0.1.0, testable c.requires.0.0 c.requires.0.1.0 c.requires.0.1.1), c.requires.1)
+pub run_case-test_case-requires : goal.run_case-test_case-requires
+run_case-test_case-requires t c = ((sized c.requires.0.0 c.requires.0.1.0, testable c.requires.0.0 c.requires.0.1.0 c.requires.0.1.1), c.requires.1)
 
 pub run_case-is_empty_block-requires : goal.run_case-is_empty_block-requires
-run_case-is_empty_block-requires t c = omega (arith, (sized (able_preserved c.test_case-t.ensures.0.keeps c.test_case-t.auto.work c.requires.0.0) (case_block c.requires.0.1.0 c.requires.0.1.1 c.requires.1 c.in-Branch.is c.test_case-t.ensures.1).1.0).place)
+run_case-is_empty_block-requires t c = omega (arith, (sized (able_preserved c.test_case.ensures.0.keeps c.test_case.auto.work c.requires.0.0) (case_block _ c.requires.0.1.0 c.requires.0.1.1 c.requires.1 c.in_ok-branch.was c.in-Some.is c.test_case.ensures.1).1.0).place)
 
 pub run_case-shape_of-work-then-is_empty_block : goal.run_case-shape_of-work-then-is_empty_block
-run_case-shape_of-work-then-is_empty_block t c = c.test_case-t.auto.work
+run_case-shape_of-work-then-is_empty_block t c = c.test_case.auto.work
 
 pub run_case-returns-then-is_empty_block : goal.run_case-returns-then-is_empty_block
 run_case-returns-then-is_empty_block t c =
-    let i = case_block c.requires.0.1.0 c.requires.0.1.1 c.requires.1 c.in-Branch.is c.test_case-t.ensures.1 in
-    case_chosen _ c.requires.0.1.0 c.requires.1 _ c.test_case-t.ensures.0 c.in-Branch.is refl refl (block_empty _ _ (able_preserved c.test_case-t.ensures.0.keeps c.test_case-t.auto.work c.requires.0.0) i.1.0 i.1.1 c.is_empty_block.ensures c.if-is_empty_block.true)
+    let i = case_block _ c.requires.0.1.0 c.requires.0.1.1 c.requires.1 c.in_ok-branch.was c.in-Some.is c.test_case.ensures.1 in
+    case_chosen _ c.requires.0.1.0 c.requires.1 _ c.test_case.ensures.0 _ c.in_ok-branch.was c.in-Some.is refl refl (block_empty _ _ (able_preserved c.test_case.ensures.0.keeps c.test_case.auto.work c.requires.0.0) i.1.0 i.1.1 c.is_empty_block.ensures c.if-is_empty_block.true)
 
 pub run_case-overflow_sub-depth : goal.run_case-overflow_sub-depth
-run_case-overflow_sub-depth t c = (case_block c.requires.0.1.0 c.requires.0.1.1 c.requires.1 c.in-Branch.is c.test_case-t.ensures.1).0
+run_case-overflow_sub-depth t c = (case_block _ c.requires.0.1.0 c.requires.0.1.1 c.requires.1 c.in_ok-branch.was c.in-Some.is c.test_case.ensures.1).0
 
 pub run_case-run_block-requires : goal.run_case-run_block-requires
 run_case-run_block-requires t c =
-    let i = case_block c.requires.0.1.0 c.requires.0.1.1 c.requires.1 c.in-Branch.is c.test_case-t.ensures.1 in
-    (omega (arith, i.0), (able_preserved c.test_case-t.ensures.0.keeps c.test_case-t.auto.work c.requires.0.0, i.1))
+    let i = case_block _ c.requires.0.1.0 c.requires.0.1.1 c.requires.1 c.in_ok-branch.was c.in-Some.is c.test_case.ensures.1 in
+    (omega (arith, i.0), (able_preserved c.test_case.ensures.0.keeps c.test_case.auto.work c.requires.0.0, i.1))
 
-pub run_case-shape_of-work-in-Refused : goal.run_case-shape_of-work-in-Refused
-run_case-shape_of-work-in-Refused t c = c.test_case-t.auto.work
+pub run_case-shape_of-work-in_err-branch : goal.run_case-shape_of-work-in_err-branch
+run_case-shape_of-work-in_err-branch t c = c.test_case.auto.work
 
-pub run_case-returns-in-Refused : goal.run_case-returns-in-Refused
-run_case-returns-in-Refused t c = case_refused _ c.requires.0.1.0 c.requires.1 _ c.test_case-t.ensures.0 _ _ c.in-Refused.is
+pub run_case-returns-in_err-branch : goal.run_case-returns-in_err-branch
+run_case-returns-in_err-branch t c =
+    let handed_on : c.from_residual.result ≡ Err c.in_err-branch.field-0.0 = grind arith in
+    rw handed_on (case_refused _ c.requires.0.1.0 c.requires.1 _ c.test_case.ensures.0 _ _ c.in_err-branch.was)
 
-pub run_case-shape_of-work-in-Nothing : goal.run_case-shape_of-work-in-Nothing
-run_case-shape_of-work-in-Nothing t c = c.test_case-t.auto.work
+pub run_case-shape_of-work-in_default : goal.run_case-shape_of-work-in_default
+run_case-shape_of-work-in_default t c = c.test_case.auto.work
 
-pub run_case-returns-in-Nothing : goal.run_case-returns-in-Nothing
-run_case-returns-in-Nothing t c = case_passed _ c.requires.0.1.0 c.requires.1 _ c.test_case-t.ensures.0 _ _ c.requires.0.0 c.test_case-t.auto.work c.in-Nothing.is
+pub run_case-returns-in_default : goal.run_case-returns-in_default
+run_case-returns-in_default t c = case_passed _ c.requires.0.1.0 c.requires.1 _ c.test_case.ensures.0 _ _ c.requires.0.0 c.test_case.auto.work c.in_ok-branch.was c.in_default.is
 
-pub run_case-shape_of-work-else-is_empty_block : goal.run_case-shape_of-work-else-is_empty_block
-run_case-shape_of-work-else-is_empty_block t c = c.run_block.auto.work ∙ c.test_case-t.auto.work
+pub run_case-shape_of-work : goal.run_case-shape_of-work
+run_case-shape_of-work t c = c.run_block.auto.work ∙ c.test_case.auto.work
 
-pub run_case-shape_of-out-else-is_empty_block : goal.run_case-shape_of-out-else-is_empty_block
-run_case-shape_of-out-else-is_empty_block t c = c.run_block.auto.out
+pub run_case-shape_of-out : goal.run_case-shape_of-out
+run_case-shape_of-out t c = c.run_block.auto.out
 
-pub run_case-returns-else-is_empty_block : goal.run_case-returns-else-is_empty_block
-run_case-returns-else-is_empty_block t c = case_chosen _ c.requires.0.1.0 c.requires.1 _ c.test_case-t.ensures.0 c.in-Branch.is refl c.branch_context-inside.ensures c.run_block.ensures
+pub run_case-returns : goal.run_case-returns
+run_case-returns t c = case_chosen _ c.requires.0.1.0 c.requires.1 _ c.test_case.ensures.0 _ c.in_ok-branch.was c.in-Some.is refl c.branch_context-inside.ensures c.run_block.ensures
 
 pub run_class-overflow_add-first : goal.run_class-overflow_add-first
 run_class-overflow_add-first t c = omega (arith, header_within c.requires.0.1.0.stands, c.requires.0.0.set.manifest)
@@ -538,43 +550,45 @@ run_given-shape_of-out t c = c.gather-2.auto.out
 pub run_given-returns : goal.run_given-returns
 run_given-returns t c = c.gather-2.ensures
 
-pub run_if-test_if-t-requires : goal.run_if-test_if-t-requires
-run_if-test_if-t-requires t c = ((sized c.requires.0.0 c.requires.0.1.0, testable c.requires.0.0 c.requires.0.1.0 c.requires.0.1.1), c.requires.1)
+pub run_if-test_if-requires : goal.run_if-test_if-requires
+run_if-test_if-requires t c = ((sized c.requires.0.0 c.requires.0.1.0, testable c.requires.0.0 c.requires.0.1.0 c.requires.0.1.1), c.requires.1)
 
 pub run_if-chosen_block-block-requires : goal.run_if-chosen_block-block-requires
 run_if-chosen_block-block-requires t c = if_place c.requires.0.0 c.requires.0.1.0 c.requires.1
 
 pub run_if-is_empty_block-requires : goal.run_if-is_empty_block-requires
-run_if-is_empty_block-requires t c = omega (arith, (sized (able_preserved c.test_if-t.ensures.keeps c.test_if-t.auto.work c.requires.0.0) (if_block c.in-Branch.yes c.requires.0.1.0 c.requires.0.1.1 c.requires.1 c.chosen_block-block.ensures).0).place)
+run_if-is_empty_block-requires t c = omega (arith, (sized (able_preserved c.test_if.ensures.keeps c.test_if.auto.work c.requires.0.0) (if_block c.in_ok-branch.branch.yes c.requires.0.1.0 c.requires.0.1.1 c.requires.1 c.chosen_block-block.ensures).0).place)
 
 pub run_if-shape_of-work-then-is_empty_block : goal.run_if-shape_of-work-then-is_empty_block
-run_if-shape_of-work-then-is_empty_block t c = c.test_if-t.auto.work
+run_if-shape_of-work-then-is_empty_block t c = c.test_if.auto.work
 
 pub run_if-returns-then-is_empty_block : goal.run_if-returns-then-is_empty_block
 run_if-returns-then-is_empty_block t c =
-    let block = if_block c.in-Branch.yes c.requires.0.1.0 c.requires.0.1.1 c.requires.1 c.chosen_block-block.ensures in
-    if_goes_on _ c.requires.0.1.0 c.requires.1 _ c.test_if-t.ensures c.in-Branch.is c.chosen_block-block.ensures refl (block_empty _ _ (able_preserved c.test_if-t.ensures.keeps c.test_if-t.auto.work c.requires.0.0) block.0 block.1 c.is_empty_block.ensures c.if-is_empty_block.true)
+    let block = if_block c.in_ok-branch.branch.yes c.requires.0.1.0 c.requires.0.1.1 c.requires.1 c.chosen_block-block.ensures in
+    if_goes_on _ c.requires.0.1.0 c.requires.1 _ c.test_if.ensures _ c.in_ok-branch.was c.chosen_block-block.ensures refl (block_empty _ _ (able_preserved c.test_if.ensures.keeps c.test_if.auto.work c.requires.0.0) block.0 block.1 c.is_empty_block.ensures c.if-is_empty_block.true)
 
 pub run_if-overflow_sub-depth : goal.run_if-overflow_sub-depth
 run_if-overflow_sub-depth t c = omega (arith, has_level c.requires.0.1.0)
 
 pub run_if-run_block-requires : goal.run_if-run_block-requires
-run_if-run_block-requires t c = (omega (arith, has_level c.requires.0.1.0), (able_preserved c.test_if-t.ensures.keeps c.test_if-t.auto.work c.requires.0.0, if_block c.in-Branch.yes c.requires.0.1.0 c.requires.0.1.1 c.requires.1 c.chosen_block-block.ensures))
+run_if-run_block-requires t c = (omega (arith, has_level c.requires.0.1.0), (able_preserved c.test_if.ensures.keeps c.test_if.auto.work c.requires.0.0, if_block c.in_ok-branch.branch.yes c.requires.0.1.0 c.requires.0.1.1 c.requires.1 c.chosen_block-block.ensures))
 
-pub run_if-shape_of-work-in-Refused : goal.run_if-shape_of-work-in-Refused
-run_if-shape_of-work-in-Refused t c = c.test_if-t.auto.work
+pub run_if-shape_of-work-in_err-branch : goal.run_if-shape_of-work-in_err-branch
+run_if-shape_of-work-in_err-branch t c = c.test_if.auto.work
 
-pub run_if-returns-in-Refused : goal.run_if-returns-in-Refused
-run_if-returns-in-Refused t c = if_refused _ c.requires.0.1.0 c.requires.1 _ c.test_if-t.ensures _ _ c.in-Refused.is
+pub run_if-returns-in_err-branch : goal.run_if-returns-in_err-branch
+run_if-returns-in_err-branch t c =
+    let handed_on : c.from_residual.result ≡ Err c.in_err-branch.field-0.0 = grind arith in
+    rw handed_on (if_refused _ c.requires.0.1.0 c.requires.1 _ c.test_if.ensures _ _ c.in_err-branch.was)
 
-pub run_if-shape_of-work-else-is_empty_block : goal.run_if-shape_of-work-else-is_empty_block
-run_if-shape_of-work-else-is_empty_block t c = c.run_block.auto.work ∙ c.test_if-t.auto.work
+pub run_if-shape_of-work : goal.run_if-shape_of-work
+run_if-shape_of-work t c = c.run_block.auto.work ∙ c.test_if.auto.work
 
-pub run_if-shape_of-out-else-is_empty_block : goal.run_if-shape_of-out-else-is_empty_block
-run_if-shape_of-out-else-is_empty_block t c = c.run_block.auto.out
+pub run_if-shape_of-out : goal.run_if-shape_of-out
+run_if-shape_of-out t c = c.run_block.auto.out
 
-pub run_if-returns-else-is_empty_block : goal.run_if-returns-else-is_empty_block
-run_if-returns-else-is_empty_block t c = if_goes_on _ c.requires.0.1.0 c.requires.1 _ c.test_if-t.ensures c.in-Branch.is c.chosen_block-block.ensures c.branch_context-inside.ensures c.run_block.ensures
+pub run_if-returns : goal.run_if-returns
+run_if-returns t c = if_goes_on _ c.requires.0.1.0 c.requires.1 _ c.test_if.ensures _ c.in_ok-branch.was c.chosen_block-block.ensures c.branch_context-inside.ensures c.run_block.ensures
 
 pub run_include-overflow_add-p : goal.run_include-overflow_add-p
 run_include-overflow_add-p t c = omega (arith, c.requires.1.0)
@@ -601,7 +615,7 @@ pub run_statement-at-requires : goal.run_statement-at-requires
 run_statement-at-requires t c = (sized c.requires.0 c.requires.1.0).place
 
 pub run_statement-returns-then-steps-eq0 : goal.run_statement-returns-then-steps-eq0
-run_statement-returns-then-steps-eq0 t c = no_step _ _ _ (omega (arith, c.if-steps-eq0.true)) (ap Refused c.at.ensures)
+run_statement-returns-then-steps-eq0 t c = no_step _ _ _ (omega (arith, c.if-steps-eq0.true)) (ap Err c.at.ensures)
 
 pub run_statement-overflow_sub-left : goal.run_statement-overflow_sub-left
 run_statement-overflow_sub-left t c = omega (arith, c.if-steps-eq0.false)

@@ -3,4 +3,4 @@ use Rattle.execution.proofs.Statements.{in_branch_lem}
 use Rattle.execution.proofs.branch_context.Goals as goal
 
 pub returns : goal.returns
-returns c = in_branch_lem _ _ c.union-path.ensures
+returns c = in_branch_lem _ _ c.union.ensures

@@ -2,15 +2,19 @@
 use Rattle.execution.proofs.Statements.{sized, assignment_done, assignment_refused}
 use Rattle.execution.proofs.Names.{name_small}
 use Rattle.rules.specs.Format.{form_of, form_in, forms}
-use mathlib.Core.Path.{refl}
+use mathlib.Core.Path.{◌≡◌, refl}
+use native.Mathlib.Omega.{arith}
+use Rattle.std.specs.Prelude.{Err}
 use Rattle.execution.proofs.run_assignment.Goals as goal
 
-pub assign-r-requires : goal.assign-r-requires
+pub assign-requires : goal.assign-requires
 unfolding form_of form_in forms
-assign-r-requires c = ((sized c.requires.0.0 c.requires.0.1.0, c.requires.0.1.0), (c.requires.1, name_small c.requires.0.1.0.stands c.requires.1 refl c.requires.0.0.set.strings c.requires.0.1.1))
+assign-requires c = ((sized c.requires.0.0 c.requires.0.1.0, c.requires.0.1.0), (c.requires.1, name_small c.requires.0.1.0.stands c.requires.1 refl c.requires.0.0.set.strings c.requires.0.1.1))
 
-pub returns-in-Refused : goal.returns-in-Refused
-returns-in-Refused c = λ n levels. assignment_refused _ _ _ c.assign-r.ensures n levels _ c.in-Refused.is
+pub returns-in_err-assign : goal.returns-in_err-assign
+returns-in_err-assign c =
+    let handed_on : c.from_residual.result ≡ Err c.in_err-assign.field-0.0 = grind arith in
+    λ n levels. rw handed_on (assignment_refused _ _ _ c.assign.ensures n levels _ c.in_err-assign.was)
 
-pub returns-in-Done : goal.returns-in-Done
-returns-in-Done c = λ n levels. assignment_done _ _ _ c.assign-r.ensures n levels c.requires.0.0 c.assign-r.auto.work c.in-Done.is
+pub returns : goal.returns
+returns c = λ n levels. assignment_done _ _ _ c.assign.ensures n levels c.requires.0.0 c.assign.auto.work c.in_ok-assign.was

@@ -10,15 +10,15 @@ use Rattle.explanation.proofs.explain_with_types.Goals as goal
 pub returns-then-work-lt65536 : goal.returns-then-work-lt65536
 returns-then-work-lt65536 c = explains_refused _ _ _ _ _ _ _ _ _ (short_memory _ _ _ _ _ _ c.if-work-lt65536.true ∙ sym (ap refused_by c.at.ensures)) c.refuse.ensures.1 c.refuse.ensures.0
 
-pub at-requires-in-Fault : goal.at-requires-in-Fault
-at-requires-in-Fault c = fault_early _ (sym c.check_types-v.ensures ∙ c.in-Fault.is)
+pub at-requires-in-Err : goal.at-requires-in-Err
+at-requires-in-Err c = fault_early _ (sym c.check_types.ensures ∙ c.in-Err.is)
 
 pub explain_chosen-requires : goal.explain_chosen-requires
-explain_chosen-requires c = (c.if-work-lt65536.false, chosen_sound _ (sym c.check_types-v.ensures ∙ c.in-Sound.is))
+explain_chosen-requires c = (c.if-work-lt65536.false, chosen_sound _ (sym c.check_types.ensures ∙ c.in-Ok.is))
 
-pub returns-in-Fault : goal.returns-in-Fault
+pub returns-in-Err : goal.returns-in-Err
 unfolding check_types
-returns-in-Fault c = explains_refused _ _ _ _ _ _ _ _ _ (fault_of_types _ _ _ _ _ _ c.if-work-lt65536.false c.check_types-v.ensures c.in-Fault.is ∙ sym (ap refused_by c.at-in-Fault.ensures)) c.refuse-in-Fault.ensures.1 c.refuse-in-Fault.ensures.0
+returns-in-Err c = explains_refused _ _ _ _ _ _ _ _ _ (fault_of_types _ _ _ _ _ _ c.if-work-lt65536.false c.check_types.ensures c.in-Err.is ∙ sym (ap refused_by c.at-in-Err.ensures)) c.refuse-in-Err.ensures.1 c.refuse-in-Err.ensures.0
 
-pub returns-in-Sound : goal.returns-in-Sound
-returns-in-Sound c = rw (lent_chosen _ (sym c.check_types-v.ensures ∙ c.in-Sound.is)) at c.explain_chosen.ensures
+pub returns-in-Ok : goal.returns-in-Ok
+returns-in-Ok c = rw (lent_chosen _ (sym c.check_types.ensures ∙ c.in-Ok.is)) at c.explain_chosen.ensures

@@ -19,14 +19,14 @@ two_in-place-requires c = omega (arith, c.loop-low.invariant.within, c.requires.
 pub overflow_add-low : goal.overflow_add-low
 overflow_add-low c = omega (arith, c.loop-low.invariant.within, c.requires.small)
 
-pub loop-low-preserved-in-Before : goal.loop-low-preserved-in-Before
-loop-low-preserved-in-Before c = narrow_up _ _ _ _ _ c.requires.rising c.two_in-place.ensures c.loop-low.invariant (omega arith) (omega arith) (sym c.in-Before.is ∙ c.compare.ensures)
+pub loop-low-preserved-in-Less : goal.loop-low-preserved-in-Less
+loop-low-preserved-in-Less c = narrow_up _ _ _ _ _ c.requires.rising c.two_in-place.ensures c.loop-low.invariant (omega arith) (omega arith) (sym c.in-Less.is ∙ c.compare.ensures)
 
-pub returns-in-Same : goal.returns-in-Same
-returns-in-Same c = found_here _ _ _ _ _ c.requires.rising c.two_in-place.ensures c.loop-low.invariant (omega arith) (omega arith) (sym c.in-Same.is ∙ c.compare.ensures)
+pub returns-in-Equal : goal.returns-in-Equal
+returns-in-Equal c = found_here _ _ _ _ _ c.requires.rising c.two_in-place.ensures c.loop-low.invariant (omega arith) (omega arith) (sym c.in-Equal.is ∙ c.compare.ensures)
 
 pub loop-low-preserved : goal.loop-low-preserved
-loop-low-preserved c = narrow_down _ _ _ _ _ c.requires.rising c.two_in-place.ensures c.loop-low.invariant (omega arith) (omega arith) (sym c.in-After.is ∙ c.compare.ensures)
+loop-low-preserved c = narrow_down _ _ _ _ _ c.requires.rising c.two_in-place.ensures c.loop-low.invariant (omega arith) (omega arith) (sym c.in-Greater.is ∙ c.compare.ensures)
 
 pub returns : goal.returns
 returns c = narrow_enough _ _ _ c.loop-low.invariant c.loop-low-test.false

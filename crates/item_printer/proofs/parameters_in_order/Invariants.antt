@@ -1,5 +1,4 @@
 -- `parameters_in_order`: at the loop's head, what is written and the parameters left give the whole.
-use Prim.Native.Nat.{◌-◌}
 use mathlib.Core.Path.{◌≡◌}
 use lib.ListN.{length}
 use Rattle.rules.specs.Compile.{string_at}
@@ -8,10 +7,8 @@ use Rattle.places.specs.At.{parameters_at}
 use Rattle.syntax.specs.Strings.{string_texts}
 use Rattle.notation.specs.Print.{printed_parameter}
 use Rattle.statement_printer.proofs.PrintedEntries.{EntriesTo}
+use Rattle.wire.proofs.Walks.{Along}
 use Rattle.item_printer.proofs.parameters_in_order.Given as goal
 
 abbrev pub invariant-loop-q : goal.invariant-loop-q
-invariant-loop-q l = EntriesTo (printed_parameter (string_at (string_texts l.m))) (parameters_at l.m) l.m 31 Parameter l.first l.end l.q l.later l.initial.out l.out l.initial.at l.at × (length l.out ≡ length l.initial.out)
-
-abbrev pub decreases-loop-q : goal.decreases-loop-q
-decreases-loop-q l = l.end - l.q
+invariant-loop-q l = EntriesTo (printed_parameter (string_at (string_texts l.m.bytes.now))) (parameters_at l.m.bytes.now) l.m.bytes.now 31 Parameter l.first l.end l.q-iterator.at l.later l.initial.out l.out l.initial.at l.at × (length l.out ≡ length l.initial.out) × Along l.m.bytes.now l.end l.q-iterator.bytes.now l.q-iterator.end

@@ -4,10 +4,10 @@ use Rattle.manifest_text.specs.Answers.{types_given, bytes_given}
 use Rattle.manifest_text.proofs.Answering.{lent_place}
 use Rattle.manifest_text.proofs.place_given.Goals as goal
 
-pub returns-in-Eight : goal.returns-in-Eight
+pub returns-in-None : goal.returns-in-None
 unfolding chosen types_given bytes_given
-returns-in-Eight c = rw c.in-Eight.is c.field_place.ensures
+returns-in-None c = rw c.in-None.is c.field_place.ensures
 
-pub returns-in-Listed : goal.returns-in-Listed
+pub returns-in-Some : goal.returns-in-Some
 unfolding types_given bytes_given
-returns-in-Listed c = rw (c.in-Listed.is, ← c.first.ensures, ← c.past.ensures) (lent_place _ c.field_place-in-Listed.ensures)
+returns-in-Some c = rw (c.in-Some.is, ← c.first.ensures, ← c.past.ensures) (lent_place _ c.field_place-in-Some.ensures)

@@ -10,7 +10,7 @@ pub write_numbered-requires : goal.write_numbered-requires
 unfolding written_text
 write_numbered-requires g c =
     let bytes = c.first-bytes.ensures in
-    (then_so c.requires (λ a l. result_left _ l c.in-Written.is bytes), omega arith, omega (arith, ap length bytes, length-take c.in-Written.length c.args.out.now))
+    (then_so c.requires (λ a l. result_left _ l c.in-Ok.is bytes), omega arith, omega (arith, ap length bytes, length-take c.in-Ok.length c.args.out.now))
 
 pub write_refusal-requires : goal.write_refusal-requires
-write_refusal-requires g c = then_so c.requires (λ a l. refusal_left _ l c.in-Refused.is)
+write_refusal-requires g c = then_so c.requires (λ a l. refusal_left _ l c.in-Err.is)

@@ -9,4 +9,4 @@ use Rattle.manifest_text.proofs.write_refusal.Goals as goal
 pub write_all-requires : goal.write_all-requires
 unfolding refusal_line
 write_all-requires g c =
-    then_so c.requires (λ a l. last_line _ _ _ _ l (omega arith) (refusal_short c.args.reason c.args.place (omega (arith, c.ranges.place))) (omega arith) c.refusal_line-written.ensures)
+    then_so c.requires (λ a l. last_line _ _ _ _ l (omega arith) (refusal_short c.args.refusal.reason c.args.refusal.place (omega arith)) (omega arith) c.refusal_line-written.ensures)

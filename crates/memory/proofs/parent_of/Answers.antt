@@ -9,7 +9,7 @@ pub returns-then-scope-eq1 : goal.returns-then-scope-eq1
 returns-then-scope-eq1 c = above_node _ _ _ c.if-scope-eq1.true
 
 pub returns-then-scope-ge1026 : goal.returns-then-scope-ge1026
-returns-then-scope-ge1026 c = above_body _ _ _ c.if-scope-ge1026.true c.base_scope.ensures
+returns-then-scope-ge1026 c = above_body _ _ _ c.if-scope-ge1026.true c.from.ensures
 
 pub returns-then-byte_in-eq0 : goal.returns-then-byte_in-eq0
 returns-then-byte_in-eq0 c = above_unknown _ _ _ c.if-scope-eq0.false c.if-scope-eq1.false c.if-scope-ge1026.false c.byte_in.ensures c.if-byte_in-eq0.true

@@ -1,12 +1,13 @@
--- `title`: no number, one past the table, or one more than the number.
+-- `title`: no number or one past the table, or one more than the number.
+use native.Mathlib.Omega.{arith}
 use Rattle.memory.proofs.Titles.{title_none, title_past, title_some}
 use Rattle.memory.proofs.title.Goals as goal
 
-pub returns-then-t-eq0 : goal.returns-then-t-eq0
-returns-then-t-eq0 c = title_none _ c.two_in-t.ensures c.if-t-eq0.true
+pub returns-in-1-to-1024 : goal.returns-in-1-to-1024
+returns-in-1-to-1024 c = title_some _ c.two_in.ensures (omega arith) (omega arith)
 
-pub returns-then-t-gt1024 : goal.returns-then-t-gt1024
-returns-then-t-gt1024 c = title_past _ c.two_in-t.ensures c.if-t-eq0.false c.if-t-gt1024.true
+pub returns-in_default : goal.returns-in_default
+returns-in_default c = title_none _ c.two_in.ensures (omega arith)
 
-pub returns : goal.returns
-returns c = title_some _ c.two_in-t.ensures c.if-t-eq0.false c.if-t-gt1024.false
+pub returns-in_default-2 : goal.returns-in_default-2
+returns-in_default-2 c = title_past _ c.two_in.ensures (omega arith) (omega arith)

@@ -8,4 +8,4 @@ use Rattle.print_schedule.proofs.print_refusal.Goals as goal
 pub print_last-requires : goal.print_last-requires
 unfolding refusal_line
 print_last-requires g c =
-    last_line _ _ _ _ c.requires (omega arith) (refusal_short c.args.reason c.args.place (omega (arith, c.ranges.place))) (omega arith) c.refusal_line-written.ensures
+    last_line _ _ _ _ c.requires (omega arith) (refusal_short c.args.refusal.reason c.args.refusal.place (omega arith)) (omega arith) c.refusal_line-written.ensures

@@ -12,9 +12,9 @@ pub print_catalog-requires : goal.print_catalog-requires
 print_catalog-requires g c =
     let called = c.compile_schedule-answer.ensures in
     let known = c.type_inv.manifest in
-    let is = is_catalog_lem _ _ called.0 called.1 c.in-Catalog.is (record { below = λ i. omega (arith, known i) }) in
+    let is = is_catalog_lem _ _ called.0 called.1 c.in-Ok.is (record { below = λ i. omega (arith, known i) }) in
     (rw c.first.ensures is, c.requires)
 
 pub print_refusal-requires : goal.print_refusal-requires
 print_refusal-requires g c =
-    rw c.requires (refusal_left _ _ c.compile_schedule-answer.ensures.0 c.in-Refused.is)
+    rw c.requires (refusal_left _ _ c.compile_schedule-answer.ensures.0 c.in-Err.is)

@@ -8,7 +8,7 @@ use Rattle.printable.specs.Reading.{gone_from}
 use Rattle.printable.proofs.first_unprintable.Given as goal
 
 abbrev pub invariant-loop-p : goal.invariant-loop-p
-invariant-loop-p l = gone_from (chosen l.types) l.manifest (string_texts l.manifest) l.p l.last ≡ gone_from (chosen l.types) l.manifest (string_texts l.manifest) l.initial.p 0
+invariant-loop-p l = gone_from (chosen l.types.list.now) l.m.bytes.now (string_texts l.m.bytes.now) l.p l.last ≡ gone_from (chosen l.types.list.now) l.m.bytes.now (string_texts l.m.bytes.now) l.initial.p 0
 
 abbrev pub decreases-loop-p : goal.decreases-loop-p
-decreases-loop-p l = length l.manifest - l.p
+decreases-loop-p l = length l.m.bytes.now - l.p

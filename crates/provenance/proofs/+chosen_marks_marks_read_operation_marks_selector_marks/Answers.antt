@@ -1,9 +1,9 @@
 -- The cycle of `marks_read` and what it calls for expressions with parts: the measures and the answers of each member stand in the files below.
-use Prim.Native.Nat.{ℕ, ◌+◌, ◌*◌, ◌<◌}
 use mathlib.Core.Path.{refl}
 use native.Mathlib.Omega.{arith}
 use Rattle.labels.specs.Sets.{no_labels}
 use Rattle.evaluator.proofs.Expressions.{resized}
+use Rattle.provenance.proofs.Operands.{is_refused_lem}
 use Rattle.provenance.proofs.Selectors.{chooses_none, chooses_one, scrutinee_refused, arm_read}
 use Rattle.provenance.proofs.Leaves.{no_level, marks_constant, marks_operation, marks_negation, marks_attribute, marks_selector}
 use Rattle.provenance.proofs.Expressions.{right_skipped, right_read}
@@ -11,18 +11,18 @@ use Rattle.evaluator.proofs.Fresh.{fresh_refusal, fresh_value}
 use Rattle.evaluator.proofs.Selectors.{selector_deep}
 use Rattle.provenance.proofs.+chosen_marks_marks_read_operation_marks_selector_marks.Goals as goal
 
-pub chosen_marks-try_patterns-at-requires : goal.chosen_marks-try_patterns-at-requires
-chosen_marks-try_patterns-at-requires t c = (c.requires.place, refl)
+pub chosen_marks-try_patterns-requires : goal.chosen_marks-try_patterns-requires
+chosen_marks-try_patterns-requires t c = (c.requires.place, refl)
 
 pub chosen_marks-marks_read-requires : goal.chosen_marks-marks_read-requires
 chosen_marks-marks_read-requires t c = (omega arith, resized c.requires c.place.ensures.0)
 
-pub chosen_marks-returns-in-Nothing : goal.chosen_marks-returns-in-Nothing
+pub chosen_marks-returns-in_default : goal.chosen_marks-returns-in_default
 unfolding no_labels
-chosen_marks-returns-in-Nothing t c = λ d e s. chooses_none _ _ _ _ _ d _ _ _ c.try_patterns-at.ensures c.in-Nothing.is
+chosen_marks-returns-in_default t c = λ d e s. chooses_none _ _ _ _ _ d _ _ _ c.try_patterns.ensures c.in_default.is
 
-pub chosen_marks-returns-in-At : goal.chosen_marks-returns-in-At
-chosen_marks-returns-in-At t c = λ d e s. chooses_one _ _ _ _ _ d _ _ _ c.try_patterns-at.ensures e c.requires.manifest s c.in-At.is c.place.ensures c.marks_read.ensures
+pub chosen_marks-returns : goal.chosen_marks-returns
+chosen_marks-returns t c = λ d e s. chooses_one _ _ _ _ _ d _ _ _ c.try_patterns.ensures e c.requires.manifest s c.in-Some.is c.place.ensures c.marks_read.ensures
 
 pub marks_read-returns-then-depth-eq0 : goal.marks_read-returns-then-depth-eq0
 marks_read-returns-then-depth-eq0 t c = no_level _ _ _ _ _ _ _ c.if-depth-eq0.true
@@ -108,8 +108,8 @@ selector_marks-marks_read-marks-requires t c = (omega arith, resized c.requires 
 pub selector_marks-evaluate-a-requires : goal.selector_marks-evaluate-a-requires
 selector_marks-evaluate-a-requires t c = (resized c.requires c.place-scrutinee.ensures.0, refl)
 
-pub selector_marks-overflow_add-p-in-Value : goal.selector_marks-overflow_add-p-in-Value
-selector_marks-overflow_add-p-in-Value t c = omega (arith, c.requires.place)
+pub selector_marks-overflow_add-p-2 : goal.selector_marks-overflow_add-p-2
+selector_marks-overflow_add-p-2 t c = omega (arith, c.requires.place)
 
 pub selector_marks-end_of-first-requires : goal.selector_marks-end_of-first-requires
 selector_marks-end_of-first-requires t c = omega (arith, c.requires.place)
@@ -123,10 +123,10 @@ selector_marks-overflow_sub-below t c = omega (arith, c.if-below-eq0.false)
 pub selector_marks-chosen_marks-chosen-requires : goal.selector_marks-chosen_marks-chosen-requires
 selector_marks-chosen_marks-chosen-requires t c = (omega (arith, c.if-below-eq0.false), resized c.requires c.place-end.ensures.0)
 
-pub selector_marks-returns-in-Refused : goal.selector_marks-returns-in-Refused
+pub selector_marks-returns-in_default : goal.selector_marks-returns-in_default
 unfolding no_labels
-selector_marks-returns-in-Refused t c = λ d o. scrutinee_refused _ _ _ _ _ o c.requires.manifest c.place-scrutinee.ensures c.marks_read-marks.ensures (λ s. fresh_refusal refl (c.evaluate-a.ensures.1 s) c.value_of.ensures c.in-Refused.is) refl
+selector_marks-returns-in_default t c = λ d o. scrutinee_refused _ _ _ _ _ o c.requires.manifest c.place-scrutinee.ensures c.marks_read-marks.ensures (λ s. fresh_refusal refl (c.evaluate-a.ensures.1 s) (is_refused_lem _ c.in_default.not-Ok)) refl
 
-pub selector_marks-returns-in-Value : goal.selector_marks-returns-in-Value
+pub selector_marks-returns : goal.selector_marks-returns
 unfolding no_labels
-selector_marks-returns-in-Value t c = λ d o. arm_read _ _ _ _ _ o c.requires.manifest c.place-scrutinee.ensures c.marks_read-marks.ensures (λ s. fresh_value refl (c.evaluate-a.ensures.1 s) c.value_of.ensures c.in-Value.is refl) _ c.if-below-eq0.false refl c.end_of-first.ensures c.end_of.ensures c.place-end.ensures c.chosen_marks-chosen.ensures c.union.ensures
+selector_marks-returns t c = λ d o. arm_read _ _ _ _ _ o c.requires.manifest c.place-scrutinee.ensures c.marks_read-marks.ensures (λ s. fresh_value refl (c.evaluate-a.ensures.1 s) c.in-Ok.is refl) _ c.if-below-eq0.false refl c.end_of-first.ensures c.end_of.ensures c.place-end.ensures c.chosen_marks-chosen.ensures c.union.ensures

@@ -1,5 +1,5 @@
 -- The cycle of `marks_read` and what it calls for expressions with parts: the measures and the answers of each member stand in the files below.
-use Prim.Native.Nat.{ℕ, ◌+◌, ◌*◌, ◌<◌}
+use Prim.Native.Nat.{◌+◌, ◌*◌}
 use Rattle.provenance.proofs.+chosen_marks_marks_read_operation_marks_selector_marks.Given as goal
 
 abbrev pub decreases-chosen_marks : goal.decreases-chosen_marks

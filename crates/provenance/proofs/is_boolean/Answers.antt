@@ -2,8 +2,8 @@
 use Rattle.provenance.proofs.Operands.{boolean_refused, boolean_compared}
 use Rattle.provenance.proofs.is_boolean.Goals as goal
 
-pub returns-in-Refused : goal.returns-in-Refused
-returns-in-Refused c = boolean_refused _ _ c.value_of.ensures c.in-Refused.is
+pub returns-in-Err : goal.returns-in-Err
+returns-in-Err c = boolean_refused _ c.in-Err.is
 
-pub returns-in-Value : goal.returns-in-Value
-returns-in-Value c = boolean_compared _ _ c.value_of.ensures c.in-Value.is c.same_value.ensures
+pub returns-in-Ok : goal.returns-in-Ok
+returns-in-Ok c = boolean_compared _ c.in-Ok.is c.same_value.ensures

@@ -7,7 +7,7 @@ use Rattle.rules.specs.Evaluate.{marks_in}
 use Rattle.rules.specs.State.{upward}
 use Rattle.labels.specs.Sets.{no_labels, ◌∪◌}
 use mathlib.Core.Path.{◌≡◌, ◌∙◌}
-use Rattle.provenance.proofs.marks_up.Goals.{in-At+else-has_value, in-Nothing}
+use Rattle.provenance.proofs.marks_up.Goals.{in-Some+else-has_value, in_default}
 use native.Mathlib.Omega.{arith}
 use Rattle.provenance.proofs.marks_up.Goals as goal
 
@@ -19,29 +19,29 @@ pub slot_for-requires : goal.slot_for-requires
 slot_for-requires c = c.requires
 
 pub mark_at-requires : goal.mark_at-requires
-mark_at-requires c = (in_slots _ _ _ _ _ c.slot_for.ensures c.in-At.is, c.requires)
+mark_at-requires c = (in_slots _ _ _ _ _ c.slot_for.ensures c.in-Some.is, c.requires)
 
 pub has_value-requires : goal.has_value-requires
-has_value-requires c = (in_slots _ _ _ _ _ c.slot_for.ensures c.in-At.is, c.requires)
+has_value-requires c = (in_slots _ _ _ _ _ c.slot_for.ensures c.in-Some.is, c.requires)
 
 pub returns-then-has_value : goal.returns-then-has_value
-returns-then-has_value c = marks_here_lem _ _ _ _ _ _ c.loop-left.invariant c.loop-left-test.true c.slot_for.ensures _ c.in-At.is c.mark_at.ensures c.union-joined.ensures c.has_value.ensures c.if-has_value.true
+returns-then-has_value c = marks_here_lem _ _ _ _ _ _ c.loop-left.invariant c.loop-left-test.true c.slot_for.ensures _ c.in-Some.is c.mark_at.ensures c.union-marks.ensures c.has_value.ensures c.if-has_value.true
 
 pub parent_of-requires : goal.parent_of-requires
 parent_of-requires c = c.requires
 
-pub returns-in_default : goal.returns-in_default
-returns-in_default c =
+pub returns-in_default-parent_of : goal.returns-in_default-parent_of
+returns-in_default-parent_of c =
     let so_far = c.loop-left.invariant in
     let more = c.loop-left-test.true in
     let found = c.slot_for.ensures in
     let base = base_for c.args.scope.base_is_node in
     let work = c.args.work.now in
     let passed : c.match-slot_for.marks ∪ beyond (cells_of work) c.args.name (classes_of work) base c.loop-left.left (scope_of c.loop-left.at) ≡ marks_in (cells_of work) c.args.name (upward c.args.tries (classes_of work) base (scope_of c.args.scope.number)) = elim c.match-slot_for.branch [
-      | in-At+else-has_value w ↦ pass_empty _ _ _ _ _ _ so_far more found _ w.in-At.is w.mark_at.ensures (w.marks-is ∙ w.union-joined.ensures) w.has_value.ensures w.if-has_value.false
-      | in-Nothing w ↦ pass_none _ _ _ _ _ _ so_far more found w.in-Nothing.is w.marks-is
+      | in-Some+else-has_value w ↦ pass_empty _ _ _ _ _ _ so_far more found _ w.in-Some.is w.mark_at.ensures (w.marks-is ∙ w.union-marks.ensures) w.has_value.ensures w.if-has_value.false
+      | in_default w ↦ pass_none _ _ _ _ _ _ so_far more found w.in_default.is w.marks-is
     ] in
-    marks_end _ _ _ _ _ _ _ passed c.parent_of.ensures c.in_default.is
+    marks_end _ _ _ _ _ _ _ passed c.parent_of.ensures c.in_default-parent_of.is
 
 pub overflow_sub-left : goal.overflow_sub-left
 overflow_sub-left c = omega (arith, c.loop-left-test.true)
@@ -57,10 +57,10 @@ loop-left-preserved c =
     let base = base_for c.args.scope.base_is_node in
     let work = c.args.work.now in
     let passed : c.match-slot_for.marks ∪ beyond (cells_of work) c.args.name (classes_of work) base c.loop-left.left (scope_of c.loop-left.at) ≡ marks_in (cells_of work) c.args.name (upward c.args.tries (classes_of work) base (scope_of c.args.scope.number)) = elim c.match-slot_for.branch [
-      | in-At+else-has_value w ↦ pass_empty _ _ _ _ _ _ so_far more found _ w.in-At.is w.mark_at.ensures (w.marks-is ∙ w.union-joined.ensures) w.has_value.ensures w.if-has_value.false
-      | in-Nothing w ↦ pass_none _ _ _ _ _ _ so_far more found w.in-Nothing.is w.marks-is
+      | in-Some+else-has_value w ↦ pass_empty _ _ _ _ _ _ so_far more found _ w.in-Some.is w.mark_at.ensures (w.marks-is ∙ w.union-marks.ensures) w.has_value.ensures w.if-has_value.false
+      | in_default w ↦ pass_none _ _ _ _ _ _ so_far more found w.in_default.is w.marks-is
     ] in
-    marks_on _ _ _ _ _ _ _ passed c.parent_of.ensures c.in-At-parent_of.is
+    marks_on _ _ _ _ _ _ _ passed c.parent_of.ensures c.in-Some-parent_of.is
 
 pub returns : goal.returns
 returns c = marks_out _ _ _ _ _ _ _ c.loop-left.invariant (omega (arith, c.loop-left-test.false))

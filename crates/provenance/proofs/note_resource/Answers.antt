@@ -10,8 +10,8 @@ returns-then-asked-eq0 c = type_other _ _ _ _ _ _ _ c.word-asked.ensures refl (Î
 pub returns-then-asked-kind : goal.returns-then-asked-kind
 returns-then-asked-kind c = type_other _ _ _ _ _ _ _ c.word-asked.ensures c.two_at-kind.ensures c.if-asked-kind.true
 
-pub returns-in-Kept : goal.returns-in-Kept
-returns-in-Kept c = note_kept _ _ _ _ _ _ _ c.word-asked.ensures c.two_at-kind.ensures c.if-asked-kind.false c.resource_note-note.ensures c.in-Kept.is
+pub returns-in_default : goal.returns-in_default
+returns-in_default c = note_kept _ _ _ _ _ _ _ c.word-asked.ensures c.two_at-kind.ensures c.if-asked-kind.false c.resource_note.ensures c.in_default.is
 
-pub returns-in-Part : goal.returns-in-Part
-returns-in-Part c = note_made _ _ _ _ _ _ _ c.word-asked.ensures c.two_at-kind.ensures c.if-asked-kind.false c.resource_note-note.ensures c.in-Part.is refl c.set_word.ensures
+pub returns-in-Some : goal.returns-in-Some
+returns-in-Some c = note_made _ _ _ _ _ _ _ c.word-asked.ensures c.two_at-kind.ensures c.if-asked-kind.false c.resource_note.ensures c.in-Some.is refl c.set_word.ensures

@@ -16,12 +16,12 @@ returns-then-title-word c = title_other _ _ _ _ _ _ _ _ c.in-String.is c.word.en
 
 pub attribute_part-requires : goal.attribute_part-requires
 unfolding Below
-attribute_part-requires c = resized c.requires (omega (arith, subst (Below c.place-end.result) c.in-At.is c.find_named-found.ensures.1, c.place-end.ensures.0))
+attribute_part-requires c = resized c.requires (omega (arith, subst (Below c.place-end.result) c.in-Some.is c.find_named.ensures.1, c.place-end.ensures.0))
 
-pub returns-in-Nothing : goal.returns-in-Nothing
+pub returns-in_default-find_named : goal.returns-in_default-find_named
 unfolding asked_of
-returns-in-Nothing c = no_attribute _ _ _ _ _ _ _ _ c.in-String.is c.word.ensures c.if-title-word.false c.end_of-first.ensures c.end_of.ensures c.place-end.ensures c.word-name.ensures c.find_named-found.ensures.0 c.in-Nothing.is refl
+returns-in_default-find_named c = no_attribute _ _ _ _ _ _ _ _ c.in-String.is c.word.ensures c.if-title-word.false c.end_of-first.ensures c.end_of.ensures c.place-end.ensures c.word-name.ensures c.find_named.ensures.0 c.in_default-find_named.is refl
 
-pub returns-in-At : goal.returns-in-At
+pub returns : goal.returns
 unfolding asked_of
-returns-in-At c = attribute_noted _ _ _ _ _ _ _ _ c.in-String.is c.word.ensures c.if-title-word.false c.end_of-first.ensures c.end_of.ensures c.place-end.ensures c.word-name.ensures c.find_named-found.ensures.0 c.in-At.is c.attribute_part.ensures
+returns c = attribute_noted _ _ _ _ _ _ _ _ c.in-String.is c.word.ensures c.if-title-word.false c.end_of-first.ensures c.end_of.ensures c.place-end.ensures c.word-name.ensures c.find_named.ensures.0 c.in-Some.is c.attribute_part.ensures

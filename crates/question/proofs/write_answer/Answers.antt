@@ -1,20 +1,27 @@
 -- `write_answer`: by the kind of the answer.
 use Prim.Native.Nat.{ℕ}
-use mathlib.Core.Path.{ap}
+use mathlib.Core.Path.{◌≡◌, sym, ap, ◌∙◌}
 use native.Mathlib.Omega.{arith}
+use Rattle.std.specs.Prelude.{Option, Ok, Some, None}
+use borrow.Author.Rules.{rules}
+use Rattle.values.specs.declared.Among.{Among}
+use Rattle.values.specs.Answers.{Explanation}
+use Rattle.values.specs.Numbers.{part_number}
 use Rattle.rules.specs.Schedule.{refusal_line}
 use Rattle.question.specs.Answers.{among_line, not_among_line, numbers_line, answer_line}
 use Rattle.question.proofs.Putting.{put_is}
 use Rattle.question.proofs.write_answer.Goals as goal
 
-pub returns-in-Among : goal.returns-in-Among
+pub returns-in-Ok-Some : goal.returns-in-Ok-Some
 unfolding answer_line among_line numbers_line
-returns-in-Among c = (rw c.in-Among.is (put_is (ap (λ (n : ℕ). among_line n c.in-Among.place) c.part_number.ensures) c.put_numbers.ensures.0), c.put_numbers.ensures.1)
+returns-in-Ok-Some c =
+    let some = rw c.in-Ok-Some.is at c.in-Ok-Some.field-0-is in
+    (rw (c.in-Ok-Some.is, some, ← c.part_number.ensures) c.put_numbers.ensures.0, c.put_numbers.ensures.1)
 
-pub returns-in-NotAmong : goal.returns-in-NotAmong
+pub returns-in-Ok-None : goal.returns-in-Ok-None
 unfolding answer_line not_among_line
-returns-in-NotAmong c = (rw c.in-NotAmong.is c.put_text.ensures, omega (arith, c.put_text.ensures.told))
+returns-in-Ok-None c = search rules
 
-pub returns-in-Refused : goal.returns-in-Refused
+pub returns-in-Err : goal.returns-in-Err
 unfolding answer_line refusal_line numbers_line
-returns-in-Refused c = (rw c.in-Refused.is (put_is (ap (λ (n : ℕ). refusal_line n c.in-Refused.place) c.number_of.ensures) c.put_numbers-in-Refused.ensures.0), c.put_numbers-in-Refused.ensures.1)
+returns-in-Err c = (rw c.in-Err.is (put_is (ap (λ (n : ℕ). refusal_line n c.in-Err.refusal.place) c.number_of.ensures) c.put_numbers-in-Err.ensures.0), c.put_numbers-in-Err.ensures.1)

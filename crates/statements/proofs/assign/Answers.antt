@@ -11,13 +11,13 @@ use Rattle.statements.proofs.assign.Goals as goal
 pub overflow_sub-depth : goal.overflow_sub-depth
 overflow_sub-depth c = omega (arith, has_level c.requires.0.1)
 
-pub evaluate-e-requires : goal.evaluate-e-requires
-evaluate-e-requires c = let pre = c.requires in (resized pre.0.0 (value_place pre.0.1 pre.1.0 pre.0.0.manifest), refl)
+pub evaluate-requires : goal.evaluate-requires
+evaluate-requires c = let pre = c.requires in (resized pre.0.0 (value_place pre.0.1 pre.1.0 pre.0.0.manifest), refl)
 
-pub returns-in-Refused : goal.returns-in-Refused
+pub returns-in_err-value : goal.returns-in_err-value
 unfolding no_labels
-returns-in-Refused c = let pre = c.requires in assign_refused _ pre.0.1 pre.1.0 (λ s. fresh_refusal refl (c.evaluate-e.ensures.1 s) c.value_of.ensures c.in-Refused.is) _ refl
+returns-in_err-value c = let pre = c.requires in assign_refused _ pre.0.1 pre.1.0 (λ s. fresh_refusal refl (c.evaluate.ensures.1 s) c.in_err-value.was) _ (grind arith) refl
 
-pub returns-in-Value : goal.returns-in-Value
+pub returns : goal.returns
 unfolding no_labels
-returns-in-Value c = let pre = c.requires in assign_stored _ pre.0.1 pre.1.0 (λ s. fresh_value refl (c.evaluate-e.ensures.1 s) c.value_of.ensures c.in-Value.is c.in_words-labels.ensures) _ _ refl c.two_at-name.ensures c.store.ensures
+returns c = let pre = c.requires in assign_stored _ pre.0.1 pre.1.0 (λ s. fresh_value refl (c.evaluate.ensures.1 s) c.in_ok-value.was c.in_words-labels.ensures) _ _ refl c.two_at.ensures c.store.ensures

@@ -1,13 +1,12 @@
 use Rattle.statements.proofs.Assigning.{ran_done, ran_again, ran_full}
-use Rattle.statements.proofs.store_answer.Reads as reads
-use Rattle.statements.proofs.store_answer.Lts as lts
+use native.Mathlib.Omega.{arith}
 use Rattle.statements.proofs.store_answer.Goals as goal
 
-pub returns-in-Done : goal.returns-in-Done
-returns-in-Done c = ran_done _ c.in-Done.is
+pub returns-in-Ok : goal.returns-in-Ok
+returns-in-Ok c = ran_done _ c.in-Ok.is
 
-pub returns-in-HasValue : goal.returns-in-HasValue
-returns-in-HasValue c = ran_again _ c.in-HasValue.is c.at.ensures
+pub returns-in-Err-HasValue : goal.returns-in-Err-HasValue
+returns-in-Err-HasValue c = ran_again _ (grind arith) c.at.ensures
 
-pub returns-in-NoRoom : goal.returns-in-NoRoom
-returns-in-NoRoom c = ran_full _ c.in-NoRoom.is c.at-in-NoRoom.ensures
+pub returns-in-Err-NoRoom : goal.returns-in-Err-NoRoom
+returns-in-Err-NoRoom c = ran_full _ (grind arith) c.at-in-Err-NoRoom.ensures

@@ -12,16 +12,16 @@ use Rattle.statements.proofs.test_case.Goals as goal
 pub overflow_sub-depth : goal.overflow_sub-depth
 overflow_sub-depth c = omega (arith, has_level c.requires.0.1.stands)
 
-pub evaluate-e-requires : goal.evaluate-e-requires
-evaluate-e-requires c = let pre = c.requires in (resized pre.0.0 (condition_place pre.0.1.stands pre.0.0.manifest), refl)
+pub evaluate-requires : goal.evaluate-requires
+evaluate-requires c = let pre = c.requires in (resized pre.0.0 (condition_place pre.0.1.stands pre.0.0.manifest), refl)
 
 pub try_case-requires : goal.try_case-requires
-try_case-requires c = ((c.requires.0.1, c.requires.1), c.evaluate-e.ensures.0.size)
+try_case-requires c = ((c.requires.0.1, c.requires.1), c.evaluate.ensures.0.size)
 
-pub returns-in-Refused : goal.returns-in-Refused
+pub returns-in_err-value : goal.returns-in_err-value
 unfolding no_labels
-returns-in-Refused c = let pre = c.requires in test_refused _ pre.0.1.stands pre.1 (λ s. fresh_refusal refl (c.evaluate-e.ensures.1 s) c.value_of.ensures c.in-Refused.is) _ refl
+returns-in_err-value c = let pre = c.requires in test_refused _ pre.0.1.stands pre.1 (λ s. fresh_refusal refl (c.evaluate.ensures.1 s) c.in_err-value.was) _ (grind arith) refl
 
-pub returns-in-Value : goal.returns-in-Value
+pub returns : goal.returns
 unfolding no_labels
-returns-in-Value c = let pre = c.requires in test_decided _ pre.0.1.stands pre.1 (λ s. fresh_value refl (c.evaluate-e.ensures.1 s) c.value_of.ensures c.in-Value.is refl) _ _ refl c.try_case.ensures
+returns c = let pre = c.requires in test_decided _ pre.0.1.stands pre.1 (λ s. fresh_value refl (c.evaluate.ensures.1 s) c.in_ok-value.was refl) _ _ refl c.try_case.ensures

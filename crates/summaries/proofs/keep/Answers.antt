@@ -5,4 +5,4 @@ use Rattle.summaries.proofs.keep.Goals as goal
 
 pub returns : goal.returns
 returns c =
-    line_kept _ _ _ _ _ c.requires.1.1.0 (c.requires.0.0, c.line_for-line.ensures) c.requires.0.1 (omega (arith, c.ranges.depth)) c.requires.1.0 (λ j. omega (arith, c.type_inv.names j)) c.requires.1.1.1 c.write.ensures
+    line_kept _ _ _ _ _ c.requires.1.0 (c.requires.0.0, c.line_for-line.ensures) c.requires.0.1 (omega (arith, c.ranges.depth)) c.args.collected.now.words c.write.ensures.1 c.requires.1.1 c.write.ensures.0

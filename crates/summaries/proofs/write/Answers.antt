@@ -5,4 +5,4 @@ use Rattle.summaries.proofs.write.Goals as goal
 
 pub returns : goal.returns
 unfolding one_if
-returns c = line_stored _ _ _ _ _ _ c.put_two.ensures c.put_byte.ensures c.put_byte-2.ensures c.put_names.ensures
+returns c = (line_stored _ _ _ _ _ _ c.put_two.ensures c.put_byte.ensures c.put_byte-2.ensures c.put_names.ensures.0, c.put_names.ensures.1)

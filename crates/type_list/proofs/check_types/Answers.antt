@@ -5,13 +5,13 @@ use Rattle.type_list.proofs.Checking.{empty_list, not_empty, sixty_fifth, wrong_
 use Rattle.type_list.proofs.check_types.Goals as goal
 
 pub returns-then-list-eq0 : goal.returns-then-list-eq0
-returns-then-list-eq0 c = c.faulty.ensures ∙ empty_list _ c.if-list-eq0.true
+returns-then-list-eq0 c = c.at.ensures ∙ empty_list _ c.if-list-eq0.true
 
 pub loop-q-init : goal.loop-q-init
 loop-q-init c = not_empty _ c.if-list-eq0.false
 
 pub returns-then-more-eq0 : goal.returns-then-more-eq0
-returns-then-more-eq0 c = c.faulty-then-more-eq0.ensures ∙ sixty_fifth _ _ _ c.loop-q-test.true _ c.if-more-eq0.true c.loop-q.invariant
+returns-then-more-eq0 c = c.at-then-more-eq0.ensures ∙ sixty_fifth _ _ _ c.loop-q-test.true _ c.if-more-eq0.true c.loop-q.invariant
 
 pub slice_bounds-is_right-count : goal.slice_bounds-is_right-count
 slice_bounds-is_right-count c = omega (arith, c.loop-q.invariant.ordered)
@@ -26,7 +26,7 @@ pub is_right-requires : goal.is_right-requires
 is_right-requires c = c.loop-q-test.true
 
 pub returns-then-not-is_right : goal.returns-then-not-is_right
-returns-then-not-is_right c = c.faulty-then-not-is_right.ensures ∙ wrong_field _ _ _ c.loop-q-test.true _ c.is_right.ensures c.if-more-eq0.false c.loop-q.invariant c.if-not-is_right.true
+returns-then-not-is_right c = c.at-then-not-is_right.ensures ∙ wrong_field _ _ _ c.loop-q-test.true _ c.is_right.ensures c.if-more-eq0.false c.loop-q.invariant c.if-not-is_right.true
 
 pub overflow_add-start : goal.overflow_add-start
 overflow_add-start c = omega (arith, c.loop-q.invariant.early)

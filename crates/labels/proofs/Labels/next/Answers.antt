@@ -1,8 +1,6 @@
 -- `Labels::next`: at the loop's head the search from `at` finds what the whole search finds.
 use mathlib.Core.Path.{◌∙◌}
-use Prim.Native.Nat.{◌+◌, ◌/◌, ◌%◌, ◌^◌, ◌<◌}
 use native.Mathlib.Omega.{arith}
-use lib.Count.{count_trailing_zeros}
 use Rattle.labels.specs.Sets.{Words64}
 use Rattle.labels.proofs.Search.{next_skip, next_small, next_found, next_end}
 use Rattle.labels.proofs.Labels.next.Goals as goal

@@ -1,7 +1,6 @@
 -- `do_actions`: none is left, the first one is the only one, it stops, or the others follow it.
 use native.Mathlib.Omega.{arith}
 use Rattle.parser.proofs.Sequence.{none_done, none_read, first_stopped, stopped_reads, then_others, then_reads, able_first, stands_next, only_done, only_reads}
-use Prim.Native.Nat.{ℕ, ◌<◌}
 use borrow.Author.Rules.{rules}
 use Rattle.parser.proofs.actions.+do_actions.Goals as goal
 
@@ -18,14 +17,14 @@ pub do_actions-requires : goal.do_actions-requires
 do_actions-requires t c =
     let p = c.requires in
     let n = c.if-actions-eq0.false in
-    (omega arith, record { types = p.types; stands = stands_next p.types _ _ _ _ _ _ n (omega arith) p.stands _ _ _ _ c.in-Did.is (c.do_action-first.ensures.0 p.types) (search rules) })
+    (omega arith, record { types = p.types; stands = stands_next p.types _ _ _ _ _ _ n (omega arith) p.stands _ _ _ _ c.in_ok-first.was (c.do_action-first.ensures.0 p.types) (search rules) })
 
-pub returns-in-Did : goal.returns-in-Did
-returns-in-Did t c =
+pub returns : goal.returns
+returns t c =
     let n = c.if-actions-eq0.false in
     let small = c.ranges.actions in
-    let first = c.in-Did.is in
+    let first = c.in_ok-first.was in
     (λ types. then_others types _ _ _ _ _ _ n (omega (arith, small)) _ _ _ _ _ _ _ first (c.do_action-first.ensures.0 types) (c.do_actions.ensures.0 types), then_reads _ _ _ n (omega (arith, small)) _ _ _ first c.do_action-first.ensures.1 c.do_actions.ensures.1)
 
-pub returns-in-No : goal.returns-in-No
-returns-in-No t c = (λ types. first_stopped types _ _ _ _ _ _ c.if-actions-eq0.false (omega arith) _ _ _ c.in-No.is (c.do_action-first.ensures.0 types), stopped_reads _ _ _ c.if-actions-eq0.false (omega arith))
+pub returns-in_err-first : goal.returns-in_err-first
+returns-in_err-first t c = rw c.from_residual.ensures (λ types. first_stopped types _ _ _ _ _ _ c.if-actions-eq0.false (omega arith) _ _ _ c.in_err-first.was (c.do_action-first.ensures.0 types), stopped_reads _ _ _ c.if-actions-eq0.false (omega arith))

@@ -29,10 +29,10 @@ pub do_actions-requires : goal.do_actions-requires
 do_actions-requires c = let r = c.loop-n.invariant.ready in record { types = r.types; stands = stands_left r.types _ c.left_out-left.result c.left_out-left.ensures _ _ _ (not-false _ c.if-not-left.false) _ _ _ _ (omega arith) r.steppable }
 
 pub loop-n-preserved : goal.loop-n-preserved
-loop-n-preserved c = going_next _ _ _ _ _ _ _ _ _ _ _ _ c.loop-n.invariant (omega arith) c.row-w.result c.row-w.ensures c.if-w.false _ _ _ _ c.in-Did.is (λ types. leaves_done types _ c.left_out-left.result c.left_out-left.ensures _ _ _ (not-false _ c.if-not-left.false) _ _ _ _ _ (c.do_actions.ensures.0 types)) (search rules) (search rules)
+loop-n-preserved c = going_next _ _ _ _ _ _ _ _ _ _ _ _ c.loop-n.invariant (omega arith) c.row-w.result c.row-w.ensures c.if-w.false _ _ _ _ c.in_ok-building.was (λ types. leaves_done types _ c.left_out-left.result c.left_out-left.ensures _ _ _ (not-false _ c.if-not-left.false) _ _ _ _ _ (c.do_actions.ensures.0 types)) (search rules) (search rules)
 
-pub returns-in-No : goal.returns-in-No
-returns-in-No c = c.loop-n.invariant.goes_on _ _ _ _ (λ types. out_stuck types _ _ _ _ _ _ _ (omega arith) c.row-w.result c.row-w.ensures c.if-w.false _ _ _ c.in-No.is (leaves_done types _ c.left_out-left.result c.left_out-left.ensures _ _ _ (not-false _ c.if-not-left.false) _ _ _ _ _ (c.do_actions.ensures.0 types)))
+pub returns-in_err-building : goal.returns-in_err-building
+returns-in_err-building c = rw c.from_residual.ensures (c.loop-n.invariant.goes_on _ _ _ _ (λ types. out_stuck types _ _ _ _ _ _ _ (omega arith) c.row-w.result c.row-w.ensures c.if-w.false _ _ _ c.in_err-building.was (leaves_done types _ c.left_out-left.result c.left_out-left.ensures _ _ _ (not-false _ c.if-not-left.false) _ _ _ _ _ (c.do_actions.ensures.0 types))))
 
 pub returns : goal.returns
 returns c = c.loop-n.invariant.goes_on _ _ _ _ (λ types. none_left types _ _ _ _ _ _ _ (omega arith))

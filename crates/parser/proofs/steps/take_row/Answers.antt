@@ -6,11 +6,11 @@ use Rattle.parser.proofs.steps.take_row.Goals as goal
 pub do_actions-requires : goal.do_actions-requires
 do_actions-requires c = let p = c.requires in record { types = p.0.types; stands = stands_row p.0.types _ _ _ _ _ _ _ _ p.1 (omega arith) p.0.steppable }
 
-pub push-above-requires : goal.push-above-requires
-push-above-requires c = let p = c.requires in row_room p.0.types _ _ _ _ _ _ _ _ p.1 p.0.steppable
+pub push-top-requires : goal.push-top-requires
+push-top-requires c = let p = c.requires in row_room p.0.types _ _ _ _ _ _ _ _ p.1 p.0.steppable
 
-pub returns-in-Did : goal.returns-in-Did
-returns-in-Did c = let d = c.do_actions.ensures in λ types. row_onward types _ _ _ _ _ _ _ _ c.requires.1 _ _ _ _ _ _ c.in-Did.is (d.0 types) d.1 c.push-above.ensures
+pub returns : goal.returns
+returns c = let d = c.do_actions.ensures in λ types. row_onward types _ _ _ _ _ _ _ _ c.requires.1 _ _ _ _ _ _ c.in_ok-building.was (d.0 types) d.1 c.push-top.ensures
 
-pub returns-in-No : goal.returns-in-No
-returns-in-No c = λ types. row_stuck types _ _ _ _ _ _ _ _ c.requires.1 _ _ _ _ c.in-No.is (c.do_actions.ensures.0 types)
+pub returns-in_err-building : goal.returns-in_err-building
+returns-in_err-building c = rw c.from_residual.ensures (λ types. row_stuck types _ _ _ _ _ _ _ _ c.requires.1 _ _ _ _ c.in_err-building.was (c.do_actions.ensures.0 types))

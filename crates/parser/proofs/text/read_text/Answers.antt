@@ -1,5 +1,6 @@
 -- `read_text`: a token after the other, up to the end or the first one that is refused.
-use mathlib.Core.Path.{refl}
+use mathlib.Core.Path.{◌≡◌, refl, ap, ◌∙◌}
+use Rattle.std.specs.Prelude.{Ok, Err}
 use native.Mathlib.Omega.{arith}
 use borrow.Author.Rules.{rules}
 use Rattle.parser.proofs.TextRead.{going_begun, forward, along_next, whole_read, refused_read}
@@ -15,13 +16,15 @@ pub read_token-requires : goal.read_token-requires
 read_token-requires c = (c.requires.0, c.loop-next.invariant.going.ready)
 
 pub loop-next-smaller : goal.loop-next-smaller
-loop-next-smaller c = forward _ _ _ _ _ _ _ _ _ _ _ _ c.loop-next.invariant _ _ _ _ _ c.read_token.ensures _ c.in-On.is
+loop-next-smaller c = let on = c.in_ok-next.was ∙ ap Ok c.in-On.is in forward _ _ _ _ _ _ _ _ _ _ _ _ c.loop-next.invariant _ _ _ _ _ c.read_token.ensures _ on
 
 pub loop-next-preserved : goal.loop-next-preserved
-loop-next-preserved c = along_next _ _ _ _ _ _ _ _ _ _ _ _ c.loop-next.invariant _ _ _ _ _ c.read_token.ensures _ c.in-On.is (search rules) (search rules) (search rules) (search rules)
+loop-next-preserved c = let on = c.in_ok-next.was ∙ ap Ok c.in-On.is in along_next _ _ _ _ _ _ _ _ _ _ _ _ c.loop-next.invariant _ _ _ _ _ c.read_token.ensures _ on (search rules) (search rules) (search rules) (search rules)
 
 pub returns-in-Done : goal.returns-in-Done
-returns-in-Done c = whole_read _ _ _ _ _ _ _ _ _ _ _ _ c.loop-next.invariant _ _ _ _ _ c.read_token.ensures _ c.in-Done.is
+returns-in-Done c = let done = c.in_ok-next.was ∙ ap Ok c.in-Done.is in whole_read _ _ _ _ _ _ _ _ _ _ _ _ c.loop-next.invariant _ _ _ _ _ c.read_token.ensures _ done
 
-pub returns-in-Fault : goal.returns-in-Fault
-returns-in-Fault c = refused_read _ _ _ _ _ _ _ _ _ _ _ _ c.loop-next.invariant _ _ _ _ _ c.read_token.ensures _ c.in-Fault.is
+pub returns-in_err-next : goal.returns-in_err-next
+returns-in_err-next c =
+    let handed_on : c.from_residual.result ≡ Err c.in_err-next.field-0.0 = grind arith in
+    rw handed_on (refused_read _ _ _ _ _ _ _ _ _ _ _ _ c.loop-next.invariant _ _ _ _ _ c.read_token.ensures _ c.in_err-next.was)

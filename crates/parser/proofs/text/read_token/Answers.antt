@@ -20,15 +20,15 @@ shape_of-table-then-token-eq-END_OF_TEXT c = c.enter_strings-numbers.ensures.siz
 
 pub returns-then-token-eq-END_OF_TEXT : goal.returns-then-token-eq-END_OF_TEXT
 unfolding ReadSo
-returns-then-token-eq-END_OF_TEXT c = λ f g. taken_last _ _ _ _ _ _ _ c.requires.1 _ c.next_token-token.ensures c.if-token-eq-MALFORMED.false _ _ c.enter_strings-numbers.ensures (omega (arith, c.if-numbers-gt1024.false)) _ c.resource_tag.ensures _ c.word_for-building.ensures _ _ _ _ (c.take.ensures _) _ c.in-To.is _ c.pass_behind-next.ensures f g c.if-token-eq-END_OF_TEXT.true
+returns-then-token-eq-END_OF_TEXT c = λ f g. taken_last _ _ _ _ _ _ _ c.requires.1 _ c.next_token-token.ensures c.if-token-eq-MALFORMED.false _ _ c.enter_strings-numbers.ensures (omega (arith, c.if-numbers-gt1024.false)) _ c.resource_tag.ensures _ c.word_for-building.ensures _ _ _ _ (c.take.ensures _) _ c.in-Some.is _ c.pass_behind-next.ensures f g c.if-token-eq-END_OF_TEXT.true
 
-pub returns-in-Stuck : goal.returns-in-Stuck
+pub returns-in_default : goal.returns-in_default
 unfolding ReadSo
-returns-in-Stuck c = λ f g. stuck_refused _ _ _ _ _ _ _ c.requires.1 _ c.next_token-token.ensures c.if-token-eq-MALFORMED.false _ _ c.enter_strings-numbers.ensures (omega (arith, c.if-numbers-gt1024.false)) _ c.resource_tag.ensures _ c.word_for-building.ensures _ _ _ _ (c.take.ensures _) c.in-Stuck.is f g
+returns-in_default c = λ f g. stuck_refused _ _ _ _ _ _ _ c.requires.1 _ c.next_token-token.ensures c.if-token-eq-MALFORMED.false _ _ c.enter_strings-numbers.ensures (omega (arith, c.if-numbers-gt1024.false)) _ c.resource_tag.ensures _ c.word_for-building.ensures _ _ _ _ (c.take.ensures _) c.in_default.is f g
 
-pub shape_of-table-else-token-eq-END_OF_TEXT : goal.shape_of-table-else-token-eq-END_OF_TEXT
-shape_of-table-else-token-eq-END_OF_TEXT c = c.enter_strings-numbers.ensures.size
+pub shape_of-table : goal.shape_of-table
+shape_of-table c = c.enter_strings-numbers.ensures.size
 
-pub returns-else-token-eq-END_OF_TEXT : goal.returns-else-token-eq-END_OF_TEXT
+pub returns : goal.returns
 unfolding ReadSo
-returns-else-token-eq-END_OF_TEXT c = λ f g. taken_on _ _ _ _ _ _ _ c.requires.1 _ c.next_token-token.ensures c.if-token-eq-MALFORMED.false _ _ c.enter_strings-numbers.ensures (omega (arith, c.if-numbers-gt1024.false)) _ c.resource_tag.ensures _ c.word_for-building.ensures _ _ _ _ (c.take.ensures _) _ c.in-To.is _ c.pass_behind-next.ensures f g c.if-token-eq-END_OF_TEXT.false
+returns c = λ f g. taken_on _ _ _ _ _ _ _ c.requires.1 _ c.next_token-token.ensures c.if-token-eq-MALFORMED.false _ _ c.enter_strings-numbers.ensures (omega (arith, c.if-numbers-gt1024.false)) _ c.resource_tag.ensures _ c.word_for-building.ensures _ _ _ _ (c.take.ensures _) _ c.in-Some.is _ c.pass_behind-next.ensures f g c.if-token-eq-END_OF_TEXT.false

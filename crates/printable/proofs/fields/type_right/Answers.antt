@@ -10,4 +10,4 @@ pub returns-in-39 : goal.returns-in-39
 returns-in-39 c = type_defined _ _ _ _ _ c.in-39.is c.two_at-in-39.ensures c.is_built_in_type-in-39.ensures
 
 pub returns-in_default : goal.returns-in_default
-returns-in_default c = let a = c.args in no_type _ _ a.m.now a.p _ (λ e. absurd (omega arith)) (λ e. absurd (omega arith))
+returns-in_default c = let a = c.args in no_type _ _ a.m.bytes.now a.p _ (λ e. absurd (omega arith)) (λ e. absurd (omega arith))

@@ -1,12 +1,10 @@
--- `all_in_word`: the bytes from here on decide.
-use Rattle.printable.proofs.Spelling.{not_in_word, one_in_word, all_passed_lem}
+-- `all_in_word`: each byte in turn.
+use Rattle.std.proofs.Common.{◌∙◌, rules, tests}
+use Rattle.std.proofs.lemmas.Iterator.{YieldsList-from_slice}
+use Rattle.std.proofs.lemmas.Iterator.Search.{all_from_yields_List}
+use Rattle.notation.specs.Lexing.{in_word}
+use Rattle.printable.proofs.Spelling.{all_words}
 use Rattle.printable.proofs.names.all_in_word.Goals as goal
 
-pub returns-then-not-in_word : goal.returns-then-not-in_word
-returns-then-not-in_word c = not_in_word _ _ c.loop-i-test.true c.in_word.ensures c.if-not-in_word.true c.loop-i.invariant
-
-pub loop-i-preserved : goal.loop-i-preserved
-loop-i-preserved c = one_in_word _ _ c.loop-i-test.true c.in_word.ensures c.if-not-in_word.false c.loop-i.invariant
-
 pub returns : goal.returns
-returns c = all_passed_lem _ _ c.loop-i-test.false c.loop-i.invariant
+returns c = all_from_yields_List in_word _ _ c.all.result c.all.ensures.ran (YieldsList-from_slice c.args.bytes.now cc) (λ x b q k. search (rules, tests)) ∙ all_words _

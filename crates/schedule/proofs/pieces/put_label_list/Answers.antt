@@ -8,14 +8,11 @@ pub loop-n-init : goal.loop-n-init
 loop-n-init c = (refl, refl)
 
 pub loop-n-smaller : goal.loop-n-smaller
-loop-n-smaller c = omega (arith, label_from _ _ c.next.ensures _ c.in-At.is)
+loop-n-smaller c = omega (arith, label_from _ _ c.next.ensures _ c.in-Some.is)
 
 pub loop-n-preserved : goal.loop-n-preserved
-loop-n-preserved c = (c.put_label-end.auto.line ∙ c.loop-n.invariant.0, label_put _ _ c.next.ensures _ c.in-At.is _ _ c.put_label-end.ensures c.loop-n.invariant.1)
+loop-n-preserved c = (c.put_label-end.auto.line ∙ c.loop-n.invariant.0, label_put _ _ c.next.ensures _ c.in-Some.is _ _ c.put_label-end.ensures c.loop-n.invariant.1)
 
-pub shape_of-line-in-Nothing : goal.shape_of-line-in-Nothing
-shape_of-line-in-Nothing c = c.loop-n.invariant.0
-
-pub returns-in-Nothing : goal.returns-in-Nothing
+pub returns : goal.returns
 unfolding list_from
-returns-in-Nothing c = labels_done _ _ c.next.ensures _ _ c.in-Nothing.is c.loop-n.invariant.1
+returns c = labels_done _ _ c.next.ensures _ _ c.in_default.is c.loop-n.invariant.1

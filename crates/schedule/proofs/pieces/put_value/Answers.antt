@@ -16,7 +16,7 @@ returns-in-Integer c =
 
 pub returns-in-String : goal.returns-in-String
 unfolding value_text
-returns-in-String c = rw c.in-String.is (piece_is _ _ c.string_by.ensures c.put_text.ensures)
+returns-in-String c = rw c.in-String.is (piece_is _ _ c.get.ensures c.put_text.ensures)
 
 pub returns-in-Boolean : goal.returns-in-Boolean
 unfolding value_text

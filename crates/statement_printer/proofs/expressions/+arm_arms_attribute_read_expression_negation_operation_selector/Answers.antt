@@ -1,10 +1,11 @@
 -- The cycle of `expression` and what it calls for expressions with parts: each answer by the function whose goal it is.
-use mathlib.Core.Path.{◌∙◌, refl}
+use mathlib.Core.Path.{◌≡◌, ◌∙◌, refl}
 use native.Mathlib.Omega.{arith}
 use Rattle.statement_printer.proofs.PrintedExpressions.{stands_at, attribute_read_here, attribute_read_passes, constant_tag_passes, here_below, passes_below, last_tag, negation_here, negation_passes, one_above, operation_here, operation_passes, selector_here, selector_passes, levels, siblings_at}
 use Rattle.statement_printer.proofs.PrintedArms.{arm_here, arm_passes, no_arm_yet, arm_stands_lem, one_arm, all_arms}
 use Rattle.places.proofs.Open.{level}
 use Rattle.statement_printer.proofs.OperatorSigns.{kind_range, level_small}
+use Rattle.wire.proofs.Walks.{step_of, here, along, over_end}
 use Rattle.statement_printer.proofs.expressions.+arm_arms_attribute_read_expression_negation_operation_selector.Goals as goal
 
 pub arm-overflow_add-q : goal.arm-overflow_add-q
@@ -26,22 +27,25 @@ pub arm-returns : goal.arm-returns
 arm-returns t c = arm_passes _ _ _ _ _ c.requires.1 c.end_of.ensures c.separate-begun.ensures c.write_pattern-pattern.ensures c.write_mark-sign.ensures c.expression.ensures
 
 pub arms-loop-q-init : goal.arms-loop-q-init
-arms-loop-q-init t c = (no_arm_yet _ _ _ _ _ c.requires.1, refl)
+arms-loop-q-init t c =
+    let at : c.into_iter-q-iterator.result.at ≡ c.args.first = cc in
+    (rw at (no_arm_yet _ _ _ _ _ c.requires.1), refl, record { bytes = cc; end = cc })
 
 pub arms-arm-at-requires : goal.arms-arm-at-requires
-arms-arm-at-requires t c = (omega arith, (c.requires.0, arm_stands_lem _ _ _ _ _ c.loop-q-test.true c.loop-q.invariant.0))
-
-pub arms-end_of-q-requires : goal.arms-end_of-q-requires
-arms-end_of-q-requires t c = omega (arith, c.loop-q-test.true, c.requires.2)
-
-pub arms-loop-q-smaller : goal.arms-loop-q-smaller
-arms-loop-q-smaller t c = omega (arith, c.end_of-q.ensures, c.loop-q-test.true)
+arms-arm-at-requires t c =
+    let along_it = c.loop-q.invariant.2 in
+    let so_far = rw (here along_it c.in-Some.ensures.steps) at c.loop-q.invariant.0 in
+    (omega arith, (c.requires.0, arm_stands_lem _ _ _ _ _ (step_of along_it c.in-Some.ensures.steps).before so_far))
 
 pub arms-loop-q-preserved : goal.arms-loop-q-preserved
-arms-loop-q-preserved t c = (one_arm _ _ _ _ _ c.loop-q-test.true c.loop-q.invariant.0 c.arm-at.ensures c.end_of-q.ensures, c.arm-at.auto.out ∙ c.loop-q.invariant.1)
+arms-loop-q-preserved t c =
+    let along_it = c.loop-q.invariant.2 in
+    let step = step_of along_it c.in-Some.ensures.steps in
+    let so_far = rw (here along_it c.in-Some.ensures.steps) at c.loop-q.invariant.0 in
+    (one_arm _ _ _ _ _ step.before so_far c.arm-at.ensures step.next, c.arm-at.auto.out ∙ c.loop-q.invariant.1, along along_it c.in-Some.ensures.steps)
 
 pub arms-returns : goal.arms-returns
-arms-returns t c = all_arms _ _ _ _ _ c.loop-q-test.false c.loop-q.invariant.0
+arms-returns t c = all_arms _ _ _ _ _ (over_end c.loop-q.invariant.2 c.in-None.ensures.steps) c.loop-q.invariant.0
 
 pub attribute_read-overflow_add-p : goal.attribute_read-overflow_add-p
 attribute_read-overflow_add-p t c = let o = attribute_read_here c.requires in omega (arith, o.title.stands.ends, c.requires.source.short)

@@ -1,5 +1,4 @@
 -- `write_class_variable`: a class variable, unless the text is too long already.
-use native.Mathlib.Omega.{arith}
 use mathlib.Core.Path.{ap₂}
 use Rattle.notation.specs.Tokens.{class_variable}
 use Rattle.statement_printer.proofs.OneToken.{stays, ready, writes_as, string_short}
@@ -12,4 +11,4 @@ pub put_class_variable-requires : goal.put_class_variable-requires
 put_class_variable-requires c = (ready c.is_full.ensures c.if-is_full.false, string_short _ _ c.string_at-whose.ensures c.requires.short, string_short _ _ c.string_at.ensures c.requires.short)
 
 pub returns : goal.returns
-returns c = writes_as (class_variable _ _) (omega arith) (ap₂ class_variable c.string_at-whose.ensures c.string_at.ensures) c.is_full.ensures c.if-is_full.false c.put_class_variable.ensures
+returns c = writes_as (class_variable _ _) (ap₂ class_variable c.string_at-whose.ensures c.string_at.ensures) c.is_full.ensures c.if-is_full.false c.put_class_variable.ensures

@@ -1,5 +1,4 @@
 -- `write_mark`: a sign or a keyword, unless the text is too long already.
-use native.Mathlib.Omega.{arith}
 use Rattle.notation.specs.Tokens.{mark}
 use Rattle.statement_printer.proofs.OneToken.{stays, ready, writes}
 use Rattle.statement_printer.proofs.tokens.write_mark.Goals as goal
@@ -11,4 +10,4 @@ pub put_mark-requires : goal.put_mark-requires
 put_mark-requires c = (ready c.is_full.ensures c.if-is_full.false, c.requires.0, c.requires.1)
 
 pub returns : goal.returns
-returns c = writes (mark _) (omega (arith, c.requires.1)) c.is_full.ensures c.if-is_full.false c.put_mark.ensures
+returns c = writes (mark _) c.is_full.ensures c.if-is_full.false c.put_mark.ensures

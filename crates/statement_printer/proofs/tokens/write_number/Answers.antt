@@ -1,5 +1,4 @@
 -- `write_number`: a number, unless the text is too long already.
-use native.Mathlib.Omega.{arith}
 use mathlib.Core.Path.{ap}
 use mir.Syntax.{w64}
 use mir.ValLaws.{to_z-of_z}
@@ -15,4 +14,4 @@ put_number-requires c = ready c.is_full.ensures c.if-is_full.false
 
 pub returns : goal.returns
 returns c =
-    writes_as (number _) (omega arith) (ap number (to_z-of_z w64 c.args.value c.ranges.value)) c.is_full.ensures c.if-is_full.false c.put_number.ensures
+    writes_as (number _) (ap number (to_z-of_z w64 c.args.value c.ranges.value)) c.is_full.ensures c.if-is_full.false c.put_number.ensures

@@ -11,7 +11,7 @@ pub names_right-requires : goal.names_right-requires
 names_right-requires c = omega (arith, c.loop-p-test.true)
 
 pub returns-then-not-names_right : goal.returns-then-not-names_right
-returns-then-not-names_right c = c.wrong_string.ensures ∙ name_past _ _ _ _ c.loop-p-test.true c.byte_in.ensures (c.names_right.ensures _ c.line_of-line.ensures) c.if-not-names_right.true c.loop-p.invariant
+returns-then-not-names_right c = c.at.ensures ∙ name_past _ _ _ _ c.loop-p-test.true c.byte_in.ensures (c.names_right.ensures _ c.line_of-line.ensures) c.if-not-names_right.true c.loop-p.invariant
 
 pub overflow_add-p : goal.overflow_add-p
 overflow_add-p c = omega (arith, c.loop-p-test.true)

@@ -1,9 +1,9 @@
 -- The walk over the fields: `check_fields` at a level goes into each field by `check_inside`, and this into its fields one level further down.
 use Prim.Native.Nat.{◌+◌, ◌-◌, ◌*◌}
-use mathlib.Core.Path.{◌≡◌, refl, ap, ◌∙◌}
+use mathlib.Core.Path.{◌≡◌}
 use Rattle.rules.specs.Bytes.{fields_in}
 use Rattle.rules.specs.Check.{inside}
-use Rattle.format.specs.Numbers.{line_number, parts_from}
+use Rattle.format.specs.Numbers.{parts_from}
 use Rattle.syntax.specs.Walked.{walked}
 use Rattle.syntax.proofs.shape.+check_fields_check_inside.Given as goal
 

@@ -1,29 +1,31 @@
--- `string_number`: what the strings from here on give is what they all give.
-use mathlib.Core.Path.{refl}
-use native.Mathlib.Omega.{arith}
-use Rattle.rules.specs.Bytes.{two}
-use Rattle.syntax.proofs.Texts.{number_here, number_later, no_number, of_all_strings}
+-- `string_number`: the first place whose text is the string.
+use Rattle.std.proofs.Common.{◌≡◌, sym, ◌∙◌, arith, rules}
+use Rattle.std.specs.Prelude.{None}
+use Rattle.std.specs.List.{position}
+use Rattle.std.proofs.lemmas.Iterator.Search.{position_from_yields_List}
+use Rattle.rules.specs.Bytes.{two, fields_in}
+use Rattle.wire.proofs.Fields.{few_fields}
+use Rattle.wire.proofs.Walks.{YieldsList-from_walk}
+use Rattle.syntax.proofs.Texts.{has_text, string_counted, place_below}
 use Rattle.syntax.proofs.strings.string_number.Goals as goal
 
-pub loop-q-init : goal.loop-q-init
-loop-q-init c = (refl, omega arith)
-
-pub returns-then-same_bytes : goal.returns-then-same_bytes
-returns-then-same_bytes c = of_all_strings _ _ c.end_of-e.ensures (number_here _ _ _ _ _ c.loop-q-test.true c.text_of.ensures c.same_bytes.ensures c.if-same_bytes.true c.loop-q.invariant.0)
-
-pub overflow_add-n : goal.overflow_add-n
+pub fields_in-places-requires : goal.fields_in-places-requires
 unfolding two
-overflow_add-n c = omega (arith, c.type_inv.m 1, c.type_inv.m 2, c.end_of-e.ensures, c.loop-q.invariant.1, c.loop-q-test.true)
+fields_in-places-requires c = omega (arith, c.type_inv.m 1, c.type_inv.m 2, c.end_of.ensures)
 
-pub end_of-q-requires : goal.end_of-q-requires
+pub returns-in_err-n : goal.returns-in_err-n
+returns-in_err-n c =
+    let gone : c.from_residual.result ≡ None = grind arith in
+    let counted : c.position.result ≡ position (has_text c.args.m.now c.args.bytes.now) (fields_in c.args.m.now 3 c.end_of.result) = position_from_yields_List (has_text c.args.m.now c.args.bytes.now) c.position.new.self _ c.position.result c.position.ensures.ran (YieldsList-from_walk (fields_in c.args.m.now 3 c.end_of.result) cc) (λ x b q k. search rules) in
+    gone ∙ sym c.in_err-n.was ∙ string_counted _ _ c.end_of.ensures counted
+
+pub overflow_cast-result : goal.overflow_cast-result
 unfolding two
-end_of-q-requires c = omega (arith, c.type_inv.m 1, c.type_inv.m 2, c.end_of-e.ensures, c.loop-q-test.true)
-
-pub loop-q-smaller : goal.loop-q-smaller
-loop-q-smaller c = omega (arith, c.end_of-q.ensures, c.loop-q-test.true)
-
-pub loop-q-preserved : goal.loop-q-preserved
-loop-q-preserved c = (number_later _ _ _ _ _ c.loop-q-test.true c.text_of.ensures c.same_bytes.ensures c.if-same_bytes.false c.end_of-q.ensures c.loop-q.invariant.0, omega (arith, c.end_of-q.ensures, c.loop-q.invariant.1))
+overflow_cast-result c =
+    let counted : c.position.result ≡ position (has_text c.args.m.now c.args.bytes.now) (fields_in c.args.m.now 3 c.end_of.result) = position_from_yields_List (has_text c.args.m.now c.args.bytes.now) c.position.new.self _ c.position.result c.position.ensures.ran (YieldsList-from_walk (fields_in c.args.m.now 3 c.end_of.result) cc) (λ x b q k. search rules) in
+    omega (arith, place_below (has_text c.args.m.now c.args.bytes.now) (fields_in c.args.m.now 3 c.end_of.result) (sym counted ∙ c.in_ok-n.was), few_fields c.args.m.now 3 c.end_of.result, c.type_inv.m 1, c.type_inv.m 2, c.end_of.ensures)
 
 pub returns : goal.returns
-returns c = of_all_strings _ _ c.end_of-e.ensures (no_number _ _ _ _ _ c.loop-q-test.false c.loop-q.invariant.0)
+returns c =
+    let counted : c.position.result ≡ position (has_text c.args.m.now c.args.bytes.now) (fields_in c.args.m.now 3 c.end_of.result) = position_from_yields_List (has_text c.args.m.now c.args.bytes.now) c.position.new.self _ c.position.result c.position.ensures.ran (YieldsList-from_walk (fields_in c.args.m.now 3 c.end_of.result) cc) (λ x b q k. search rules) in
+    sym c.in_ok-n.was ∙ string_counted _ _ c.end_of.ensures counted

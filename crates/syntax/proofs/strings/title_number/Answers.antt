@@ -1,5 +1,4 @@
 -- `title_number`: of the bytes of `title`.
-use mathlib.Core.Path.{refl}
 use Rattle.rules.specs.Compile.{title_text}
 use Rattle.syntax.proofs.strings.title_number.Goals as goal
 

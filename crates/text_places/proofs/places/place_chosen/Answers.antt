@@ -9,10 +9,10 @@ pub note_text-requires : goal.note_text-requires
 note_text-requires c = (c.index_types-listed.ensures, nothing_read _ _ _ _ (omega arith) refl refl refl)
 
 pub place_in-requires : goal.place_in-requires
-place_in-requires c = (search rules, search rules, record { types = _; whole = whole_told _ _ c.in-Whole.is c.note_text.ensures })
+place_in-requires c = (search rules, search rules, record { types = _; whole = whole_told _ _ _ c.in-Some.is c.note_text.ensures })
 
-pub returns-in-Whole : goal.returns-in-Whole
-returns-in-Whole c = same_room _ _ _ (search rules) (c.place_in.ensures _ (whole_told _ _ c.in-Whole.is c.note_text.ensures))
+pub returns-in-Some : goal.returns-in-Some
+returns-in-Some c = same_room _ _ _ (search rules) (c.place_in.ensures _ (whole_told _ _ _ c.in-Some.is c.note_text.ensures))
 
-pub returns-in-Refused : goal.returns-in-Refused
-returns-in-Refused c = refused_told _ _ _ _ c.in-Refused.is c.note_text.ensures
+pub returns-in-None : goal.returns-in-None
+returns-in-None c = refused_told _ _ _ _ c.in-None.is c.note_text.ensures

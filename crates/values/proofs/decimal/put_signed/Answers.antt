@@ -1,11 +1,11 @@
 -- `put_signed`: an integer not below 0 is written as a number; of another the sign is stored first, then the digits of its magnitude.
-use mathlib.Core.Path.{◌≡◌, ap, ◌∙◌}
+use mathlib.Core.Path.{ap, ◌∙◌}
 use mathlib.Core.List.{List, ◌∷◌}
 use Prim.Native.Nat.{ℕ, ◌+◌}
 use native.Mathlib.Omega.{arith}
 use lib.ListN.{length-set, set}
 use lib.Seq.{sets}
-use Rattle.values.specs.Decimal.{decimal, signed_decimal, write_text}
+use Rattle.values.specs.Decimal.{decimal, write_text}
 use Rattle.values.proofs.Digits.{last_decimal, text_long, text_stored}
 use Rattle.values.proofs.Sizes.{text_above, text_below}
 use Rattle.values.proofs.decimal.put_signed.Goals as goal

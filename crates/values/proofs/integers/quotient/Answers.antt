@@ -2,10 +2,8 @@
 use mathlib.Core.Path.{◌≡◌}
 use mathlib.Core.Logic.{◌⊎◌, inl, inr}
 use Prim.Native.Nat.{ℕ}
-use borrow.Author.Tests.{eqb-true, eqb-false}
-use mir.Syntax.{w64}
-use mir.Val.{to_z, of_z}
-use Rattle.values.proofs.Division.{Ways, ways, divisor_above, divides_by_zero, divides_least}
+use borrow.Author.Tests.{eqb-true}
+use Rattle.values.proofs.Division.{ways, divisor_above, divides_by_zero, divides_least}
 use Rattle.values.proofs.integers.quotient.Goals as goal
 
 -- the least integer is not divided by −1
