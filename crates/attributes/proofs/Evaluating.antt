@@ -112,6 +112,10 @@ pub record Evaluating (m w out : List ℕ) (fill : ℕ) (scope : Scope) (d first
 pub evaluating_begins : {m w out : List ℕ} {fill : ℕ} {scope : Scope} {d first end : ℕ} {t : List ℕ} → Siblings m d AttributeKind first end → ((n : ℕ) → given_at t n ≡ none) → Evaluating m w out fill scope d first end first t
 evaluating_begins s blank = record { gs = []; gives = gives_nothing blank; passed = []; alikes = alike_none; places = refl; rest = rest_begins s }
 
+-- the same at the place q, where that is p
+pub evaluating_here : {m w out : List ℕ} {fill : ℕ} {scope : Scope} {d first end p q : ℕ} {t : List ℕ} → p ≡ q → Evaluating m w out fill scope d first end p t → Evaluating m w out fill scope d first end q t
+evaluating_here {m} {w} {out} {fill} {scope} {d} {first} {end} {t = t} e i = subst (λ (j : ℕ). Evaluating m w out fill scope d first end j t) e i
+
 module _ {m w out : List ℕ} {fill : ℕ} {scope : Scope} {d first end q : ℕ} {t : List ℕ} (so_far : Evaluating m w out fill scope d first end q t) where
   module _ (more : q < end) where
     first_here : FirstSibling m d AttributeKind q end

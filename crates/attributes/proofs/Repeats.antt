@@ -1,11 +1,11 @@
 -- The ways of the functions that look through the names of the 26s, and what they say of the evaluated 26s. Assumes nothing.
-use Prim.Native.Nat.{ℕ, ◌+◌, ◌≤◌, ◌<◌}
+use Prim.Native.Nat.{ℕ, zero, suc, ◌+◌, ◌-◌, ◌≤◌, ◌<◌}
 use mathlib.Core.Path.{◌≡◌, refl, sym, ap, ◌∙◌}
-use mathlib.Core.Bool.{Bool, true, false, ◌||◌}
+use mathlib.Core.Bool.{Bool, true, false, ◌||◌, cond}
 use mathlib.Core.List.{List, [], ◌∷◌}
 use native.Mathlib.Omega.{arith}
-use borrow.Author.Tests.{eqb-true, eqb-false, eq-eqb, le-leb, lt-leb}
-use lib.Dec.{eqb}
+use borrow.Author.Tests.{eqb-true, eqb-false, eq-eqb, ltb-true, ltb-false}
+use lib.Dec.{eqb, ltb}
 use lib.ListN.{length, replicate}
 use Rattle.values.specs.declared.Reason.TheVariants.{AttributeAgain}
 use Rattle.wire.specs.Bytes.{pick, byte, two, end_of, fields_in}
@@ -16,49 +16,51 @@ use Rattle.wire.proofs.Laws.{byte_outside, high_length, stored_byte, zeros_byte}
 use Rattle.rules.specs.Outcome.{Outcome, refused, done, ◌>>=◌, refuse_if}
 use Rattle.rules.specs.Evaluate.{any}
 use Rattle.rules.specs.Run.{Given, is_given, named_once}
-use Rattle.attributes.specs.Names.{has_name, named_in, name_from, repeated_in, is_marked, Marked, Marks, Unmarked, Alike, alike_none, alike}
+use Rattle.attributes.specs.Names.{has_name, named_in, repeated_in, is_marked, Marked, Marks, Unmarked, Alike, alike_none, alike}
 use Rattle.std.specs.Prelude.{Option, Some, None}
+use Rattle.std.specs.List.{list_any, find}
+use Rattle.std.specs.Option.{option_map}
+use Rattle.catalog.specs.Finding.{Below}
 
--- ---- The ways of `is_named` and `has_name_from`: what is left from q on says what all of them say
+-- ---- What the chains of `is_named`, `has_name_from` and `find_named` find
 
-module _ (m : List ℕ) (first end q : ℕ) (f : ℕ → Bool) (left : any f (fields_in m q end) ≡ any f (fields_in m first end)) where
-  any_here : {b : Bool} → q < end → f q ≡ b → (b || any f (fields_in m (end_of m q) end)) ≡ any f (fields_in m first end)
-  unfolding any
-  any_here more is = ap (λ (x : Bool). x || any f (fields_in m (end_of m q) end)) (sym is) ∙ ap (any f) (sym (field_first m q end more)) ∙ left
+pub any_is : (f : ℕ → Bool) (qs : List ℕ) → list_any f qs ≡ any f qs
+unfolding any
+any_is f [] = refl
+any_is f (q ∷ qs) = ap (λ (b : Bool). f q || b) (any_is f qs)
 
-  pub any_found : q < end → f q ≡ true → true ≡ any f (fields_in m first end)
-  any_found more is = any_here more is
+pub named_is : (m : List ℕ) (n : ℕ) (qs : List ℕ) → find (has_name m n) qs ≡ named_in m n qs
+unfolding named_in
+named_is m n [] = refl
+named_is m n (q ∷ qs) = go (has_name m n q) (named_is m n qs)
+  where
+    go : (b : Bool) → find (has_name m n) qs ≡ named_in m n qs → cond b (Some q) (find (has_name m n) qs) ≡ pick b (Some q) (named_in m n qs)
+    go true later = refl
+    go false later = later
 
-  pub any_further : {r : ℕ} → q < end → f q ≡ false → r ≡ end_of m q → any f (fields_in m r end) ≡ any f (fields_in m first end)
-  any_further more is next = ap (λ (p : ℕ). any f (fields_in m p end)) next ∙ any_here more is
+-- what is found is before the end
+named_below : (m : List ℕ) (n e k p : ℕ) → e - p ≤ k → Below e (named_in m n (fields_in m p e))
+unfolding named_in Below
+named_below m n e zero p h = rw (no_fields m p e (omega arith)) tt
+named_below m n e (suc k) p h = go (λ r i. named_below m n e k r i) (ltb p e) refl
+  where
+    here : p < e → (b : Bool) → Below e (named_in m n (fields_in m (end_of m p) e)) → Below e (pick b (Some p) (named_in m n (fields_in m (end_of m p) e)))
+    here l true later = l
+    here l false later = later
 
-  pub any_nowhere : end ≤ q → false ≡ any f (fields_in m first end)
-  unfolding any
-  any_nowhere over = ap (any f) (sym (no_fields m q end over)) ∙ left
+    go : ((r : ℕ) → e - r ≤ k → Below e (named_in m n (fields_in m r e))) → (t : Bool) → ltb p e ≡ t → Below e (named_in m n (fields_in m p e))
+    go later false t = rw (no_fields m p e (ltb-false p e t)) tt
+    go later true t = let l : p < e = ltb-true p e t in rw (field_first m p e l) (here l (has_name m n p) (later (end_of m p) (omega arith)))
 
--- ---- The ways of `find_named`, likewise
+pub found_below : (m : List ℕ) (n p e : ℕ) {f : Option ℕ} → f ≡ named_in m n (fields_in m p e) → Below e f
+found_below m n p e is = rw is (named_below m n e (e - p) p (omega arith))
 
-module _ (m : List ℕ) (first end q name : ℕ) (left : named_in m name (fields_in m q end) ≡ named_in m name (fields_in m first end)) where
-  named_next : {b : Bool} → q < end → has_name m name q ≡ b → pick b (Some q) (named_in m name (fields_in m (end_of m q) end)) ≡ named_in m name (fields_in m first end)
-  unfolding named_in
-  named_next more is = ap (λ (x : Bool). pick x (Some q) (named_in m name (fields_in m (end_of m q) end))) (sym is) ∙ ap (named_in m name) (sym (field_first m q end more)) ∙ left
+same_option : (o : Option ℕ) → option_map (λ (q : ℕ). q) o ≡ o
+same_option None = refl
+same_option (Some q) = refl
 
-  pub named_found : q < end → has_name m name q ≡ true → Some q ≡ named_in m name (fields_in m first end)
-  named_found more is = named_next more is
-
-  pub named_further : {r : ℕ} → q < end → has_name m name q ≡ false → r ≡ end_of m q → named_in m name (fields_in m r end) ≡ named_in m name (fields_in m first end)
-  named_further more is next = ap (λ (p : ℕ). named_in m name (fields_in m p end)) next ∙ named_next more is
-
-  pub named_nowhere : end ≤ q → None ≡ named_in m name (fields_in m first end)
-  unfolding named_in
-  named_nowhere over = ap (named_in m name) (sym (no_fields m q end over)) ∙ left
-
-module _ (m : List ℕ) (limit q : ℕ) {n : ℕ} (read : n ≡ two m (q + 3)) where
-  pub name_past : limit ≤ n → name_from m limit q ≡ true
-  name_past l = le-leb limit (two m (q + 3)) (omega (arith, read, l))
-
-  pub name_below : n < limit → name_from m limit q ≡ false
-  name_below l = lt-leb limit (two m (q + 3)) (omega (arith, read, l))
+pub named_found : (m : List ℕ) (n : ℕ) (qs : List ℕ) {f : Option ℕ} → option_map (λ (q : ℕ). q) f ≡ find (has_name m n) qs → f ≡ named_in m n qs
+named_found m n qs {f} found = sym (same_option f) ∙ found ∙ named_is m n qs
 
 -- ---- The ways of `is_marked`, and one more mark
 

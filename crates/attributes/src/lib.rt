@@ -32,14 +32,7 @@ pub fn is_named(m: &[u8], first: usize, end: usize, name: u16) -> bool
     requires { end ≤ 65535 }
     ensures { result ≡ any (has_name m.now name) (fields_in m.now first end) }
 {
-    let mut q = first;
-    while q < end {
-        if wire::two_at(m, q + 3) == name {
-            return true;
-        }
-        q = wire::end_of(m, q);
-    }
-    false
+    wire::fields_in(m, first, end).any(|q| wire::two_at(m, q + 3) == name)
 }
 
 // The first of the attributes between two places that has this name.
@@ -47,14 +40,7 @@ pub fn find_named(m: &[u8], first: usize, end: usize, name: u16) -> Option<usize
     requires { end ≤ 65535 }
     ensures { (result ≡ named_in m.now name (fields_in m.now first end)) × Below end result }
 {
-    let mut q = first;
-    while q < end {
-        if wire::two_at(m, q + 3) == name {
-            return Some(q);
-        }
-        q = wire::end_of(m, q);
-    }
-    None
+    wire::fields_in(m, first, end).find(|q| wire::two_at(m, *q + 3) == name)
 }
 
 // Whether one of the attributes between two places has a name of `limit` or more.
@@ -62,14 +48,7 @@ pub fn has_name_from(m: &[u8], first: usize, end: usize, limit: u16) -> bool
     requires { end ≤ 65535 }
     ensures { result ≡ any (name_from m.now limit) (fields_in m.now first end) }
 {
-    let mut q = first;
-    while q < end {
-        if limit <= wire::two_at(m, q + 3) {
-            return true;
-        }
-        q = wire::end_of(m, q);
-    }
-    false
+    wire::fields_in(m, first, end).any(|q| limit <= wire::two_at(m, q + 3))
 }
 
 // Whether one of the fields from `first` up to q has this name, by the marks of the names below 1,024 that they have.
@@ -99,10 +78,8 @@ pub fn mark_names(m: &[u8], first: usize, end: usize, seen: &mut [u8])
     requires { (end ≤ 65535) × (1024 ≤ length seen.old) }
     ensures { Unmarked seen.old → Marked m.now seen.new first end }
 {
-    let mut q = first;
-    while q < end {
+    for q in wire::fields_in(m, first, end) {
         wire::put_byte(seen, wire::two_at(m, q + 3) as usize, 1);
-        q = wire::end_of(m, q);
     }
 }
 
@@ -115,12 +92,10 @@ pub fn find_repeated(m: &[u8], first: usize, end: usize) -> Option<usize>
         return None;
     }
     let mut seen = [0u8; 1024];
-    let mut q = first;
-    while q < end {
+    for q in wire::fields_in(m, first, end) {
         if is_again(m, first, q, wire::two_at(m, q + 3), &mut seen) {
             return Some(q);
         }
-        q = wire::end_of(m, q);
     }
     None
 }
@@ -184,14 +159,11 @@ pub fn evaluate_attributes(
     requires { (Sized m.now work.now out.now fill span.end × Siblings m.now depth Attribute span.first span.end) × Fresh m.now table.old (fields_in m.now span.first span.end) }
     ensures { GivenIn m.now work.now out.now fill scope depth span.first span.end table.new result }
 {
-    let end = span.end;
-    let mut q = span.first;
-    while q < end {
+    for q in wire::fields_in(m, span.first, span.end) {
         let mut set = [0u64; 4];
         let value = evaluator::evaluate(m, depth - 1, q + 5, work, out, fill, scope, &mut set)?;
         let labels = Labels::in_words(&set);
         add_given(table, wire::two_at(m, q + 3), Labelled { value, labels });
-        q = wire::end_of(m, q);
     }
     Ok(())
 }

@@ -75,7 +75,7 @@ fn is_struck(m: &[u8], p: usize, work: &[u8]) -> bool
 
 // The constant at p: its label joins the set.
 fn constant(m: &[u8], p: usize, work: &[u8], set: &mut [u64; 4]) -> Result<Value, Refusal>
-    requires { ((65536 ≤ length work.now) × (p ≤ 65535)) × (length set.old ≡ 4) }
+    requires { (65536 ≤ length work.now) × (p ≤ 65535) }
     ensures { Joined set.old set.new result (constant_in work.now (constant_at m.now p)) }
 {
     if is_struck(m, p, work) {
@@ -199,13 +199,12 @@ fn negated(operand: usize, x: Value) -> Result<Value, Refusal>
 
 // A variable in a scope, or else in those above it: the marks on the way join the set, and then the value's own labels.
 fn read_up(work: &[u8], p: usize, variable: Variable, set: &mut [u64; 4]) -> Result<Value, Refusal>
-    requires { ((65536 ≤ length work.now) × (p ≤ 65535)) × (length set.old ≡ 4) }
+    requires { (65536 ≤ length work.now) × (p ≤ 65535) }
     ensures { Joined set.old set.new result (variable_in work.now p variable) }
 {
     let name = variable.name;
     let mut at = variable.scope.number;
-    let mut left = variable.tries;
-    while 0 < left {
+    for _ in 0..variable.tries {
         if let Some(i) = cells::slot_for(work, at, name) {
             labels::join(set, cells::mark_at(work, i));
             if cells::has_value(work, i) {
@@ -217,7 +216,6 @@ fn read_up(work: &[u8], p: usize, variable: Variable, set: &mut [u64; 4]) -> Res
             return Err(Refusal::at(Reason::NoValue, p));
         };
         at = q;
-        left -= 1;
     }
     Err(Refusal::at(Reason::NoValue, p))
 }
@@ -304,7 +302,7 @@ fn variable_read(
     scope: Scope,
     set: &mut [u64; 4],
 ) -> Result<Value, Refusal>
-    requires { ((65536 ≤ length work.now) × (p ≤ 65535)) × (length set.old ≡ 4) }
+    requires { (65536 ≤ length work.now) × (p ≤ 65535) }
     ensures { Grows set.old set.new × ((out : List ℕ) (fill d : ℕ) → StandsAs m.now d Expression p → 0x13 ≤ byte m.now p → byte m.now p < 0x16 → TellsJoined m.now work.now out fill scope set.old set.new result (λ k c st. rules.evaluate k c st (expression_at m.now d p))) }
 {
     let variable = variable_at(m, p, work, scope).ok_or(Refusal::at(Reason::Unknown, p))?;
@@ -322,7 +320,7 @@ fn attribute_of(
     title: Value,
     set: &mut [u64; 4],
 ) -> Result<Value, Refusal>
-    requires { (Sized m.now work.now out.now fill p) × ((title_place ≤ 65535) × (length set.old ≡ 4)) }
+    requires { Sized m.now work.now out.now fill p × (title_place ≤ 65535) }
     ensures { Grows set.old set.new × ((k : Known) (es : List Entry) → Ready m.now work.now out.now fill k es → answered result (labels_in set.new) ≡ joining (labels_in set.old) (attribute_of k es p title_place (two m.now (p + 3)) (two m.now (p + 5)) title)) }
 {
     let Value::String(s) = title else {
@@ -353,7 +351,7 @@ fn operation(
     scope: Scope,
     set: &mut [u64; 4],
 ) -> Result<Value, Refusal>
-    requires { Sized m.now work.now out.now fill p × (length set.old ≡ 4) }
+    requires { Sized m.now work.now out.now fill p }
     ensures { Grows set.old set.new × ((d : ℕ) → OperationAt m.now d below p → TellsJoined m.now work.now out.now fill scope set.old set.new result (λ k c st. rules.evaluate k c st (expression_at m.now d p))) }
 {
     let left = place(p + 4);
@@ -381,7 +379,7 @@ fn negation(
     scope: Scope,
     set: &mut [u64; 4],
 ) -> Result<Value, Refusal>
-    requires { Sized m.now work.now out.now fill p × (length set.old ≡ 4) }
+    requires { Sized m.now work.now out.now fill p }
     ensures { Grows set.old set.new × ((d : ℕ) → NegationAt m.now d below p → TellsJoined m.now work.now out.now fill scope set.old set.new result (λ k c st. rules.evaluate k c st (expression_at m.now d p))) }
 {
     let operand = place(p + 3);
@@ -400,7 +398,7 @@ fn attribute_read(
     scope: Scope,
     set: &mut [u64; 4],
 ) -> Result<Value, Refusal>
-    requires { Sized m.now work.now out.now fill p × (length set.old ≡ 4) }
+    requires { Sized m.now work.now out.now fill p }
     ensures { Grows set.old set.new × ((d : ℕ) → AttributeReadAt m.now d below p → TellsJoined m.now work.now out.now fill scope set.old set.new result (λ k c st. rules.evaluate k c st (expression_at m.now d p))) }
 {
     let title = place(p + 7);
@@ -421,7 +419,7 @@ fn choose(
     scope: Scope,
     set: &mut [u64; 4],
 ) -> Result<Value, Refusal>
-    requires { Sized m.now work.now out.now fill p × (length set.old ≡ 4) }
+    requires { Sized m.now work.now out.now fill p }
     ensures { Grows set.old set.new × ((d : ℕ) → d ≡ suc inner → Siblings m.now d Arm (end_of m.now (p + 3)) (end_of m.now p) → end_of m.now p ≤ 65535 → TellsJoined m.now work.now out.now fill scope set.old set.new result (λ k c st. rules.select k (rules.arm_patterns k c st (arms_at m.now d (fields_in m.now (end_of m.now (p + 3)) (end_of m.now p)))) p x)) }
 {
     let first = wire::end_of(m, p + 3);
@@ -446,7 +444,7 @@ fn selector(
     scope: Scope,
     set: &mut [u64; 4],
 ) -> Result<Value, Refusal>
-    requires { Sized m.now work.now out.now fill p × (length set.old ≡ 4) }
+    requires { Sized m.now work.now out.now fill p }
     ensures { Grows set.old set.new × ((d : ℕ) → SelectorAt m.now d below p → TellsJoined m.now work.now out.now fill scope set.old set.new result (λ k c st. rules.evaluate k c st (expression_at m.now d p))) }
 {
     if below == 0 {
@@ -468,7 +466,7 @@ fn composed(
     scope: Scope,
     set: &mut [u64; 4],
 ) -> Result<Value, Refusal>
-    requires { Sized m.now work.now out.now fill p × (length set.old ≡ 4) }
+    requires { Sized m.now work.now out.now fill p }
     ensures { Grows set.old set.new × (StandsAs m.now depth Expression p → 0x16 ≤ byte m.now p → TellsJoined m.now work.now out.now fill scope set.old set.new result (λ k c st. rules.evaluate k c st (expression_at m.now depth p))) }
 {
     if depth == 0 {
@@ -496,7 +494,7 @@ pub fn evaluate(
     scope: Scope,
     set: &mut [u64; 4],
 ) -> Result<Value, Refusal>
-    requires { Sized m.now work.now out.now fill p × (length set.old ≡ 4) }
+    requires { Sized m.now work.now out.now fill p }
     ensures { Grows set.old set.new × (StandsAs m.now depth Expression p → TellsJoined m.now work.now out.now fill scope set.old set.new result (λ k c st. rules.evaluate k c st (expression_at m.now depth p))) }
 {
     let tag = wire::byte_at(m, p);

@@ -1,8 +1,8 @@
 -- What is kept of an input is enough: 256 bytes of the device name, and 65,536 of the manifest, give the schedule of the whole input.
 use mathlib.Core.Path.{◌≡◌, refl, sym, ap, ◌∙◌}
-use mathlib.Core.Bool.{Bool, true, false, ◌||◌}
-use mathlib.Core.List.{List}
-use Prim.Native.Nat.{ℕ, ◌≤◌, ◌<◌}
+use mathlib.Core.Bool.{Bool, true, false, ◌&&◌, ◌||◌}
+use mathlib.Core.List.{List, [], ◌∷◌}
+use Prim.Native.Nat.{ℕ, suc, ◌≤◌, ◌<◌}
 use native.Mathlib.Omega.{arith}
 use borrow.Author.Tests.{leb-true, leb-false}
 use lib.Dec.{eqb, ltb, leb}
@@ -19,13 +19,25 @@ use Rattle.rules.specs.Types.{the_eight, check_types}
 use Rattle.rules.specs.Compile.{same_bytes, string_at, names, is_default_node, with_node, is_node, items_for, none_struck_out, run_manifest, checked, final_state, compiled_from, compiled}
 use Rattle.rules.specs.Schedule.{text_of, before_feed, after_feed, schedule}
 use Rattle.rules.proofs.Lists.{Each}
-use Rattle.syntax.proofs.Texts.{other_length}
 use Rattle.syntax.proofs.StringsRead.{Short, numbered_short, short_strings, strings_read}
 use Rattle.syntax.proofs.Whole.{too_long, before_the_run}
 use Rattle.input.specs.Reading.{Reading, kept_line, kept_rest, reading_of}
 use Rattle.input.proofs.Feeding.{kept_line_lem, kept_rest_lem}
 use Rattle.std.specs.Prelude.{Ok, Err}
 use Rattle.rules.specs.Verdicts.{Verdict, no_fault}
+
+-- ---- Texts of two lengths differ
+
+and_false : (b : Bool) → (b && false) ≡ false
+and_false true = refl
+and_false false = refl
+
+pub other_length : (x y : List ℕ) → (length x ≡ length y → ⊥) → false ≡ same_bytes x y
+unfolding same_bytes
+other_length [] [] h = absurd (h refl)
+other_length [] (b ∷ y) h = refl
+other_length (a ∷ x) [] h = refl
+other_length (a ∷ x) (b ∷ y) h = sym (ap (λ (c : Bool). eqb a b && c) (sym (other_length x y (λ e. h (ap suc e)))) ∙ and_false (eqb a b))
 
 -- ---- The device name: no string of a sound manifest has more than 255 bytes
 

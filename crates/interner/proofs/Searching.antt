@@ -1,6 +1,6 @@
 -- One law for each way through a search among strings that rise.
 use Prim.Native.Nat.{ℕ, zero, suc, ◌+◌, ◌*◌, ◌<◌, ◌≤◌}
-use mathlib.Core.Path.{◌≡◌, refl, sym, ◌∙◌}
+use mathlib.Core.Path.{◌≡◌, refl, sym, ◌∙◌, subst}
 use mathlib.Core.Bool.{Bool, true, false}
 use mathlib.Core.List.{List}
 use native.Mathlib.Omega.{arith}
@@ -8,12 +8,12 @@ use lib.Dec.{eqb}
 use borrow.Author.Tests.{eqb-true, eqb-false}
 use Rattle.rules.specs.Bytes.{two}
 use Rattle.rules.specs.Check.{ascends}
-use Rattle.rules.proofs.Within.{false_not_true}
+use Rattle.std.specs.Prelude.{Result, Ok, Err}
 use Rattle.rules.proofs.Ascending.{before_both, all_rise}
 use Rattle.notation.specs.Quoted.{string_from}
 use Rattle.notation.proofs.WrittenNames.{Rising, next_string}
 use Rattle.interner.specs.Strings.{order_of}
-use Rattle.interner.specs.Table.{listed, entry_string, strings, Searched}
+use Rattle.interner.specs.Table.{listed, entry_string, strings, StandsAt, Belongs, Searched}
 use Rattle.interner.proofs.Told.{told_before, told_after, told_same}
 use Rattle.std.specs.declared.cmp.Ordering.TheVariants.{Less, Equal, Greater}
 
@@ -53,12 +53,19 @@ pub not_narrowed : (s : List ℕ) (f : ℕ → List ℕ) (count : ℕ) → Narro
 not_narrowed s f count = record { ordered = omega arith; within = omega arith; behind = λ j l. absurd (omega arith); before = λ j l h. absurd (omega arith) }
 
 -- where low meets high, the string is not there
-pub narrow_enough : (t table : List ℕ) {count : ℕ} (at : ℕ) {low high : ℕ} → Narrowed (string_from t at) (entry_string t table) count low high → high ≤ low → Searched t table count at false low
-narrow_enough t table at n l = record {
-  within = omega (arith, n.ordered, n.within);
-  standing = λ e. false_not_true e;
-  missing = λ e. record { within = omega (arith, n.ordered, n.within); behind = n.behind; before = λ j a b. n.before j (omega (arith, n.ordered)) b };
-}
+pub narrow_enough : (t table : List ℕ) {count : ℕ} (at : ℕ) {low high : ℕ} → Narrowed (string_from t at) (entry_string t table) count low high → high ≤ low → Searched t table count at (Err low)
+unfolding Searched
+narrow_enough t table at n l = record { within = omega (arith, n.ordered, n.within); behind = n.behind; before = λ j a b. n.before j (omega (arith, n.ordered)) b }
+
+-- where it stands, and where it belongs
+module _ (t table : List ℕ) {count i : ℕ} (at : ℕ) (r : Result ℕ ℕ) (searched : Searched t table count at r) where
+  pub stands_there : r ≡ Ok i → StandsAt (string_from t at) (entry_string t table) count i
+  unfolding Searched
+  stands_there e = subst (Searched t table count at) e searched
+
+  pub belongs_there : r ≡ Err i → Belongs (string_from t at) (entry_string t table) count i
+  unfolding Searched
+  belongs_there e = subst (Searched t table count at) e searched
 
 module _ (t table : List ℕ) {count : ℕ} (at : ℕ) {low high : ℕ} (place middle : ℕ) (up : Rising (strings t table count)) (is : place ≡ two table (2 * middle)) (n : Narrowed (string_from t at) (entry_string t table) count low high) (above : low ≤ middle) (below : middle < high) where
   entry_is : string_from t place ≡ entry_string t table middle
@@ -66,12 +73,9 @@ module _ (t table : List ℕ) {count : ℕ} (at : ℕ) {low high : ℕ} (place m
   entry_is = rw is
 
   -- it stands in the middle
-  pub found_here : Equal ≡ order_of (string_from t place) (string_from t at) → Searched t table count at true middle
-  found_here h = record {
-    within = omega (arith, n.within);
-    standing = λ e. record { within = omega (arith, n.within); same = sym entry_is ∙ told_same (string_from t place) (string_from t at) h };
-    missing = λ e. false_not_true (sym e);
-  }
+  pub found_here : Equal ≡ order_of (string_from t place) (string_from t at) → Searched t table count at (Ok middle)
+  unfolding Searched
+  found_here h = record { within = omega (arith, n.within); same = sym entry_is ∙ told_same (string_from t place) (string_from t at) h }
 
   -- it is behind the middle
   pub narrow_up : Less ≡ order_of (string_from t place) (string_from t at) → Narrowed (string_from t at) (entry_string t table) count (middle + 1) high

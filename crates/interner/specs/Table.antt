@@ -1,5 +1,5 @@
 -- The table of strings: for each the place in the text where it begins, in two bytes, rising by what the strings are.
-use Rattle.std.specs.Prelude.{ℕ, zero, suc, ◌+◌, ◌*◌, ◌<◌, ◌≤◌, ◌≡◌, Bool, true, false, List, [], ◌∷◌, length}
+use Rattle.std.specs.Prelude.{ℕ, zero, suc, ◌+◌, ◌*◌, ◌<◌, ◌≤◌, ◌≡◌, true, List, [], ◌∷◌, length, Result, Ok, Err}
 use Rattle.std.proofs.Math.Option.{some}
 use Rattle.rules.specs.Bytes.{byte, two}
 use Rattle.rules.specs.Check.{ascends}
@@ -33,10 +33,9 @@ pub record StandsAt (s : List ℕ) (f : ℕ → List ℕ) (count i : ℕ) : Type
   pub same : f i ≡ s
 
 -- what a search says of the string that begins at `at`: where it stands, or where it belongs if it is not there
-pub record Searched (t table : List ℕ) (count at : ℕ) (there : Bool) (i : ℕ) : Type 0 where
-  pub within : i ≤ count
-  pub standing : there ≡ true → StandsAt (string_from t at) (entry_string t table) count i
-  pub missing : there ≡ false → Belongs (string_from t at) (entry_string t table) count i
+unfoldable pub Searched : (t table : List ℕ) → (count at : ℕ) → Result ℕ ℕ → Type 0
+Searched t table count at (Ok i) = StandsAt (string_from t at) (entry_string t table) count i
+Searched t table count at (Err i) = Belongs (string_from t at) (entry_string t table) count i
 
 -- what a search asks for: a table of the strings that rise, each of which is there
 pub record Searchable (t table : List ℕ) (count : ℕ) : Type 0 where

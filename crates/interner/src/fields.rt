@@ -36,11 +36,9 @@ pub fn table_size(text: &[u8], table: &[u8], count: usize) -> usize
     ensures { (result ≡ length (table_bytes text.now table.now count)) × (result < 4294967296) }
 {
     let mut size = HEADER;
-    let mut i: usize = 0;
-    while i < count {
-        let place = wire::two_in(table, 2 * i) as usize;
+    for i in 0..count {
+        let place = usize::from(wire::two_in(table, 2 * i));
         size += HEADER + string_size(text, place);
-        i += 1;
     }
     size
 }
@@ -82,11 +80,9 @@ fn put_fields(text: &[u8], table: &[u8], count: usize, out: &mut [u8]) -> usize
     ensures { Put out.old out.new 3 result (write_all (string_fields (strings text.now table.now count))) }
 {
     let mut end = HEADER;
-    let mut i: usize = 0;
-    while i < count {
-        let place = wire::two_in(table, 2 * i) as usize;
+    for i in 0..count {
+        let place = usize::from(wire::two_in(table, 2 * i));
         end = put_field(text, place, out, end);
-        i += 1;
     }
     end
 }

@@ -173,17 +173,10 @@ pub fn compare(text: &[u8], a: usize, b: usize) -> Ordering
 
 // ---- The table
 
-// Where a string stands in the table, or where it belongs if it is not there.
-#[derive(Clone, Copy)]
-pub struct Found {
-    pub index: usize,
-    pub there: bool,
-}
-
-// The string that begins at `at`, among the first `count` of the table.
-pub fn search(text: &[u8], table: &[u8], count: usize, at: usize) -> Found
+// Where the string that begins at `at` stands among the first `count` of the table. The error is where it belongs.
+pub fn search(text: &[u8], table: &[u8], count: usize, at: usize) -> Result<usize, usize>
     requires { Searchable text.now table.now count }
-    ensures { Searched text.now table.now count at result.there result.index }
+    ensures { Searched text.now table.now count at result }
 {
     let mut low: usize = 0;
     let mut high = count;
@@ -192,31 +185,19 @@ pub fn search(text: &[u8], table: &[u8], count: usize, at: usize) -> Found
         let place = wire::two_in(table, 2 * middle) as usize;
         match compare(text, place, at) {
             Ordering::Less => low = middle + 1,
-            Ordering::Equal => {
-                return Found {
-                    index: middle,
-                    there: true,
-                };
-            }
+            Ordering::Equal => return Ok(middle),
             Ordering::Greater => high = middle,
         }
     }
-    Found {
-        index: low,
-        there: false,
-    }
+    Err(low)
 }
 
-// Moves the bytes between two places two bytes on, the last one first.
+// Moves the bytes between two places two bytes on.
 fn make_room(table: &mut [u8], from: usize, end: usize)
     requires { (from ≤ end) × (end + 2 ≤ length table.old) }
     ensures { Moved table.old table.new from end }
 {
-    let mut p = end;
-    while from < p {
-        p -= 1;
-        table[p + 2] = table[p];
-    }
+    table.copy_within(from..end, from + 2);
 }
 
 // The number of a string in the table, and how many strings the table has.
@@ -231,11 +212,10 @@ pub fn enter(text: &[u8], table: &mut [u8], count: usize, at: usize) -> Entered
     requires { Ready text.now table.old count at }
     ensures { Kept text.now table.old table.new count at result.number result.count }
 {
-    let found = search(text, table, count, at);
-    let number = found.index;
-    if found.there {
-        return Entered { number, count };
-    }
+    let number = match search(text, table, count, at) {
+        Ok(number) => return Entered { number, count },
+        Err(number) => number,
+    };
     make_room(table, 2 * number, 2 * count);
     wire::put_two(table, 2 * number, at as u16);
     Entered {

@@ -8,7 +8,9 @@ use native.Mathlib.Omega.{arith}
 use lib.Dec.{leb, eqb}
 use lib.ListN.{length, get_or}
 use lib.Seq.{slice, length-slice}
-use borrow.Author.Tests.{eqb-true, leb-true, le-leb, lt-leb}
+use borrow.Author.Tests.{leb-true, le-leb, lt-leb}
+use Rattle.std.specs.Prelude.{not, Option as CodeOption, Some, None}
+use Rattle.std.specs.Option.{is_some, unwrap_or}
 use Rattle.rules.specs.Bytes.{pick}
 use Rattle.notation.specs.Tokens.{Token, word, variable, mark, kind, a_variable, malformed, operand_behind, lexeme}
 use Rattle.notation.specs.Lexing.{is_letter, keywords, keyword_in, word_token, name_token, between, in_name, behind_dollar, in_variable, begins, step_byte, finish}
@@ -47,20 +49,20 @@ module _ (t : List ℕ) (p l : ℕ) (o : Bool) (e : ℕ) (letter : is_letter (ge
       found_fault t p l o bound (omega (arith, run.low, run.high)) (begins_token word_read long)
 
   -- it is the keyword k, or none
-  pub word_found : l ≤ p → e - p ≤ 255 → (k : ℕ) → kind_found k ≡ keyword_in keywords (slice p e t) → Found t p l o (plain_token k p l e)
+  pub word_found : l ≤ p → e - p ≤ 255 → (r : CodeOption ℕ) → kind_found r ≡ keyword_in keywords (slice p e t) → Found t p l o (plain_token (unwrap_or r 0) p l e)
   unfolding word_token
-  word_found bound h k f = go (eqb k 0) refl
+  word_found bound h r f = go r f
     where
       short : leb (length (slice p e t)) 255 ≡ true
       short = le-leb (length (slice p e t)) 255 (omega (arith, length-slice p e t run.high))
 
-      go : (b : Bool) → eqb k 0 ≡ b → Found t p l o (plain_token k p l e)
-      go true i =
-          let no : keyword_in keywords (slice p e t) ≡ none = sym f ∙ rw i in
+      go : (r : CodeOption ℕ) → kind_found r ≡ keyword_in keywords (slice p e t) → Found t p l o (plain_token (unwrap_or r 0) p l e)
+      go None f =
+          let no : keyword_in keywords (slice p e t) ≡ none = sym f in
           let meant : word_token (slice p e t) ≡ word (slice p e t) = rw (short, no) in
-          rw (eqb-true k 0 i) (found_word t p l o bound e record { some_byte = omega (arith, run.low); at_most_255 = omega arith; spelled = run_spelled t p e (omega (arith, run.low)) (with_letter t p (p + 1) e refl letter run) } run.high (rw meant at word_read))
-      go false i =
-          let some_keyword : keyword_in keywords (slice p e t) ≡ some k = sym f ∙ rw i in
+          found_word t p l o bound e record { some_byte = omega (arith, run.low); at_most_255 = omega arith; spelled = run_spelled t p e (omega (arith, run.low)) (with_letter t p (p + 1) e refl letter run) } run.high (rw meant at word_read)
+      go (Some k) f =
+          let some_keyword : keyword_in keywords (slice p e t) ≡ some k = sym f in
           let meant : word_token (slice p e t) ≡ mark k = rw (short, some_keyword) in
           let all = run_in_word t e (e - p) p (omega (arith, run.low)) run.high (with_letter t p (p + 1) e refl letter run).inside in
           found_mark t p l o bound k e (keyword_bound (slice p e t) k all some_keyword) (omega (arith, run.low)) run.high (rw meant at word_read)
@@ -89,13 +91,13 @@ pub long_no_name : (w : List ℕ) → 255 < length w → name_fits w ≡ false
 unfolding name_fits
 long_no_name w h = rw (lt-leb (length w) 255 h)
 
-pub name_by_kind : (w : List ℕ) (k : ℕ) → length w ≤ 255 → kind_found k ≡ keyword_in keywords w → name_fits w ≡ eqb k 0
+pub name_by_kind : (w : List ℕ) (r : CodeOption ℕ) → length w ≤ 255 → kind_found r ≡ keyword_in keywords w → name_fits w ≡ not (is_some r)
 unfolding name_fits no_keyword
-name_by_kind w k h e = rw (le-leb (length w) 255 h, sym e) (go (eqb k 0))
+name_by_kind w r h e = rw (le-leb (length w) 255 h, sym e) (go r)
   where
-    go : (b : Bool) → no_keyword (pick b none (some k)) ≡ b
-    go true = refl
-    go false = refl
+    go : (r : CodeOption ℕ) → no_keyword (kind_found r) ≡ not (is_some r)
+    go None = refl
+    go (Some k) = refl
 
 -- ---- $x
 

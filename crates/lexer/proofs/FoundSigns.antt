@@ -8,6 +8,7 @@ use native.Mathlib.Omega.{arith}
 use lib.Dec.{ltb, eqb}
 use lib.ListN.{length, get_or, get_or-eq_default}
 use borrow.Author.Tests.{ltb-true, ltb-false}
+use Rattle.std.specs.Prelude.{Option as CodeOption, Some, None}
 use Rattle.rules.proofs.Within.{false_not_true}
 use Rattle.notation.specs.Tokens.{mark, end_of_text, malformed, minus_sign, two_equals, arrow, equals, operand_behind, lexeme}
 use Rattle.notation.specs.Lexing.{is_space, is_letter, is_digit, is_quote, find, signs, or_else, ends, fails, between, behind_minus, behind_equals, in_number, begins, step_byte, finish}
@@ -86,11 +87,11 @@ module _ (t : List ℕ) (p l : ℕ) (bound : l ≤ p) (high : p < length t) (her
 -- ---- Signs of one byte
 
 -- the code's token by the kind found
-pub sign_meant : (k : ℕ) (x : Option ℕ) (p l : ℕ) → kind_found k ≡ x → eqb k 0 ≡ false → plain_token k p l (p + 1) ≡ sign_token x p l
-sign_meant k x p l e h = rw (sym e, h)
+pub sign_meant : (k : ℕ) (r : CodeOption ℕ) (x : Option ℕ) (p l : ℕ) → kind_found r ≡ x → r ≡ Some k → plain_token k p l (p + 1) ≡ sign_token x p l
+sign_meant k r x p l e h = rw (sym e, h)
 
-pub no_sign_meant : (k : ℕ) (x : Option ℕ) (p l : ℕ) → kind_found k ≡ x → eqb k 0 ≡ true → plain_token malformed p l p ≡ sign_token x p l
-no_sign_meant k x p l e h = rw (sym e, h)
+pub no_sign_meant : (r : CodeOption ℕ) (x : Option ℕ) (p l : ℕ) → kind_found r ≡ x → r ≡ None → plain_token malformed p l p ≡ sign_token x p l
+no_sign_meant r x p l e h = rw (sym e, h)
 
 -- a byte that is no gap begins something
 gap_parts : (c : ℕ) → is_gap c ≡ false → (is_space c ≡ false) × (eqb c 0x23 ≡ false) × (eqb c 0x0a ≡ false)

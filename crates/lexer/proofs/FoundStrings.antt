@@ -20,7 +20,9 @@ use Rattle.lexer.specs.declared.Token as found
 use Rattle.lexer.specs.declared.Quoted.{Quoted}
 use Rattle.notation.specs.Quoted.{escape_of, unquoted, quoted_at}
 use Rattle.lexer.specs.Found.{lex_from, tokens_from, plain_token, token_in, Begins, Found}
-use Rattle.lexer.specs.Strings.{is_escape, escape_at, piece_size, StringRun}
+use Rattle.std.specs.Prelude.{Option as CodeOption, Some, None}
+use Rattle.std.specs.Option.{is_some}
+use Rattle.lexer.specs.Strings.{is_escape, escape_at, piece_size, StringRun, StringRead}
 use Rattle.lexer.proofs.Scanning.{stepped, stepped_on, stepped_to}
 use Rattle.lexer.proofs.Ends.{token_closed, begins_behind, begins_token, breaks_off}
 use Rattle.lexer.proofs.Spelling.{quoted_spelled}
@@ -70,6 +72,9 @@ unfolding begins is_quote
 quote_begins o c p l h = quote_cases (λ (c : ℕ). begins o p l c ≡ reads [] (in_string p l c [])) c h refl refl
 
 -- ---- A part of a string
+
+none_not_some : {A B : Type 0} {a : A} → None ≡ Some a → B
+none_not_some e = false_not_true (ap is_some e)
 
 -- the bytes from `at` to i, of which the last is on line k, stand for n bytes
 pub record StringPart (t : List ℕ) (at line quote i k n : ℕ) : Type 0 where
@@ -129,38 +134,44 @@ module _ (t : List ℕ) (quote i k : ℕ) (high : i < length t) (other : eqb (ge
       rw (drop-cons t i 0 high, other, e, behind)
 
   -- one byte of the string is read
-  pub part_more : {at line n : ℕ} → StringPart t at line quote i k n → (0 < piece_size t i) → StringPart t at line quote (i + piece_size t i) (line_behind (get_or t i 0) k) (n + 1)
-  part_more {at} {line} {n} part h = go (eqb (get_or t i 0) 0x5c) (escape_at t (i + 1)) refl refl h
+  pub part_more : {at line n : ℕ} (m : ℕ) → StringPart t at line quote i k n → piece_size t i ≡ Some m → StringPart t at line quote (i + m) (line_behind (get_or t i 0) k) (n + 1)
+  part_more {at} {line} {n} m part h = go (eqb (get_or t i 0) 0x5c) (escape_at t (i + 1)) refl refl h
     where
-      go : (a b : Bool) → eqb (get_or t i 0) 0x5c ≡ a → escape_at t (i + 1) ≡ b → 0 < pick a (pick b 2 0) 1 → StringPart t at line quote (i + pick a (pick b 2 0) 1) (line_behind (get_or t i 0) k) (n + 1)
-      go false b e f j = longer (i + 1) (line_behind (get_or t i 0) k) (get_or t i 0) part (plain_content e) (plain_read e)
+      go : (a b : Bool) → eqb (get_or t i 0) 0x5c ≡ a → escape_at t (i + 1) ≡ b → pick a (pick b (Some 2) None) (Some 1) ≡ Some m → StringPart t at line quote (i + m) (line_behind (get_or t i 0) k) (n + 1)
+      go false b e f j =
+          let size : m ≡ 1 = cc in
+          rw size (longer (i + 1) (line_behind (get_or t i 0) k) (get_or t i 0) part (plain_content e) (plain_read e))
       go true true e f j =
+          let size : m ≡ 2 = cc in
           let here : line_behind (get_or t i 0) k ≡ k = rw (eqb-true (get_or t i 0) 0x5c e) in
-          rw here (longer (i + 2) k (escape_of (get_or t (i + 1) 0)) part (escape_content e f) (escape_read e f))
-      go true false e f j = absurd (omega arith)
+          rw (size, here) (longer (i + 2) k (escape_of (get_or t (i + 1) 0)) part (escape_content e f) (escape_read e f))
+      go true false e f j = none_not_some j
 
   -- an escape is malformed
-  pub part_broken : {at line n : ℕ} → StringPart t at line quote i k n → piece_size t i ≡ 0 → (p l : ℕ) → Begins (lexeme p l (mark malformed)) (lex_from t at line (in_string p l quote []))
+  pub part_broken : {at line n : ℕ} → StringPart t at line quote i k n → piece_size t i ≡ None → (p l : ℕ) → Begins (lexeme p l (mark malformed)) (lex_from t at line (in_string p l quote []))
   unfolding step_byte finish
   part_broken {at} {line} {n} part h p l = go (eqb (get_or t i 0) 0x5c) (escape_at t (i + 1)) refl refl h
     where
       letter : escape_at t (i + 1) ≡ false → i + 1 < length t → is_escape (get_or t (i + 1) 0) ≡ false
       letter f j = rw (lt-ltb (i + 1) (length t) j) at f
 
-      go : (a b : Bool) → eqb (get_or t i 0) 0x5c ≡ a → escape_at t (i + 1) ≡ b → ◌≡◌ {A = ℕ} (pick a (pick b 2 0) 1) 0 → Begins (lexeme p l (mark malformed)) (lex_from t at line (in_string p l quote []))
-      go false b e f j = absurd (omega arith)
-      go true true e f j = absurd (omega arith)
+      go : (a b : Bool) → eqb (get_or t i 0) 0x5c ≡ a → escape_at t (i + 1) ≡ b → ◌≡◌ {A = CodeOption ℕ} (pick a (pick b (Some 2) None) (Some 1)) None → Begins (lexeme p l (mark malformed)) (lex_from t at line (in_string p l quote []))
+      go false b e f j = none_not_some (sym j)
+      go true true e f j = none_not_some (sym j)
       go true false e f j =
           begins_behind (part.same_tokens p l ∙ backslash_read e p l part.content) (breaks_off t (i + 1) (in_escape p l quote part.content) k p l (λ g. rw (no_escape (get_or t (i + 1) 0) (letter f g))) refl)
 
 -- a piece stands in the text
-pub piece_high : (t : List ℕ) (i : ℕ) → i < length t → i + piece_size t i ≤ length t
-piece_high t i h = go (eqb (get_or t i 0) 0x5c) (escape_at t (i + 1)) refl
+pub piece_within : (t : List ℕ) (i m : ℕ) → i < length t → piece_size t i ≡ Some m → (0 < m) × (i + m ≤ length t)
+piece_within t i m h = go (eqb (get_or t i 0) 0x5c) (escape_at t (i + 1)) refl
   where
-    go : (a b : Bool) → escape_at t (i + 1) ≡ b → i + pick a (pick b 2 0) 1 ≤ length t
-    go false b f = omega arith
-    go true true f = let next = ltb-true (i + 1) (length t) (both_true (ltb (i + 1) (length t)) (is_escape (get_or t (i + 1) 0)) f).0 in omega arith
-    go true false f = omega arith
+    go : (a b : Bool) → escape_at t (i + 1) ≡ b → pick a (pick b (Some 2) None) (Some 1) ≡ Some m → (0 < m) × (i + m ≤ length t)
+    go false b f j = let size : m ≡ 1 = cc in (omega arith, omega arith)
+    go true true f j =
+        let size : m ≡ 2 = cc in
+        let next = ltb-true (i + 1) (length t) (both_true (ltb (i + 1) (length t)) (is_escape (get_or t (i + 1) 0)) f).0 in
+        (omega arith, omega arith)
+    go true false f j = none_not_some j
 
 -- the text ends in the string
 pub part_unclosed : {t : List ℕ} {at line quote i k n : ℕ} → StringPart t at line quote i k n → length t ≤ i → (p l : ℕ) → Begins (lexeme p l (mark malformed)) (lex_from t at line (in_string p l quote []))
@@ -192,25 +203,32 @@ abbrev pub text_found : (p l e k : ℕ) → found.Token
 text_found p l e k = record { kind = a_text; start = p; line = l; end = e; line_behind = k; class_end = 0; value = pos 0 }
 
 -- the string whose quote is at p
-module _ (t : List ℕ) (p l : ℕ) (o : Bool) (high : p < length t) (bound : l ≤ p) (quoted : is_quote (get_or t p 0) ≡ true) (r : Quoted) (run : StringRun t (p + 1) l (get_or t p 0) r) where
+module _ (t : List ℕ) (p l : ℕ) (o : Bool) (high : p < length t) (bound : l ≤ p) (quoted : is_quote (get_or t p 0) ≡ true) (read : CodeOption Quoted) (run_read : StringRead t (p + 1) l (get_or t p 0) read) where
   string_begun : tokens_from t p l o ≡ lex_from t (p + 1) l (in_string p l (get_or t p 0) [])
   unfolding step_byte
   string_begun = stepped_on t p (between o) (in_string p l (get_or t p 0) []) l high (quote_begins o (get_or t p 0) p l quoted) (quote_no_feed (get_or t p 0) quoted)
 
-  pub string_faulty : r.closed ≡ false → Found t p l o (plain_token malformed p l p)
-  string_faulty h = found_fault t p l o bound (omega arith) (begins_behind string_begun (run.broken h p l))
+  pub string_faulty : read ≡ None → Found t p l o (plain_token malformed p l p)
+  unfolding StringRead
+  string_faulty h = let broken = subst (StringRead t (p + 1) l (get_or t p 0)) h run_read in found_fault t p l o bound (omega arith) (begins_behind string_begun (broken p l))
 
-  pub string_long : r.closed ≡ true → 255 < r.size → Found t p l o (plain_token malformed p l p)
+  closed_run : (r : Quoted) → read ≡ Some r → StringRun t (p + 1) l (get_or t p 0) r
+  unfolding StringRead
+  closed_run r h = subst (StringRead t (p + 1) l (get_or t p 0)) h run_read
+
+  pub string_long : (r : Quoted) → read ≡ Some r → 255 < r.size → Found t p l o (plain_token malformed p l p)
   unfolding text_token
-  string_long h j =
-      let size = run.sized h in
+  string_long r h j =
+      let run = closed_run r h in
+      let size = run.sized in
       let meant : text_token (quoted_at t p) ≡ mark malformed = rw (lt-leb (length (quoted_at t p)) 255 (omega arith)) in
-      found_fault t p l o bound (omega arith) (begins_token (string_begun ∙ run.whole h p l) meant)
+      found_fault t p l o bound (omega arith) (begins_token (string_begun ∙ run.whole p l) meant)
 
-  pub string_found : r.closed ≡ true → r.size ≤ 255 → Found t p l o (text_found p l r.end r.line)
+  pub string_found : (r : Quoted) → read ≡ Some r → r.size ≤ 255 → Found t p l o (text_found p l r.end r.line)
   unfolding text_token token_in
-  string_found h j =
-      let size = run.sized h in
+  string_found r h j =
+      let run = closed_run r h in
+      let size = run.sized in
       let meant : text_token (quoted_at t p) ≡ text (quoted_at t p) = rw (le-leb (length (quoted_at t p)) 255 (omega arith)) in
       found_token t p l o bound (text_found p l r.end r.line) refl refl (omega (arith, run.low)) run.high run.line_low run.line_bound (λ g. omega arith) (λ g. omega arith)
       record {
@@ -222,4 +240,4 @@ module _ (t : List ℕ) (p l : ℕ) (o : Bool) (high : p < length t) (bound : l 
         text_size = λ g. omega arith;
         text_spelled = λ g. quoted_spelled t p quoted;
       }
-      (rw meant at (string_begun ∙ run.whole h p l))
+      (rw meant at (string_begun ∙ run.whole p l))

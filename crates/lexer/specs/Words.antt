@@ -1,7 +1,6 @@
 -- Words as numbers.
-use Rattle.std.specs.Prelude.{ℕ, ◌+◌, ◌*◌, List, [], ◌∷◌, Bool, ◌&&◌, leb, eqb, length}
+use Rattle.std.specs.Prelude.{ℕ, ◌+◌, ◌*◌, List, [], ◌∷◌, Bool, ◌&&◌, leb, length, Option as CodeOption, Some, None}
 use Rattle.std.proofs.Math.Option.{Option, none, some}
-use Rattle.rules.specs.Bytes.{pick}
 use Rattle.notation.specs.Tokens.{and_word, or_word, true_word, false_word, default_word, if_word, else_word, case_word, class_word, include_word, node_word, define_word, inherits_word}
 use Rattle.notation.specs.Lexing.{keywords, keyword_in}
 use Rattle.notation.specs.Printer.{no_keyword}
@@ -11,9 +10,10 @@ unfoldable pub little : List ℕ → ℕ
 little [] = 0
 little (c ∷ cs) = little cs * 256 + c
 
--- the code's 0 for "no such kind"
-abbrev pub kind_found : ℕ → Option ℕ
-kind_found k = pick (eqb k 0) none (some k)
+-- the kind that the code found, as the definition has it
+abbrev pub kind_found : CodeOption ℕ → Option ℕ
+kind_found None = none
+kind_found (Some k) = some k
 
 -- the keywords by their numbers
 abbrev pub keyword_numbers : List (ℕ × ℕ)

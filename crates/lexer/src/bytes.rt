@@ -7,33 +7,33 @@ ghost use Rattle.lexer.specs.Scanned.{is_gap};
 pub fn is_letter(c: u8) -> bool
     ensures { result ≡ is_letter c }
 {
-    (97 <= c) & (c <= 122)
+    c.is_ascii_lowercase()
 }
 
 pub fn is_digit(c: u8) -> bool
     ensures { result ≡ is_digit c }
 {
-    (48 <= c) & (c <= 57)
+    c.is_ascii_digit()
 }
 
 // A letter, a digit or an underscore.
 pub fn in_word(c: u8) -> bool
     ensures { result ≡ in_word c }
 {
-    ((97 <= c) & (c <= 122)) | (((48 <= c) & (c <= 57)) | (c == 95))
+    is_letter(c) | (is_digit(c) | (c == b'_'))
 }
 
 pub fn is_quote(c: u8) -> bool
     ensures { result ≡ is_quote c }
 {
-    (c == 39) | (c == 34)
+    (c == b'\'') | (c == b'"')
 }
 
 // White space, or the # of a comment.
 pub fn is_gap(c: u8) -> bool
     ensures { result ≡ is_gap c }
 {
-    ((c == 32) | ((c == 9) | ((c == 13) | (c == 10)))) | (c == 35)
+    ((c == b' ') | ((c == b'\t') | ((c == b'\r') | (c == b'\n')))) | (c == b'#')
 }
 
 // The line behind a byte.
@@ -41,7 +41,7 @@ pub fn line_behind(c: u8, line: usize) -> usize
     requires { line < 18446744073709551615 }
     ensures { result ≡ line_behind c line }
 {
-    if c == 10 {
+    if c == b'\n' {
         return line + 1;
     }
     line

@@ -13,8 +13,8 @@ fn four_follow(text: &[u8], at: usize) -> bool
     if text.len() - at < 4 {
         return false;
     }
-    let first = (text[at] == 10) | (text[at + 1] == 10);
-    let last = (text[at + 2] == 10) | (text[at + 3] == 10);
+    let first = (text[at] == b'\n') | (text[at + 1] == b'\n');
+    let last = (text[at + 2] == b'\n') | (text[at + 3] == b'\n');
     !(first | last)
 }
 
@@ -35,14 +35,12 @@ fn comment_end(text: &[u8], at: usize) -> usize
     requires { at ≤ length text.now }
     ensures { CommentRun text.now at result }
 {
-    let mut i: usize = pass_fours(text, at);
-    while i < text.len() {
-        if text[i] == 10 {
+    for i in pass_fours(text, at)..text.len() {
+        if text[i] == b'\n' {
             return i;
         }
-        i += 1;
     }
-    i
+    text.len()
 }
 
 // Behind the byte c of white space at `at`, or behind the comment that it begins.
@@ -50,7 +48,7 @@ fn gap_end(text: &[u8], at: usize, c: u8) -> usize
     requires { (at < length text.now) × (c ≡ get_or text.now at 0) × (is_gap c ≡ true) }
     ensures { GapRun text.now at result }
 {
-    if c == 35 {
+    if c == b'#' {
         return comment_end(text, at + 1);
     }
     at + 1

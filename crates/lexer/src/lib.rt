@@ -38,10 +38,9 @@ pub struct Digits {
     pub value: u64,
 }
 
-// A string behind its opening quote: whether it is closed, where it ends and on which line, and how many bytes it stands for.
+// A string that is closed: where it ends and on which line, and how many bytes it stands for.
 #[derive(Clone, Copy)]
 pub struct Quoted {
-    pub closed: bool,
     pub end: usize,
     pub line: usize,
     pub size: usize,
@@ -71,19 +70,19 @@ fn token_at(text: &[u8], at: usize, line: usize, operand: bool) -> Token
     if is_letter(c) {
         return word_token(text, at, line);
     }
-    if c == 36 {
+    if c == b'$' {
         return variable_token(text, at, line);
     }
     if is_digit(c) {
         return number_token(text, at, line, at, false);
     }
-    if (c == 45) & operand {
+    if (c == b'-') & operand {
         return minus_token(text, at, line);
     }
     if is_quote(c) {
         return string_token(text, at, line);
     }
-    if c == 61 {
+    if c == b'=' {
         return equals_token(text, at, line);
     }
     sign_token(c, at, line)

@@ -4,7 +4,7 @@ ghost use Rattle.notation.specs.Lexing.{is_digit};
 ghost use Rattle.lexer.specs.Numbers.{more_digits, DigitsRun, word_at, largest_of, signed_of, DigitRead};
 ghost use Rattle.lexer.specs.Found.{Found};
 
-use crate::bytes::{in_word, wide};
+use crate::bytes::{in_word, is_digit};
 use crate::plain::plain;
 use crate::{Digits, Token};
 use notation::kinds::{A_NUMBER, MALFORMED};
@@ -13,7 +13,7 @@ use notation::kinds::{A_NUMBER, MALFORMED};
 fn is_more(c: u8, n: u64) -> bool
     ensures { result ≡ more_digits c n }
 {
-    ((48 <= c) & (c <= 57)) & ((1 <= n) & (n <= 922337203685477580))
+    is_digit(c) & ((1 <= n) & (n <= 922337203685477580))
 }
 
 // The digits from `at` on, behind the first one.
@@ -22,16 +22,17 @@ fn read_digits(text: &[u8], at: usize, first: u64) -> Digits
     ensures { DigitsRun text.now at first result }
 {
     let mut n = first;
-    let mut i = at;
-    while i < text.len() {
+    for i in at..text.len() {
         let c = text[i];
         if !is_more(c, n) {
             return Digits { end: i, value: n };
         }
-        n = n * 10 + wide(c - 48);
-        i += 1;
+        n = n * 10 + u64::from(c - b'0');
     }
-    Digits { end: i, value: n }
+    Digits {
+        end: text.len(),
+        value: n,
+    }
 }
 
 // A byte of a word at `at`.
@@ -74,7 +75,7 @@ pub fn number_token(text: &[u8], start: usize, line: usize, from: usize, negativ
     requires { (line ≤ start) × (start ≤ from) × (from < length text.now) × (is_digit (get_or text.now from 0) ≡ true) }
     ensures { (o : Bool) → DigitRead text.now start line o from negative → Found text.now start line o result }
 {
-    let d = read_digits(text, from + 1, wide(text[from] - 48));
+    let d = read_digits(text, from + 1, u64::from(text[from] - b'0'));
     let end = d.end;
     let n = d.value;
     if word_at(text, end) {

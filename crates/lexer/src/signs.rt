@@ -8,29 +8,33 @@ use crate::Token;
 use crate::bytes::is_digit;
 use crate::numbers::number_token;
 use crate::plain::plain;
-use notation::kinds::{ARROW, EQUALS, MALFORMED, MINUS_SIGN, TWO_EQUALS};
+use notation::kinds::{
+    ABOVE, ARROW, COLON, COMMA, EQUALS, EXCLAMATION, LEFT_BRACE, LEFT_ROUND, LEFT_SQUARE,
+    MALFORMED, MINUS_SIGN, PLUS_SIGN, QUESTION, RIGHT_BRACE, RIGHT_ROUND, RIGHT_SQUARE, SLASH,
+    TWO_EQUALS,
+};
 use wire::byte_at;
 
-// The kind of the sign of one byte, or 0.
-fn sign_kind(c: u8) -> u8
+// The kind of the sign of one byte.
+fn sign_kind(c: u8) -> Option<u8>
     ensures { kind_found result ≡ find c signs }
 {
     match c {
-        b'{' => 7,
-        b'}' => 8,
-        b'(' => 9,
-        b')' => 10,
-        b'[' => 11,
-        b']' => 12,
-        b':' => 13,
-        b',' => 14,
-        b'+' => 18,
-        b'-' => 19,
-        b'/' => 20,
-        b'>' => 21,
-        b'!' => 17,
-        b'?' => 16,
-        _ => 0,
+        b'{' => Some(LEFT_BRACE),
+        b'}' => Some(RIGHT_BRACE),
+        b'(' => Some(LEFT_ROUND),
+        b')' => Some(RIGHT_ROUND),
+        b'[' => Some(LEFT_SQUARE),
+        b']' => Some(RIGHT_SQUARE),
+        b':' => Some(COLON),
+        b',' => Some(COMMA),
+        b'+' => Some(PLUS_SIGN),
+        b'-' => Some(MINUS_SIGN),
+        b'/' => Some(SLASH),
+        b'>' => Some(ABOVE),
+        b'!' => Some(EXCLAMATION),
+        b'?' => Some(QUESTION),
+        _ => None,
     }
 }
 
@@ -41,10 +45,10 @@ pub fn equals_token(text: &[u8], start: usize, line: usize) -> Token
 {
     let next = start + 1;
     let c = byte_at(text, next);
-    if c == 61 {
+    if c == b'=' {
         return plain(TWO_EQUALS, start, line, next + 1);
     }
-    if c == 62 {
+    if c == b'>' {
         return plain(ARROW, start, line, next + 1);
     }
     plain(EQUALS, start, line, next)
@@ -67,9 +71,8 @@ pub fn sign_token(c: u8, start: usize, line: usize) -> Token
     requires { start < 18446744073709551615 }
     ensures { result ≡ sign_token (find c signs) start line }
 {
-    let kind = sign_kind(c);
-    if kind == 0 {
-        return plain(MALFORMED, start, line, start);
+    match sign_kind(c) {
+        Some(kind) => plain(kind, start, line, start + 1),
+        None => plain(MALFORMED, start, line, start),
     }
-    plain(kind, start, line, start + 1)
 }

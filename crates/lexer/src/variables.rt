@@ -30,7 +30,7 @@ fn two_colons(text: &[u8], at: usize) -> bool
     if text.len() - at < 2 {
         return false;
     }
-    (text[at] == 58) & (text[at + 1] == 58)
+    (text[at] == b':') & (text[at + 1] == b':')
 }
 
 // $::a::x, with the second two colons at `colons`.
@@ -71,7 +71,7 @@ fn qualified_variable(text: &[u8], start: usize, line: usize) -> Token
     if text.len() - start <= 3 {
         return plain(MALFORMED, start, line, start);
     }
-    if text[start + 2] != 58 {
+    if text[start + 2] != b':' {
         return plain(MALFORMED, start, line, start);
     }
     if !is_letter(text[start + 3]) {
@@ -100,7 +100,7 @@ pub fn variable_token(text: &[u8], start: usize, line: usize) -> Token
     if is_letter(c) {
         return simple_variable(text, start, line);
     }
-    if c == 58 {
+    if c == b':' {
         return qualified_variable(text, start, line);
     }
     plain(MALFORMED, start, line, start)

@@ -7,23 +7,24 @@ ghost use Rattle.lexer.specs.Words.{little, kind_found, keyword_numbers, name_fi
 ghost use Rattle.lexer.specs.Found.{Found};
 
 use crate::Token;
-use crate::bytes::{in_word, wide};
+use crate::bytes::in_word;
 use crate::plain::plain;
-use notation::kinds::MALFORMED;
+use notation::kinds::{
+    A_WORD, AND_WORD, CASE_WORD, CLASS_WORD, DEFAULT_WORD, DEFINE_WORD, ELSE_WORD, FALSE_WORD,
+    IF_WORD, INCLUDE_WORD, INHERITS_WORD, MALFORMED, NODE_WORD, OR_WORD, TRUE_WORD,
+};
 
 // The end of the letters, digits and underscores from `at` on.
 pub fn word_end(text: &[u8], at: usize) -> usize
     requires { at ≤ length text.now }
     ensures { WordRun text.now at result }
 {
-    let mut i: usize = at;
-    while i < text.len() {
+    for i in at..text.len() {
         if !in_word(text[i]) {
             return i;
         }
-        i += 1;
     }
-    i
+    text.len()
 }
 
 // The bytes from `start` to `end` as one number, the first byte the lowest.
@@ -32,43 +33,41 @@ fn word_number(text: &[u8], start: usize, end: usize) -> u64
     ensures { result ≡ little (slice start end text.now) }
 {
     let mut n: u64 = 0;
-    let mut i = end;
-    while start < i {
-        i -= 1;
-        n = n * 256 + wide(text[i]);
+    for i in (start..end).rev() {
+        n = n * 256 + u64::from(text[i]);
     }
     n
 }
 
-// The kind of the keyword with this number, or 0.
-fn keyword_kind(n: u64) -> u8
+// The kind of the keyword with this number.
+fn keyword_kind(n: u64) -> Option<u8>
     ensures { kind_found result ≡ find n keyword_numbers }
 {
     match n {
-        0x646e61 => 24, // and
-        0x65736163 => 31, // case
-        0x7373616c63 => 32, // class
-        0x746c7561666564 => 28, // default
-        0x656e69666564 => 35, // define
-        0x65736c65 => 30, // else
-        0x65736c6166 => 27, // false
-        0x6669 => 29, // if
-        0x6564756c636e69 => 33, // include
-        0x7374697265686e69 => 36, // inherits
-        0x65646f6e => 34, // node
-        0x726f => 25, // or
-        0x65757274 => 26, // true
-        _ => 0,
+        0x646e61 => Some(AND_WORD), // and
+        0x65736163 => Some(CASE_WORD), // case
+        0x7373616c63 => Some(CLASS_WORD), // class
+        0x746c7561666564 => Some(DEFAULT_WORD), // default
+        0x656e69666564 => Some(DEFINE_WORD), // define
+        0x65736c65 => Some(ELSE_WORD), // else
+        0x65736c6166 => Some(FALSE_WORD), // false
+        0x6669 => Some(IF_WORD), // if
+        0x6564756c636e69 => Some(INCLUDE_WORD), // include
+        0x7374697265686e69 => Some(INHERITS_WORD), // inherits
+        0x65646f6e => Some(NODE_WORD), // node
+        0x726f => Some(OR_WORD), // or
+        0x65757274 => Some(TRUE_WORD), // true
+        _ => None,
     }
 }
 
-// The kind of the keyword that the word from `start` to `end` is, or 0.
-fn keyword_at(text: &[u8], start: usize, end: usize) -> u8
+// The kind of the keyword that the word from `start` to `end` is.
+fn keyword_at(text: &[u8], start: usize, end: usize) -> Option<u8>
     requires { WordRun text.now start end }
     ensures { kind_found result ≡ keyword_in keywords (slice start end text.now) }
 {
     if 8 < end - start {
-        return 0;
+        return None;
     }
     keyword_kind(word_number(text, start, end))
 }
@@ -81,7 +80,7 @@ pub fn is_name(text: &[u8], start: usize, end: usize) -> bool
     if 255 < end - start {
         return false;
     }
-    keyword_at(text, start, end) == 0
+    keyword_at(text, start, end).is_none()
 }
 
 // The word or keyword whose letter is at `start`.
@@ -93,5 +92,6 @@ pub fn word_token(text: &[u8], start: usize, line: usize) -> Token
     if 255 < end - start {
         return plain(MALFORMED, start, line, start);
     }
-    plain(keyword_at(text, start, end), start, line, end)
+    let kind = keyword_at(text, start, end).unwrap_or(A_WORD);
+    plain(kind, start, line, end)
 }

@@ -1,18 +1,17 @@
 -- What a call leaves, told with a word, and what a word tells. Assumes nothing.
-use Prim.Native.Nat.{ℕ, ◌+◌, ◌*◌, ◌≤◌, ◌<◌}
-use mathlib.Core.Path.{◌≡◌, sym, ap, ◌∙◌}
+use Prim.Native.Nat.{ℕ, ◌≤◌, ◌<◌}
+use mathlib.Core.Path.{◌≡◌, ap, ◌∙◌}
 use mathlib.Core.List.{List}
 use native.Mathlib.Omega.{arith}
 use Rattle.values.specs.declared.Reason.{Reason}
 use Rattle.values.specs.declared.SetPart.{SetPart}
 use Rattle.values.specs.declared.SetPart.TheVariants.{Title, Path, Trail, Marks, Value}
-use Rattle.values.specs.Numbers.{number_of, part_number, accepted, refused, said}
+use Rattle.values.specs.Numbers.{number_of, part_number, accepted, refused}
 use Rattle.rules.specs.Why.{Told}
 use Rattle.values.proofs.Reasons.{number_range}
 use Rattle.notation.specs.Convert.{Effect, accepted as written, refusal, said as said_of_text}
 use Rattle.library.specs.Called.{word_of, text_word, Tells, explanation_word, Answers}
-use Rattle.std.specs.Prelude.{Ok}
-use Rattle.values.specs.Answers.{Answer, Explanation, among_none, among_part, catalog_with, refused_for}
+use Rattle.values.specs.Answers.{Explanation, among_part, refused_for}
 use Rattle.notation.specs.Answers.{Answer as TextAnswer}
 
 -- what a call leaves, told with a word

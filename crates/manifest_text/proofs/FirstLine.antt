@@ -2,30 +2,38 @@
 use Rattle.std.specs.Prelude.{None, Some}
 use Rattle.manifest_text.specs.declared.Command.TheVariants.{Place}
 use Rattle.manifest_text.specs.Commands.{BuiltIn, Asked}
-use Prim.Native.Nat.{ℕ, ◌+◌, ◌≤◌, ◌<◌}
+use Prim.Native.Nat.{ℕ, ◌+◌, ◌-◌, ◌*◌, ◌≤◌, ◌<◌, min}
 use mathlib.Core.Path.{◌≡◌, refl, sym, ap, ◌∙◌}
 use mathlib.Core.Bool.{Bool, true, false}
 use mathlib.Core.List.{List, [], ◌∷◌}
-use native.Mathlib.Numerals.{add-one}
 use native.Mathlib.Omega.{arith}
-use borrow.Author.Tests.{leb-true, leb-false, ltb-false, lt-ltb, le-ltb}
+use borrow.Author.Tests.{leb-true, leb-false, ltb-true, ltb-false, lt-ltb, le-ltb}
 use lib.Dec.{leb, ltb, lit≤}
-use lib.ListN.{length, take, drop, length-take, length-drop, drop_of_length-le}
-use lib.Seq.{take_all, take-take, drop-cons}
-use Rattle.rules.specs.Bytes.{pick, byte}
+use lib.ListN.{length, take, drop, length-take, length-drop}
+use lib.Seq.{take_all, take-take}
+use Rattle.rules.specs.Bytes.{pick}
 use Rattle.rules.specs.Compile.{same_bytes}
-use Rattle.syntax.proofs.Texts.{other_length}
+use Rattle.input.proofs.Kept.{other_length}
+use Rattle.input.specs.Numbers.{with_digit as digit_to, spelled as spelled_to}
 use Rattle.manifest_text.specs.Commands.{with_digit, spelled, offset_of, place_asked, command_of, names_types, command_behind, command_in, types_in}
 
 -- ---- Digits
 
-pub digit_more : (line : List ℕ) (i n : ℕ) → i < length line → spelled (drop (i + 1) line) (with_digit n (byte line i)) ≡ spelled (drop i line) n
-unfolding spelled
-digit_more line i n h = rw (add-one, drop-cons line i 0 h) refl
+-- digit by digit the same as with the limit 99,999
+same_digit : (n c : ℕ) → with_digit n c ≡ digit_to 99999 n c
+unfolding with_digit digit_to
+same_digit n c = go (ltb c 48) (ltb 57 c) refl (ltb 9999 n) refl
+  where
+    go : (a b : Bool) → ltb 57 c ≡ b → (d : Bool) → ltb 9999 n ≡ d → pick a 100000 (pick b 100000 (pick d 100000 (n * 10 + (c - 48)))) ≡ pick a (99999 + 1) (pick b (99999 + 1) (min (99999 + 1) (n * 10 + (c - 48))))
+    go true b e d f = omega arith
+    go false true e d f = omega arith
+    go false false e true f = omega (arith, ltb-true 9999 n f)
+    go false false e false f = omega (arith, ltb-false 57 c e, ltb-false 9999 n f)
 
-pub digits_end : (line : List ℕ) (i n : ℕ) → length line ≤ i → n ≡ spelled (drop i line) n
-unfolding spelled
-digits_end line i n h = rw drop_of_length-le refl
+pub same_spelled : (cs : List ℕ) (n : ℕ) → spelled_to 99999 cs n ≡ spelled cs n
+unfolding spelled spelled_to
+same_spelled [] n = refl
+same_spelled (c ∷ cs) n = sym (ap (spelled_to 99999 cs) (same_digit n c)) ∙ same_spelled cs (with_digit n c)
 
 -- the whole number: one to five digits
 module _ (line : List ℕ) where
@@ -136,7 +144,7 @@ pick_low : (b : Bool) {n : ℕ} → n ≤ 100000 → pick b 100000 n ≤ 100000
 pick_low true h = omega arith
 pick_low false h = h
 
-offset_low : (line : List ℕ) → offset_of line ≤ 100000
+pub offset_low : (line : List ℕ) → offset_of line ≤ 100000
 unfolding offset_of
 offset_low line = pick_low (ltb (length line) 7) (pick_low (ltb 11 (length line)) (spelled_low (drop 6 line) 0 (omega arith)))
 

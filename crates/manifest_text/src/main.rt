@@ -11,13 +11,15 @@ ghost use Rattle.rules.specs.Schedule.{refusal_line};
 ghost use Rattle.notation.specs.Convert.{convert};
 ghost use Rattle.notation.specs.Printer.{print};
 ghost use Rattle.catalog.specs.Making.{stored};
+ghost use Rattle.input.specs.Numbers.{up_to};
 ghost use Rattle.input.specs.Reading.{reading, reading_of};
 ghost use Rattle.schedule.specs.Appending.{fitted};
 ghost use Rattle.standard_streams.specs.Sending.{ComesNext, Left, LastLine};
 ghost use Rattle.text_places.specs.Places.{PlaceGiven};
-ghost use Rattle.manifest_text.specs.Commands.{with_digit, offset_of, place_asked, command_of, names_types, command_behind, command_in, types_in};
+ghost use Rattle.manifest_text.specs.Commands.{offset_of, place_asked, command_of, names_types, command_behind, command_in, types_in};
 ghost use Rattle.manifest_text.specs.Answers.{types_given, bytes_given, numbered_text, answer_text, AnAnswer, AllSent, InputSent};
 
+use input::numbers::number_spelled;
 use input::{Progress, past};
 use notation::Answer;
 use schedule::pieces::{finish, put_number, put_text};
@@ -36,48 +38,24 @@ pub enum Command {
 
 // ---- The first line
 
-// The number n with one digit more; 100,000 where the byte is no digit or there are too many.
-fn with_digit(n: usize, byte: u8) -> usize
-    ensures { result ≡ with_digit n byte }
-{
-    if byte < 48 {
-        return 100000;
-    }
-    if 57 < byte {
-        return 100000;
-    }
-    if 9999 < n {
-        return 100000;
-    }
-    n * 10 + (byte - 48) as usize
-}
-
-// The number that the one to five digits behind `place ` spell; 100,000 where there is none.
-fn offset_of(line: &[u8]) -> usize
-    ensures { result ≡ offset_of line.now }
+// The number that the one to five digits behind `place ` spell.
+fn offset_of(line: &[u8]) -> Option<usize>
+    ensures { result ≡ up_to 99999 (offset_of line.now) }
 {
     if line.len() < 7 {
-        return 100000;
+        return None;
     }
     if 11 < line.len() {
-        return 100000;
+        return None;
     }
-    let mut n: usize = 0;
-    let mut i: usize = 6;
-    while i < line.len() {
-        n = with_digit(n, line[i]);
-        i += 1;
-    }
-    n
+    let number = number_spelled(99999, past(line, 6))?;
+    Some(number as usize)
 }
 
 fn place_asked(line: &[u8]) -> Option<Command>
     ensures { result ≡ place_asked line.now }
 {
-    let field = offset_of(line);
-    if 99999 < field {
-        return None;
-    }
+    let field = offset_of(line)?;
     Some(Command::Place { field })
 }
 
@@ -109,9 +87,7 @@ fn names_types(line: &[u8]) -> bool
 fn command_behind(line: &[u8]) -> Option<Command>
     ensures { result ≡ command_behind line.now }
 {
-    if 99999 < offset_of(first(line, 11)) {
-        return None;
-    }
+    offset_of(first(line, 11))?;
     if same_bytes(b" ", first(past(line, 11), 1)) {
         return command_of(past(line, 12));
     }
@@ -132,7 +108,7 @@ fn types_in(line: &[u8]) -> Option<usize>
     ensures { result ≡ types_in line.now }
 {
     if names_types(line) {
-        return Some(offset_of(first(line, 11)));
+        return Some(offset_of(first(line, 11)).unwrap_or(100000));
     }
     None
 }

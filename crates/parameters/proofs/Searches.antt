@@ -56,7 +56,10 @@ tag_within m q {t} read is = go (ltb q (length m)) refl
 
 -- ---- The ways of `find_unknown`: what is left from q on says what all of them say
 
-module _ (m ps : List ℕ) (first end q : ℕ) (left : unknown_in m ps (fields_in m q end) ≡ unknown_in m ps (fields_in m first end)) where
+abbrev pub Unknown : (m ps : List ℕ) → (first end q : ℕ) → Type 0
+Unknown m ps first end q = unknown_in m ps (fields_in m q end) ≡ unknown_in m ps (fields_in m first end)
+
+module _ (m ps : List ℕ) (first end q : ℕ) (left : Unknown m ps first end q) where
   module _ (more : q < end) {n : ℕ} {b : Bool} (read : n ≡ two m (q + 3)) (named : b ≡ any (has_name m n) ps) where
     choice : pick b (unknown_in m ps (fields_in m (end_of m q) end)) (Some q) ≡ unknown_in m ps (fields_in m first end)
     unfolding unknown_in

@@ -1,6 +1,6 @@
 -- The ways of `store_parameter` and `store_parameters`. Assumes nothing.
 use Prim.Native.Nat.{ℕ, ◌+◌, ◌≤◌, ◌<◌}
-use mathlib.Core.Path.{◌≡◌, refl, sym, ap, ap₂, ◌∙◌}
+use mathlib.Core.Path.{◌≡◌, refl, sym, ap, ap₂, ◌∙◌, subst}
 use mathlib.Core.List.{List}
 use native.Mathlib.Omega.{arith}
 use Rattle.values.specs.declared.Refusal.{Refusal}
@@ -57,6 +57,10 @@ pub record Storing (m t w₀ w : List ℕ) (from to q : ℕ) (here : Here) : Typ
 
 pub storing_begins : (m t w : List ℕ) (from to : ℕ) (here : Here) → SmallNames m (fields_in m from to) → Storing m t w w from to from here
 storing_begins m t w from to here s = record { small = s; keeps = keeps_same w; left = λ gs vs g e. record { values = vs; are = e; same = λ es n r. refl } }
+
+-- the same at the place q, where that is p
+pub storing_here : {m t w₀ w : List ℕ} {from to p q : ℕ} {here : Here} → p ≡ q → Storing m t w₀ w from to p here → Storing m t w₀ w from to q here
+storing_here {m} {t} {w₀} {w} {from} {to} {here = here} e i = subst (λ (j : ℕ). Storing m t w₀ w from to j here) e i
 
 module _ {m t w₀ w : List ℕ} {from to q : ℕ} {here : Here} (i : Storing m t w₀ w from to q here) where
   module _ (more : q < to) where

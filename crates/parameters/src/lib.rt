@@ -43,12 +43,10 @@ fn find_unknown(m: &[u8], first: usize, end: usize, from: usize, to: usize) -> O
     }
     let mut seen = [0u8; 1024];
     attributes::mark_names(m, from, to, &mut seen);
-    let mut q = first;
-    while q < end {
+    for q in wire::fields_in(m, first, end) {
         if !attributes::is_marked(m, from, to, wire::two_at(m, q + 3), &seen) {
             return Some(q);
         }
-        q = wire::end_of(m, q);
     }
     None
 }
@@ -72,12 +70,10 @@ fn find_missing(m: &[u8], from: usize, to: usize, table: &[u8]) -> Option<usize>
     requires { to ≤ 65535 }
     ensures { (result ≡ missing_in m.now table.now (fields_in m.now from to)) × Below to result }
 {
-    let mut q = from;
-    while q < to {
+    for q in wire::fields_in(m, from, to) {
         if value_of(m, q, table).is_none() {
             return Some(q);
         }
-        q = wire::end_of(m, q);
     }
     None
 }
@@ -132,11 +128,8 @@ fn store_parameters(
     requires { ((parameters.end ≤ 65535) × ((65536 ≤ length work.old) × (length m.now ≤ 65535))) × (Siblings m.now 31 Parameter parameters.first parameters.end × SmallNames m.now (fields_in m.now parameters.first parameters.end)) }
     ensures { Assigns m.now table.now work.old work.new parameters.first parameters.end here result }
 {
-    let to = parameters.end;
-    let mut q = parameters.first;
-    while q < to {
+    for q in wire::fields_in(m, parameters.first, parameters.end) {
         store_parameter(m, q, table, work, here)?;
-        q = wire::end_of(m, q);
     }
     Ok(())
 }
@@ -165,12 +158,10 @@ fn struck_default(m: &[u8], from: usize, to: usize, table: &[u8], work: &[u8]) -
     if memory::none_struck_out(work) {
         return None;
     }
-    let mut q = from;
-    while q < to {
+    for q in wire::fields_in(m, from, to) {
         if takes_struck(m, q, table, work) {
             return Some(q + 5);
         }
-        q = wire::end_of(m, q);
     }
     None
 }

@@ -4,6 +4,7 @@ use mathlib.Core.Path.{◌≡◌, refl, sym, ap, ◌∙◌}
 use mathlib.Core.Bool.{Bool, true, false}
 use mathlib.Core.List.{List, [], ◌∷◌}
 use mathlib.Core.Option.{Option, none, some}
+use Rattle.std.specs.Prelude.{Option as CodeOption, Some, None}
 use native.Mathlib.Omega.{arith}
 use lib.Dec.{eqb}
 use lib.ListN.{length}
@@ -14,28 +15,27 @@ use Rattle.notation.specs.Grammar.{Row, row, manifest}
 use Rattle.parse_table.specs.Codes.{symbol_of, symbols_onto, symbols_in, action_of, actions_from, actions_in, row_in, left_out_in}
 use Rattle.parse_table.specs.Stack.{stack_of}
 use Rattle.parse_table.specs.declared.rows.Row.{Row as CodedRow}
-use Rattle.parse_table.specs.declared.table.LeftOut.{LeftOut}
 use Rattle.parse_table.proofs.Pushing.{limit}
 use Rattle.parse_table.proofs.Bound.{Kept, stack_bound}
 
 -- ---- Rows, and what is left out
 
-module _ (r : CodedRow) {o : Option Row} (e : row_in r ≡ o) where
+module _ (r : CodeOption CodedRow) {o : Option Row} (e : row_in r ≡ o) where
   -- the token is taken
-  pub row_taken : r.taken ≡ true → o ≡ some (row (actions_in r.actions) (symbols_in r.symbols))
-  row_taken t = sym e ∙ rw t
+  pub row_taken : (w : CodedRow) → r ≡ Some w → o ≡ some (row (actions_in w.actions) (symbols_in w.symbols))
+  row_taken w t = sym e ∙ rw t
 
   -- the token is not taken
-  pub row_not_taken : r.taken ≡ false → o ≡ none
+  pub row_not_taken : r ≡ None → o ≡ none
   row_not_taken t = sym e ∙ rw t
 
-module _ (r : LeftOut) {o : Option (List Action)} (e : left_out_in r ≡ o) where
+module _ (r : CodeOption ℕ) {o : Option (List Action)} (e : left_out_in r ≡ o) where
   -- the symbol may be left out
-  pub out_allowed : r.allowed ≡ true → o ≡ some (actions_in r.actions)
-  out_allowed t = sym e ∙ rw t
+  pub out_allowed : (actions : ℕ) → r ≡ Some actions → o ≡ some (actions_in actions)
+  out_allowed actions t = sym e ∙ rw t
 
   -- the symbol is needed
-  pub out_needed : r.allowed ≡ false → o ≡ none
+  pub out_needed : r ≡ None → o ≡ none
   out_needed t = sym e ∙ rw t
 
 -- ---- Actions

@@ -1,5 +1,5 @@
 -- The codes of the grammar's symbols and actions, as the code has them.
-use Rattle.std.specs.Prelude.{ℕ, zero, suc, ◌-◌, ◌/◌, ◌%◌, ◌&&◌, List, [], ◌∷◌, leb, ltb, eqb}
+use Rattle.std.specs.Prelude.{ℕ, zero, suc, ◌-◌, ◌/◌, ◌%◌, ◌&&◌, List, [], ◌∷◌, leb, ltb, eqb, Option as CodeOption, Some, None}
 use Rattle.std.proofs.Math.Option.{Option, none, some}
 use Rattle.rules.specs.Bytes.{pick}
 use Rattle.notation.specs.Tokens.{a_word, a_number, a_text, left_brace, right_brace, true_word, false_word, default_word}
@@ -7,7 +7,6 @@ use Rattle.notation.specs.Lexing.{find}
 use Rattle.notation.specs.Building.{byte, Action, begin, begin_resource, around, instead, close, constant, read, named, parent_first, void, enter, leave}
 use Rattle.notation.specs.Grammar.{arm, attribute, parameter, Symbol, sign, a_name, expression, operators, read_or_word, close_bracket, one, maybe, further, statements, block, otherwise, branches, items, class_rest, parameters, default_value, a_constant, inherits, parent, devices, device, more_devices, ends, Row, row}
 use Rattle.parse_table.specs.declared.rows.Row.{Row as CodedRow}
-use Rattle.parse_table.specs.declared.table.LeftOut.{LeftOut}
 
 -- ---- Symbols
 
@@ -101,12 +100,14 @@ actions_in x = actions_from 4 x
 -- ---- What the code answers
 
 -- a row of the table, if the token is taken
-abbrev pub row_in : CodedRow → Option Row
-row_in r = pick r.taken (some (row (actions_in r.actions) (symbols_in r.symbols))) none
+abbrev pub row_in : CodeOption CodedRow → Option Row
+row_in None = none
+row_in (Some r) = some (row (actions_in r.actions) (symbols_in r.symbols))
 
 -- what is done where the symbol is left out, if it may be
-abbrev pub left_out_in : LeftOut → Option (List Action)
-left_out_in r = pick r.allowed (some (actions_in r.actions)) none
+abbrev pub left_out_in : CodeOption ℕ → Option (List Action)
+left_out_in None = none
+left_out_in (Some actions) = some (actions_in actions)
 
 -- rows of constants alike, and of patterns
 abbrev pub constants_in : (actions symbols : ℕ) → List (ℕ × Row)

@@ -7,7 +7,7 @@ use crate::actions::{
     AROUND_ABOVE, AROUND_AND, AROUND_EQUALS, AROUND_MINUS, AROUND_OR, AROUND_PLUS, AROUND_SELECTOR,
     AROUND_SLASH, BEGIN_NOT, CONSTANT, ENTER, READ,
 };
-use crate::rows::{NOT_TAKEN, Row, taken};
+use crate::rows::{Row, taken};
 use notation::kinds::{
     A_NUMBER, A_QUALIFIED, A_TEXT, A_VARIABLE, A_WORD, ABOVE, AND_WORD, EQUALS, EXCLAMATION,
     FALSE_WORD, LEFT_ROUND, MINUS_SIGN, OR_WORD, PLUS_SIGN, QUESTION, SLASH, TRUE_WORD, TWO_EQUALS,
@@ -31,7 +31,7 @@ const RIGHT_SIDE: u64 = 0x31_3e_00;
 const TO_RIGHT_SIDE: u64 = 0x1_00_00;
 
 // An expression of some level: operators from this level on may follow the operand.
-pub fn operand_row(symbol: u8, kind: u8) -> Row
+pub fn operand_row(symbol: u8, kind: u8) -> Option<Row>
     requires { (0x31 ≤ symbol) × (symbol ≤ 0x38) }
     ensures { row_in result ≡ row_of (expression (symbol - 0x30)) kind }
 {
@@ -47,7 +47,7 @@ pub fn operand_row(symbol: u8, kind: u8) -> Row
         A_QUALIFIED => taken(READ, then),
         EXCLAMATION => taken(BEGIN_NOT, then + AN_OPERAND),
         LEFT_ROUND => taken(ENTER, then + IN_BRACKETS),
-        _ => NOT_TAKEN,
+        _ => None,
     }
 }
 
@@ -68,12 +68,12 @@ fn allows(symbol: u8, level: u8) -> bool
 }
 
 // An operator of this level with a right side, which binds tighter.
-fn operation(symbol: u8, level: u8, action: u32) -> Row
+fn operation(symbol: u8, level: u8, action: u32) -> Option<Row>
     requires { 0x48 ≤ symbol }
     ensures { row_in result ≡ operation_in (symbol / 8 - 8) (symbol % 8) level action }
 {
     if !allows(symbol, level) {
-        return NOT_TAKEN;
+        return None;
     }
     taken(
         action,
@@ -81,18 +81,18 @@ fn operation(symbol: u8, level: u8, action: u32) -> Row
     )
 }
 
-fn selector(symbol: u8) -> Row
+fn selector(symbol: u8) -> Option<Row>
     requires { 0x48 ≤ symbol }
     ensures { row_in result ≡ selector_in (symbol / 8 - 8) (symbol % 8) }
 {
     if !allows(symbol, 3) {
-        return NOT_TAKEN;
+        return None;
     }
     taken(AROUND_SELECTOR, up_to(symbol, 3) + ARMS)
 }
 
 // Operators of some levels, from tightest: / + - == = > ? and or.
-pub fn operator_row(symbol: u8, kind: u8) -> Row
+pub fn operator_row(symbol: u8, kind: u8) -> Option<Row>
     requires { 0x48 ≤ symbol }
     ensures { row_in result ≡ row_of (operators (symbol / 8 - 8) (symbol % 8)) kind }
 {
@@ -106,6 +106,6 @@ pub fn operator_row(symbol: u8, kind: u8) -> Row
         QUESTION => selector(symbol),
         AND_WORD => operation(symbol, 2, AROUND_AND),
         OR_WORD => operation(symbol, 1, AROUND_OR),
-        _ => NOT_TAKEN,
+        _ => None,
     }
 }

@@ -7,46 +7,35 @@ ghost use Rattle.parse_table.specs.Codes.{actions_in, symbols_in, constants_in, 
 
 use notation::kinds::{A_NUMBER, A_TEXT, A_WORD, DEFAULT_WORD, FALSE_WORD, TRUE_WORD};
 
-// Whether the token is taken. If so, its actions, a byte each with the first one lowest, and the symbols that come instead, a byte each with the last
+// A row where the token is taken: its actions, a byte each with the first one lowest, and the symbols that come instead, a byte each with the last
 // one lowest: they are put on the stack in this order.
 #[derive(Clone, Copy)]
 pub struct Row {
-    pub taken: bool,
     pub actions: u32,
     pub symbols: u64,
 }
 
-pub const NOT_TAKEN: Row = Row {
-    taken: false,
-    actions: 0,
-    symbols: 0,
-};
-
 pub const NO_SYMBOLS: u64 = 0;
 
-pub fn taken(actions: u32, symbols: u64) -> Row
+pub fn taken(actions: u32, symbols: u64) -> Option<Row>
     ensures { row_in result ≡ some (row (actions_in actions) (symbols_in symbols)) }
 {
-    Row {
-        taken: true,
-        actions: actions,
-        symbols: symbols,
-    }
+    Some(Row { actions, symbols })
 }
 
 // A symbol that takes one kind.
-pub fn only(wanted: u8, kind: u8, actions: u32, symbols: u64) -> Row
+pub fn only(wanted: u8, kind: u8, actions: u32, symbols: u64) -> Option<Row>
     ensures { row_in result ≡ only_of wanted kind (actions_in actions) (symbols_in symbols) }
 {
     if kind == wanted {
         taken(actions, symbols)
     } else {
-        NOT_TAKEN
+        None
     }
 }
 
 // A symbol that takes a constant.
-pub fn constant_row(kind: u8, actions: u32, symbols: u64) -> Row
+pub fn constant_row(kind: u8, actions: u32, symbols: u64) -> Option<Row>
     ensures { row_in result ≡ find kind (constants_in actions symbols) }
 {
     match kind {
@@ -55,12 +44,12 @@ pub fn constant_row(kind: u8, actions: u32, symbols: u64) -> Row
         A_TEXT => taken(actions, symbols),
         TRUE_WORD => taken(actions, symbols),
         FALSE_WORD => taken(actions, symbols),
-        _ => NOT_TAKEN,
+        _ => None,
     }
 }
 
 // A symbol that takes default or a constant.
-pub fn pattern_row(kind: u8, default: u32, constant: u32, symbols: u64) -> Row
+pub fn pattern_row(kind: u8, default: u32, constant: u32, symbols: u64) -> Option<Row>
     ensures { row_in result ≡ find kind (patterns_in default constant symbols) }
 {
     match kind {

@@ -9,7 +9,7 @@ use crate::actions::{
     BEGIN_IF, BEGIN_INCLUDE, BEGIN_NODE, BEGIN_RESOURCE, CLOSE, EMPTY_DEFAULT, NAMED, NONE, SECOND,
     THIRD,
 };
-use crate::rows::{NO_SYMBOLS, NOT_TAKEN, Row, taken};
+use crate::rows::{NO_SYMBOLS, Row, taken};
 use notation::kinds::{
     A_TEXT, A_VARIABLE, A_WORD, CASE_WORD, CLASS_WORD, DEFAULT_WORD, DEFINE_WORD, IF_WORD,
     INCLUDE_WORD, LEFT_BRACE, LEFT_ROUND, NODE_WORD,
@@ -66,7 +66,7 @@ const DEFINITION: u32 = BEGIN_DEFINITION + SECOND * NAMED;
 const DEVICE_NAME: u32 = BEGIN_DEVICE + SECOND * NAMED + THIRD * CLOSE;
 
 // A statement, and the symbol behind it.
-fn statement_row(kind: u8, next: u64) -> Row
+fn statement_row(kind: u8, next: u64) -> Option<Row>
     requires { (0 < next) × (next < 256) }
     ensures { row_in result ≡ find kind (statement_rows (symbol_of next)) }
 {
@@ -76,11 +76,11 @@ fn statement_row(kind: u8, next: u64) -> Row
         CASE_WORD => taken(BEGIN_CASE, VALUE_BRANCHES + next),
         A_WORD => taken(RESOURCE, TITLE_ATTRIBUTES + next),
         INCLUDE_WORD => taken(BEGIN_INCLUDE, CLASS_NAME + next),
-        _ => NOT_TAKEN,
+        _ => None,
     }
 }
 
-pub fn statements_row(kind: u8) -> Row
+pub fn statements_row(kind: u8) -> Option<Row>
     ensures { row_in result ≡ row_of statements kind }
 {
     match kind {
@@ -89,7 +89,7 @@ pub fn statements_row(kind: u8) -> Row
     }
 }
 
-pub fn items_row(kind: u8) -> Row
+pub fn items_row(kind: u8) -> Option<Row>
     ensures { row_in result ≡ row_of items kind }
 {
     match kind {
@@ -101,28 +101,28 @@ pub fn items_row(kind: u8) -> Row
 }
 
 // Behind class outside of blocks: a class with attributes, or a definition.
-pub fn class_row(kind: u8) -> Row
+pub fn class_row(kind: u8) -> Option<Row>
     ensures { row_in result ≡ row_of class_rest kind }
 {
     match kind {
         LEFT_BRACE => taken(BEGIN_CLASS, BEHIND_BRACE),
         A_WORD => taken(DEFINITION, BEHIND_NAME),
-        _ => NOT_TAKEN,
+        _ => None,
     }
 }
 
-pub fn device_row(kind: u8) -> Row
+pub fn device_row(kind: u8) -> Option<Row>
     ensures { row_in result ≡ row_of device kind }
 {
     match kind {
         A_TEXT => taken(DEVICE_NAME, FURTHER_DEVICES),
         A_WORD => taken(DEVICE_NAME, FURTHER_DEVICES),
-        _ => NOT_TAKEN,
+        _ => None,
     }
 }
 
 // Behind node: default, or devices in brackets or not.
-pub fn devices_row(kind: u8) -> Row
+pub fn devices_row(kind: u8) -> Option<Row>
     ensures { row_in result ≡ row_of devices kind }
 {
     match kind {

@@ -8,7 +8,7 @@ use crate::actions::{
     EMPTY_BLOCK, EMPTY_DEFAULT, INSTEAD, LEAVE, NAMED, NONE, PARENT_FIRST, SECOND,
 };
 use crate::expressions::{operand_row, operator_row};
-use crate::rows::{NO_SYMBOLS, NOT_TAKEN, Row, constant_row, only, pattern_row};
+use crate::rows::{NO_SYMBOLS, Row, constant_row, only, pattern_row};
 use crate::statements::{class_row, device_row, devices_row, items_row, statements_row};
 use crate::symbols::{
     A_NAME, BLOCK, BRANCHES, CLASS_REST, CLOSE_BRACKET, DEFAULT_VALUE, DEVICE, DEVICES, ENDS,
@@ -69,7 +69,7 @@ const NAMED_ATTRIBUTE: u32 = BEGIN_ATTRIBUTE + SECOND * NAMED;
 const NAMED_PARAMETER: u32 = BEGIN_PARAMETER + SECOND * NAMED;
 
 // The symbols from a_name to a_constant, which is the last one.
-fn lower_row(symbol: u8, kind: u8) -> Row
+fn lower_row(symbol: u8, kind: u8) -> Option<Row>
     requires { (0x25 ≤ symbol) × (symbol < 0x31) }
     ensures { row_in result ≡ row_of (symbol_of symbol) kind }
 {
@@ -90,7 +90,7 @@ fn lower_row(symbol: u8, kind: u8) -> Row
 }
 
 // The symbols from inherits on. The field that ends takes nothing.
-fn upper_row(symbol: u8, kind: u8) -> Row
+fn upper_row(symbol: u8, kind: u8) -> Option<Row>
     requires { (0x39 ≤ symbol) × (symbol < 0x48) }
     ensures { row_in result ≡ row_of (symbol_of symbol) kind }
 {
@@ -109,12 +109,12 @@ fn upper_row(symbol: u8, kind: u8) -> Row
         FURTHER_ARM => only(COMMA, kind, NONE, OTHER_ARM),
         FURTHER_ATTRIBUTE => only(COMMA, kind, NONE, OTHER_ATTRIBUTE),
         FURTHER_PARAMETER => only(COMMA, kind, NONE, OTHER_PARAMETER),
-        _ => NOT_TAKEN,
+        _ => None,
     }
 }
 
 // What the symbol on top makes of a token of this kind.
-pub fn row(symbol: u8, kind: u8) -> Row
+pub fn row(symbol: u8, kind: u8) -> Option<Row>
     ensures { row_in result ≡ row_of (symbol_of symbol) kind }
 {
     if symbol < A_NAME {
@@ -132,56 +132,30 @@ pub fn row(symbol: u8, kind: u8) -> Row
     operator_row(symbol, kind)
 }
 
-// Whether a symbol may be left out, and the actions that are done then.
-#[derive(Clone, Copy)]
-pub struct LeftOut {
-    pub allowed: bool,
-    pub actions: u32,
-}
-
-const NEEDED: LeftOut = LeftOut {
-    allowed: false,
-    actions: 0,
-};
-
-const NOTHING_DONE: LeftOut = LeftOut {
-    allowed: true,
-    actions: 0,
-};
-
-const EMPTY_ELSE: LeftOut = LeftOut {
-    allowed: true,
-    actions: EMPTY_BLOCK,
-};
-
-const FIELD_ENDS: LeftOut = LeftOut {
-    allowed: true,
-    actions: CLOSE,
-};
-
-pub fn left_out(symbol: u8) -> LeftOut
+// The actions that are done where the symbol is left out; none if it may not be.
+pub fn left_out(symbol: u8) -> Option<u32>
     ensures { left_out_in result ≡ left_out (symbol_of symbol) }
 {
     if OPERATORS <= symbol {
-        return NOTHING_DONE;
+        return Some(NONE);
     }
     match symbol {
-        OTHERWISE => EMPTY_ELSE,
-        ENDS => FIELD_ENDS,
-        READ_OR_WORD => NOTHING_DONE,
-        PARAMETERS => NOTHING_DONE,
-        DEFAULT_VALUE => NOTHING_DONE,
-        INHERITS => NOTHING_DONE,
-        MORE_DEVICES => NOTHING_DONE,
-        STATEMENTS => NOTHING_DONE,
-        BRANCHES => NOTHING_DONE,
-        ITEMS => NOTHING_DONE,
-        MAYBE_ARM => NOTHING_DONE,
-        MAYBE_ATTRIBUTE => NOTHING_DONE,
-        MAYBE_PARAMETER => NOTHING_DONE,
-        FURTHER_ARM => NOTHING_DONE,
-        FURTHER_ATTRIBUTE => NOTHING_DONE,
-        FURTHER_PARAMETER => NOTHING_DONE,
-        _ => NEEDED,
+        OTHERWISE => Some(EMPTY_BLOCK),
+        ENDS => Some(CLOSE),
+        READ_OR_WORD => Some(NONE),
+        PARAMETERS => Some(NONE),
+        DEFAULT_VALUE => Some(NONE),
+        INHERITS => Some(NONE),
+        MORE_DEVICES => Some(NONE),
+        STATEMENTS => Some(NONE),
+        BRANCHES => Some(NONE),
+        ITEMS => Some(NONE),
+        MAYBE_ARM => Some(NONE),
+        MAYBE_ATTRIBUTE => Some(NONE),
+        MAYBE_PARAMETER => Some(NONE),
+        FURTHER_ARM => Some(NONE),
+        FURTHER_ATTRIBUTE => Some(NONE),
+        FURTHER_PARAMETER => Some(NONE),
+        _ => None,
     }
 }

@@ -1,6 +1,6 @@
 -- A symbol is left out: what is done then looks at no token. Assumes nothing.
 use mathlib.Core.Path.{◌≡◌, refl, ◌∙◌, ap, subst}
-use mathlib.Core.Bool.{true, false}
+use mathlib.Core.Bool.{true}
 use mathlib.Core.List.{List, [], ◌∷◌}
 use mathlib.Core.Option.{Option, none, some}
 use native.Mathlib.Omega.{arith}
@@ -12,7 +12,6 @@ use Rattle.notation.specs.Grammar.{Symbol, sign, a_name, expression, operators, 
 use Rattle.tree_builder.specs.declared.Building.{Building}
 use Rattle.tree_builder.specs.Shows.{Shows}
 use Rattle.parse_table.specs.Codes.{actions_in, left_out_in}
-use Rattle.parse_table.specs.declared.table.LeftOut.{LeftOut}
 use Rattle.parse_table.proofs.Answers.{out_allowed, out_needed, no_action_lem}
 use Rattle.parser.specs.declared.actions.Names.{Names}
 use Rattle.parser.specs.Doing.{Suits, SuitsAll, filled, AllAnswered, no_instead, DoesAllAt, StandsAt}
@@ -88,43 +87,43 @@ plain_once _ plain_close = refl
 plain_once _ plain_void = refl
 
 -- what the table answers of the symbol k
-module _ (types : Types) (k : Symbol) (r : LeftOut) (told : left_out_in r ≡ left_out k) (s : Building) (m out : List ℕ) where
+module _ (types : Types) (k : Symbol) (r : CodeOption ℕ) (told : left_out_in r ≡ left_out k) (s : Building) (m out : List ℕ) where
   -- it may not be left out
-  pub leaves_needed : r.allowed ≡ false → LeavesOut types k s m out None m out
+  pub leaves_needed : r ≡ None → LeavesOut types k s m out None m out
   unfolding LeavesOut AllAnswered left_behind
   leaves_needed e table f x shows = ap (λ (o : Option (List Action)). without_it types o x f) (out_needed r told e)
 
-  module _ (may : r.allowed ≡ true) where
-    plain_actions_lem : Plain (actions_in r.actions)
-    plain_actions_lem = subst PlainOut (out_allowed r told may) (out_plain k)
+  module _ (actions : ℕ) (may : r ≡ Some actions) where
+    plain_actions_lem : Plain (actions_in actions)
+    plain_actions_lem = subst PlainOut (out_allowed r told actions may) (out_plain k)
 
     -- it has no actions
-    pub leaves_none : r.actions ≡ 0 → LeavesOut types k s m out (Some s) m out
+    pub leaves_none : actions ≡ 0 → LeavesOut types k s m out (Some s) m out
     unfolding LeavesOut AllAnswered left_behind acts
-    leaves_none e table f x shows = record { made = f; is = ap (λ (o : Option (List Action)). without_it types o x f) (out_allowed r told may ∙ ap (λ (n : ℕ). some (actions_in n)) e ∙ ap some no_action_lem); shows = shows; grown = omega arith }
+    leaves_none e table f x shows = record { made = f; is = ap (λ (o : Option (List Action)). without_it types o x f) (out_allowed r told actions may ∙ ap (λ (n : ℕ). some (actions_in n)) e ∙ ap some no_action_lem); shows = shows; grown = omega arith }
 
     module _ (t : Token) (ns : Names) where
       -- its actions may be done
-      pub stands_left : (st : List ℕ) (top : ℕ) → r.actions < 2 ^ 32 → SteppableAt types st m out s top t ns → StandsAt types m out s r.actions t ns
+      pub stands_left : (st : List ℕ) (top : ℕ) → actions < 2 ^ 32 → SteppableAt types st m out s top t ns → StandsAt types m out s actions t ns
       stands_left st top small h =
-          let others = no_other r.actions small (plain_once (actions_in r.actions) plain_actions_lem) in
+          let others = no_other actions small (plain_once (actions_in actions) plain_actions_lem) in
           record {
             table = h.table;
             tree = h.tree;
             token = h.token;
             shows = h.standing.shows;
-            suits = plain_suits types t ns (actions_in r.actions) h.table h.token plain_actions_lem;
+            suits = plain_suits types t ns (actions_in actions) h.table h.token plain_actions_lem;
             slots = h.slots;
-            low = omega (arith, h.standing.low, plain_short s.fill (actions_in r.actions) plain_actions_lem);
+            low = omega (arith, h.standing.low, plain_short s.fill (actions_in actions) plain_actions_lem);
             place = h.place;
             word = λ e. absurd (others.0 e);
             once = others.1;
           }
 
       -- and are
-      pub leaves_done : (a : CodeOption Building) (m' out' : List ℕ) → DoesAllAt types t ns (actions_in r.actions) s m out a m' out' → LeavesOut types k s m out a m' out'
+      pub leaves_done : (a : CodeOption Building) (m' out' : List ℕ) → DoesAllAt types t ns (actions_in actions) s m out a m' out' → LeavesOut types k s m out a m' out'
       unfolding LeavesOut DoesAllAt left_behind
       leaves_done a m' out' does table f x shows =
-          rw (out_allowed r told may)
-          (answered_more table (filled s.fill (actions_in r.actions)) (s.fill + 12) (plain_short s.fill (actions_in r.actions) plain_actions_lem) a m' out' (acts types (actions_in r.actions) x f)
-          (does table f x (plain_suits types t ns (actions_in r.actions) table x plain_actions_lem) shows))
+          rw (out_allowed r told actions may)
+          (answered_more table (filled s.fill (actions_in actions)) (s.fill + 12) (plain_short s.fill (actions_in actions) plain_actions_lem) a m' out' (acts types (actions_in actions) x f)
+          (does table f x (plain_suits types t ns (actions_in actions) table x plain_actions_lem) shows))

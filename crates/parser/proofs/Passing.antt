@@ -1,6 +1,5 @@
 -- A symbol that does not take the token is left out, and the machine goes on with those below it. Assumes nothing.
 use mathlib.Core.Path.{◌≡◌, refl, sym, ◌∙◌, ap, subst}
-use mathlib.Core.Bool.{false}
 use mathlib.Core.List.{List, [], ◌∷◌}
 use mathlib.Core.Option.{Option, none, some}
 use native.Mathlib.Omega.{arith}
@@ -65,7 +64,7 @@ module _ (types : Types) (st m out : List ℕ) (s : Building) (top : ℕ) (t : T
   unfolding StepsAt TakenSo stack_of step
   none_left e table f x z = ap (λ (n : ℕ). step types (stack_of st n) x f) e
 
-  module _ (some_top : 0 < top) (w : Row) (told : row_in w ≡ row_of (symbol_of (byte st (top - 1))) t.kind) (other : w.taken ≡ false) where
+  module _ (some_top : 0 < top) (w : CodeOption Row) (told : row_in w ≡ row_of (symbol_of (byte st (top - 1))) t.kind) (other : w ≡ None) where
     abbrev top_symbol : Symbol
     top_symbol = symbol_of (byte st (top - 1))
 
@@ -133,7 +132,7 @@ module _ (st₀ m₀ out₀ : List ℕ) (s₀ : Building) (top₀ : ℕ) (t : To
   top_within h = let r = g.ready.steppable in omega (arith, push_room st top r.tree r.standing.kept r.room)
 
   -- one more is left out
-  pub going_next : 0 < top → (w : Row) → row_in w ≡ row_of (symbol_of (byte st (top - 1))) t.kind → w.taken ≡ false → (a : CodeOption Building) (next : Building) (m' out' : List ℕ) → a ≡ Some next → ((types : Types) → LeavesOut types (symbol_of (byte st (top - 1))) s m out a m' out') → length m' ≡ length m → length out' ≡ length out → Going st₀ m₀ out₀ s₀ top₀ t ns st m' out' next (top - 1)
+  pub going_next : 0 < top → (w : CodeOption Row) → row_in w ≡ row_of (symbol_of (byte st (top - 1))) t.kind → w ≡ None → (a : CodeOption Building) (next : Building) (m' out' : List ℕ) → a ≡ Some next → ((types : Types) → LeavesOut types (symbol_of (byte st (top - 1))) s m out a m' out') → length m' ≡ length m → length out' ≡ length out → Going st₀ m₀ out₀ s₀ top₀ t ns st m' out' next (top - 1)
   going_next some_top w told other a next m' out' e leaves size size' =
       let now : Types = g.ready.types in
       record {

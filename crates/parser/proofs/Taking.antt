@@ -21,7 +21,7 @@ use Rattle.tree_builder.specs.Shows.{IsWord}
 use Rattle.parse_table.specs.Codes.{symbol_of, symbols_in, action_of, actions_from, actions_in}
 use Rattle.parse_table.specs.Stack.{stack_of, Pushed}
 use Rattle.parse_table.specs.declared.rows.Row.{Row}
-use Rattle.parse_table.proofs.Answers.{row_taken, first_action, no_action_lem, on_top, push_room}
+use Rattle.parse_table.proofs.Answers.{first_action, no_action_lem, on_top, push_room}
 use Rattle.parser.specs.declared.actions.Names.{Names}
 use Rattle.parser.specs.Doing.{filled, AllAnswered, is_instead, no_instead, only_constant, WordsRead, DoesAllAt, StandsAt}
 use Rattle.parser.specs.Stepping.{is_read_or_word, none_behind_word, WordOnTop, WordFor, TakenSo, SteppableAt, StepsAt, TakenRow}
@@ -114,7 +114,7 @@ module _ (types : Types) (st m out : List ℕ) (s : Building) (top : ℕ) (t : T
   stacked = on_top st top q.some_top
 
   found : row_of top_symbol t.kind ≡ some (row (actions_in w.actions) (symbols_in w.symbols))
-  found = row_taken w q.row_of_lem q.taken
+  found = sym q.row_of_lem
 
   fit : row_fits top_symbol t.kind (row (actions_in w.actions) (symbols_in w.symbols)) ≡ true
   fit = row_fits_lem top_symbol t.kind (row (actions_in w.actions) (symbols_in w.symbols)) found

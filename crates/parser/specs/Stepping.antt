@@ -113,5 +113,4 @@ Steps r ns s top st m out a st' m' out' = (types : Types) → StepsAt types r ns
 -- the row of the symbol on top takes the token
 pub record TakenRow (stack : List ℕ) (top : ℕ) (r : Token) (w : Row) : Type 0 where
   pub some_top : 0 < top
-  pub row_of_lem : row_in w ≡ row_of (symbol_of (byte stack (top - 1))) r.kind
-  pub taken : w.taken ≡ true
+  pub row_of_lem : row_in (Some w) ≡ row_of (symbol_of (byte stack (top - 1))) r.kind

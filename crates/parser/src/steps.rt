@@ -3,6 +3,7 @@ ghost use Rattle.parser.specs.Stepping.{Steppable, TakenRow, Steps};
 
 use crate::actions::{Names, do_actions};
 use lexer::Token;
+use parse_table::actions::NONE;
 use parse_table::rows::Row;
 use parse_table::stack::push;
 use parse_table::table::{left_out, row};
@@ -48,23 +49,17 @@ pub fn take(
     requires { Steppable stack.old frames.old out.old s top token names }
     ensures { Steps token names s top stack.old frames.old out.old result stack.new frames.new out.new }
 {
-    let mut n = top;
     let mut building = s;
-    while 0 < n {
-        let symbol = stack[n - 1];
-        let w = row(symbol, token.kind);
-        if w.taken {
-            return take_row(out, frames, stack, building, n, token, names, w);
+    for below in (0..top).rev() {
+        let symbol = stack[below];
+        if let Some(found) = row(symbol, token.kind) {
+            return take_row(out, frames, stack, building, below + 1, token, names, found);
         }
-        n = n - 1;
-        let left = left_out(symbol);
-        if !left.allowed {
-            return None;
-        }
-        if left.actions == 0 {
+        let actions = left_out(symbol)?;
+        if actions == NONE {
             continue;
         }
-        building = do_actions(out, frames, building, left.actions, token, names)?;
+        building = do_actions(out, frames, building, actions, token, names)?;
     }
     None
 }

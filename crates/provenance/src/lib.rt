@@ -69,8 +69,7 @@ fn marks_up(work: &[u8], scope: Scope, name: u16, tries: u16) -> Labels
 {
     let mut marks = Labels::EMPTY;
     let mut at = scope.number;
-    let mut left = tries;
-    while 0 < left {
+    for _ in 0..tries {
         if let Some(i) = cells::slot_for(work, at, name) {
             marks = marks.union(cells::mark_at(work, i));
             if cells::has_value(work, i) {
@@ -81,7 +80,6 @@ fn marks_up(work: &[u8], scope: Scope, name: u16, tries: u16) -> Labels
             return marks;
         };
         at = q;
-        left -= 1;
     }
     marks
 }

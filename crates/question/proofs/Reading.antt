@@ -1,20 +1,16 @@
 -- The lines of a question and the numbers in its fifth line, in the words of the code. Assumes nothing.
-use Prim.Native.Nat.{ℕ, suc, ◌+◌, ◌-◌, ◌≤◌, ◌<◌}
+use Prim.Native.Nat.{ℕ, ◌+◌, ◌-◌, ◌≤◌, ◌<◌}
 use mathlib.Core.Path.{◌≡◌, refl, sym, ap, ◌∙◌}
-use mathlib.Core.Bool.{Bool, true, false}
 use mathlib.Core.List.{List, [], ◌∷◌}
-use native.Mathlib.Numerals.{add-one}
 use native.Mathlib.Omega.{arith}
 use borrow.Author.Tests.{lt-ltb, le-ltb, eq-eqb, ne_eqb}
-use lib.Dec.{eqb}
 use lib.ListN.{length, get_or, take, drop, length-drop, drop_of_length-le}
-use lib.Seq.{take_all, drop-cons}
-use Rattle.wire.specs.Bytes.{byte, pick}
+use lib.Seq.{take_all}
 use Rattle.rules.specs.Schedule.{before_feed}
 use Rattle.input.proofs.Feeding as feeding
 use Rattle.question.specs.declared.Lines.{Lines}
 use Rattle.question.specs.Lines.{line_after, lines_of, line_between}
-use Rattle.question.specs.Numbers.{with_digit, spelled, number_in}
+use Rattle.question.specs.Numbers.{spelled, number_in}
 use Rattle.question.specs.Asking.{Asked, question, with_types, not_a_question, space_place, label_of, lends_types, size_of, with_size, with_line, asked_by, asked}
 
 -- ---- Lines

@@ -106,6 +106,10 @@ pub gathering_begins : (m w out : List ℕ) (fill : ℕ) (scope : Scope) (d firs
 unfolding attributes_for
 gathering_begins m w out fill scope d first end outer own = record { gs = []; holding = holding_none (drop fill out); fits = none_left; kept = record { front = refl; long = refl }; rest = rest_begins }
 
+-- the same at the place q, where that is p
+pub gathering_here : {m w out₀ out : List ℕ} {fill : ℕ} {scope : Scope} {d first end : ℕ} {outer own : Labels} {size p q : ℕ} → p ≡ q → Gathering m w out₀ out fill scope d first end outer own size p → Gathering m w out₀ out fill scope d first end outer own size q
+gathering_here {m} {w} {out₀} {out} {fill} {scope} {d} {first} {end} {outer} {own} {size} e i = subst (λ (j : ℕ). Gathering m w out₀ out fill scope d first end outer own size j) e i
+
 module _ {m w out₀ out : List ℕ} {fill : ℕ} {scope : Scope} {d first end : ℕ} {outer own : Labels} {size q : ℕ} (so_far : Gathering m w out₀ out fill scope d first end outer own size q) where
   module _ (b : ℕ) (deep : d ≡ suc b) (more : q < end) where
     pub gathering_on : {out' : List ℕ} {s : Result ℕ Refusal} {n r : ℕ} → Added m w out out' fill size scope b q outer own s → s ≡ Ok n → r ≡ end_of m q → Gathering m w out₀ out' fill scope d first end outer own n r

@@ -8,7 +8,7 @@ use native.Mathlib.Numerals.{add-one, unary_clauses}
 use native.Mathlib.Omega.{arith}
 use borrow.Author.Tests.{ltb-true, ltb-false, le-leb, lt-leb}
 use lib.Dec.{ltb, leb}
-use lib.ListN.{length, set, take, drop, length-set, drop_of_length-le, get_or-eq_default}
+use lib.ListN.{length, set, take, drop, drop_of_length-le, get_or-eq_default}
 use lib.Seq.{drop-cons, length-take-le}
 use Rattle.wire.specs.Bytes.{byte, pick}
 use Rattle.wire.specs.Runs.{over}

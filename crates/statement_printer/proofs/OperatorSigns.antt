@@ -17,7 +17,7 @@ use Rattle.notation.specs.Tokens
 use Rattle.notation.specs.Print.{at, the, operator_kind, level_of, separated, printed}
 use Rattle.token_writer.specs.declared.Pen.{Pen}
 use Rattle.statement_printer.specs.Passing.{Passes}
-use Rattle.statement_printer.specs.Brackets.{opened, closed}
+use Rattle.statement_printer.specs.Brackets.{bracket}
 
 -- ---- Operators
 
@@ -76,30 +76,20 @@ level_small n {l} e = go (operator_from n) e
 -- ---- Brackets and commas
 
 module _ {a : List ℕ} {pen : Pen} where
-  pub none_opened : (tight : Bool) → tight ≡ true → Passes a a pen pen (opened tight pen.line)
-  unfolding opened
-  none_opened true e = record { goes = λ o w r g. g }
-  none_opened false e = absurd (false_not_true e)
-
-  pub none_closed : (tight : Bool) → tight ≡ true → Passes a a pen pen (closed tight pen.line)
-  unfolding closed
-  none_closed true e = record { goes = λ o w r g. g }
-  none_closed false e = absurd (false_not_true e)
+  pub no_bracket : (k : ℕ) (tight : Bool) → tight ≡ true → Passes a a pen pen (bracket k tight pen.line)
+  unfolding bracket
+  no_bracket k true e = record { goes = λ o w r g. g }
+  no_bracket k false e = absurd (false_not_true e)
 
   pub no_comma : (later : Bool) → later ≡ false → Passes a a pen pen (λ rest. separated later pen.line (rest pen.line))
   no_comma false e = record { goes = λ o w r g. g }
   no_comma true e = absurd (false_not_true (sym e))
 
   module _ {b : List ℕ} {pen' : Pen} where
-    pub one_opened : (tight : Bool) → tight ≡ false → Passes a b pen pen' (λ rest. the pen.line 9 ∷ rest pen.line) → Passes a b pen pen' (opened tight pen.line)
-    unfolding opened
-    one_opened false e h = record { goes = λ o w r g. h.goes o w r g }
-    one_opened true e h = absurd (false_not_true (sym e))
-
-    pub one_closed : (tight : Bool) → tight ≡ false → Passes a b pen pen' (λ rest. the pen.line 10 ∷ rest pen.line) → Passes a b pen pen' (closed tight pen.line)
-    unfolding closed
-    one_closed false e h = record { goes = λ o w r g. h.goes o w r g }
-    one_closed true e h = absurd (false_not_true (sym e))
+    pub one_bracket : (k : ℕ) (tight : Bool) → tight ≡ false → Passes a b pen pen' (λ rest. the pen.line k ∷ rest pen.line) → Passes a b pen pen' (bracket k tight pen.line)
+    unfolding bracket
+    one_bracket k false e h = record { goes = λ o w r g. h.goes o w r g }
+    one_bracket k true e h = absurd (false_not_true (sym e))
 
     pub one_comma : (later : Bool) → later ≡ true → Passes a b pen pen' (λ rest. the pen.line 14 ∷ rest pen.line) → Passes a b pen pen' (λ rest. separated later pen.line (rest pen.line))
     one_comma true e h = h

@@ -22,7 +22,7 @@ use Rattle.notation.specs.Tokens.{Lexeme}
 use Rattle.notation.specs.Print.{Rest, at, the, operator_kind, level_of, bracketed, constant_lexeme, printed, printed_arms}
 use Rattle.token_writer.specs.declared.Pen.{Pen}
 use Rattle.statement_printer.specs.Passing.{Source, Passes}
-use Rattle.statement_printer.specs.Brackets.{opened, closed}
+use Rattle.statement_printer.specs.Brackets.{bracket, opened, closed}
 use Rattle.statement_printer.specs.Forms.{Here}
 use Rattle.statement_printer.proofs.OperatorSigns.{passes_as}
 
@@ -96,7 +96,7 @@ last_tag {m} {p = p} {t = t} s tag low n6 n7 n8 = go (leb-true t 0x19 (both_righ
 
 module _ {a b c d : List ℕ} {pen q r pen' : Pen} where
   pub in_brackets : (tight : Bool) (f : ℕ → Rest → List Lexeme) → Passes a b pen q (opened tight pen.line) → Passes b c q r (f q.line) → Passes c d r pen' (closed tight r.line) → Passes a d pen pen' (bracketed tight f pen.line)
-  unfolding opened closed
+  unfolding bracket
   in_brackets true f x y z = record { goes = λ o w k g. z.goes o w k (y.goes o w k (x.goes o w (λ u. f u k) g)) }
   in_brackets false f x y z = record { goes = λ o w k g. z.goes o w k (y.goes o w (λ u. the u 10 ∷ k u) (x.goes o w (λ u. f u (λ n. the n 10 ∷ k n)) g)) }
 

@@ -3,10 +3,13 @@ use Rattle.std.specs.Prelude.{ℕ, Bool, true, false, List, ◌∷◌}
 use Rattle.notation.specs.Tokens.{Lexeme, left_round, right_round}
 use Rattle.notation.specs.Print.{Rest, the}
 
-unfoldable pub opened : (tight : Bool) → ℕ → Rest → List Lexeme
-opened true v rest = rest v
-opened false v rest = the v left_round ∷ rest v
+-- a bracket of this kind, unless the form binds tightly enough
+unfoldable pub bracket : (kind : ℕ) → (tight : Bool) → ℕ → Rest → List Lexeme
+bracket k true v rest = rest v
+bracket k false v rest = the v k ∷ rest v
 
-unfoldable pub closed : (tight : Bool) → ℕ → Rest → List Lexeme
-closed true v rest = rest v
-closed false v rest = the v right_round ∷ rest v
+abbrev pub opened : (tight : Bool) → ℕ → Rest → List Lexeme
+opened tight v rest = bracket left_round tight v rest
+
+abbrev pub closed : (tight : Bool) → ℕ → Rest → List Lexeme
+closed tight v rest = bracket right_round tight v rest

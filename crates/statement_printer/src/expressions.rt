@@ -10,10 +10,11 @@ ghost use Rattle.statement_printer.specs.Passing.{Source, Passes};
 ghost use Rattle.statement_printer.specs.Forms.{Here, ArmPasses};
 
 use crate::constants::{write_constant, write_pattern};
-use crate::signs::{close_bracket, level_of, open_bracket, operator_kind, separate, write_read};
+use crate::signs::{bracket, level_of, operator_kind, separate, write_read};
 use crate::tokens::{write_mark, write_word};
 use notation::kinds::{
-    ARROW, EXCLAMATION, LEFT_BRACE, LEFT_SQUARE, QUESTION, RIGHT_BRACE, RIGHT_SQUARE,
+    ARROW, EXCLAMATION, LEFT_BRACE, LEFT_ROUND, LEFT_SQUARE, QUESTION, RIGHT_BRACE, RIGHT_ROUND,
+    RIGHT_SQUARE,
 };
 use printable::Manifest;
 use token_writer::Pen;
@@ -28,11 +29,11 @@ fn operation(m: Manifest<'_>, below: u8, p: usize, level: u8, out: &mut [u8], pe
     let op = byte_at(m.bytes, p + 3);
     let own = level_of(op);
     let tight = level <= own;
-    let before = open_bracket(out, pen, tight);
+    let before = bracket(out, pen, tight, LEFT_ROUND);
     let left = expression(m, below, p + 4, own, out, before);
     let sign = write_mark(out, left, left.line, operator_kind(op));
     let right = expression(m, below, end_of(m.bytes, p + 4), own + 1, out, sign);
-    close_bracket(out, right, tight)
+    bracket(out, right, tight, RIGHT_ROUND)
 }
 
 // Never in brackets, whatever the level.
@@ -93,7 +94,7 @@ fn selector(m: Manifest<'_>, below: u8, p: usize, level: u8, out: &mut [u8], pen
     ensures { Passes out.old out.new pen result (printed (string_at (string_texts m.entry.bytes.now)) (expression_at m.entry.bytes.now (below + 1) p) level pen.line) }
 {
     let tight = level <= 3;
-    let before = open_bracket(out, pen, tight);
+    let before = bracket(out, pen, tight, LEFT_ROUND);
     let value = expression(m, below, p + 3, 3, out, before);
     let sign = write_mark(out, value, value.line, QUESTION);
     let open = write_mark(out, sign, sign.line, LEFT_BRACE);
@@ -106,7 +107,7 @@ fn selector(m: Manifest<'_>, below: u8, p: usize, level: u8, out: &mut [u8], pen
         open,
     );
     let close = write_mark(out, all, all.line, RIGHT_BRACE);
-    close_bracket(out, close, tight)
+    bracket(out, close, tight, RIGHT_ROUND)
 }
 
 // The expression at p, whose operators bind at `level` or tighter, or else stand in brackets. It has `depth` levels left.

@@ -8,13 +8,10 @@ ghost use Rattle.places.specs.At.{expression_at, StandsAs};
 ghost use Rattle.syntax.specs.Strings.{string_texts};
 ghost use Rattle.notation.specs.Print.{operator_kind, level_of, separated, printed};
 ghost use Rattle.statement_printer.specs.Passing.{Source, Passes};
-ghost use Rattle.statement_printer.specs.Brackets.{opened, closed};
+ghost use Rattle.statement_printer.specs.Brackets.{bracket};
 
 use crate::tokens::{write_class_variable, write_mark, write_top_variable, write_variable};
-use notation::kinds::{
-    ABOVE, AND_WORD, COMMA, LEFT_ROUND, MINUS_SIGN, OR_WORD, PLUS_SIGN, RIGHT_ROUND, SLASH,
-    TWO_EQUALS,
-};
+use notation::kinds::{ABOVE, AND_WORD, COMMA, MINUS_SIGN, OR_WORD, PLUS_SIGN, SLASH, TWO_EQUALS};
 use printable::Manifest;
 use token_writer::Pen;
 use wire::{byte_at, two_at};
@@ -48,23 +45,15 @@ pub fn level_of(op: u8) -> u8
     }
 }
 
-// `(`, unless the form binds tightly enough.
-pub fn open_bracket(out: &mut [u8], pen: Pen, tight: bool) -> Pen
-    ensures { Passes out.old out.new pen result (opened tight pen.line) }
+// A bracket of this kind, unless the form binds tightly enough.
+pub fn bracket(out: &mut [u8], pen: Pen, tight: bool, kind: u8) -> Pen
+    requires { (7 ≤ kind) × (kind ≤ 36) }
+    ensures { Passes out.old out.new pen result (bracket kind tight pen.line) }
 {
     if tight {
         return pen;
     }
-    write_mark(out, pen, pen.line, LEFT_ROUND)
-}
-
-pub fn close_bracket(out: &mut [u8], pen: Pen, tight: bool) -> Pen
-    ensures { Passes out.old out.new pen result (closed tight pen.line) }
-{
-    if tight {
-        return pen;
-    }
-    write_mark(out, pen, pen.line, RIGHT_ROUND)
+    write_mark(out, pen, pen.line, kind)
 }
 
 // A comma before every entry but the first.

@@ -192,7 +192,7 @@ fn decide_case(
     value: Value,
     own: &mut [u64; 4],
 ) -> Result<CaseBranch, Refusal>
-    requires { (Testable m.now work.old depth p × (byte m.now p ≡ 0x23)) × (length own.old ≡ 4) }
+    requires { Testable m.now work.old depth p × (byte m.now p ≡ 0x23) }
     ensures { Decides m.now work.old work.new here (case_as m.now (depth - 1 - 1) result) (decide_case p (branches_of m.now (depth - 1) p) (record { value = value; labels = labels_in own.old })) × block_stands m.now (depth - 1 - 1) p result }
 {
     let from = wire::end_of(m, p + 3);
@@ -213,7 +213,7 @@ fn try_case(
     value: Value,
     own: &mut [u64; 4],
 ) -> Result<CaseBranch, Refusal>
-    requires { (Testable m.now work.old depth p × (byte m.now p ≡ 0x23)) × (length own.old ≡ 4) }
+    requires { Testable m.now work.old depth p × (byte m.now p ≡ 0x23) }
     ensures { Comes m.now work.old work.new here (case_as m.now (depth - 1 - 1) result) (try_case p (branches_of m.now (depth - 1) p) (record { value = value; labels = labels_in own.old })) × block_stands m.now (depth - 1 - 1) p result }
 {
     let from = wire::end_of(m, p + 3);

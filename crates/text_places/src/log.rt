@@ -68,15 +68,13 @@ pub fn follow(log: &[u8], entries: usize, offset: usize) -> usize
     requires { 8 * entries ≤ length log.now }
     ensures { (result ≡ followed (log_in log.now entries) offset) × (result < 65536) }
 {
-    let mut n = entries;
     let mut at = offset;
-    while 0 < n {
-        n = n - 1;
+    for n in (0..entries).rev() {
         let entry = wire::number_in(log, 8 * n);
         let from = (entry / 1099511627776) as usize;
         let size = (entry / 65536 % 16777216) as usize;
         if from + size <= at {
-            at = at - size;
+            at -= size;
         } else if from <= at {
             return (entry % 65536) as usize;
         }

@@ -115,9 +115,9 @@ pub store_sets : (at k n : ℕ) (m : List ℕ) → store_digits at k n m ≡ set
 store_sets at k n m = store_before at k n m []
 
 -- one store, in the words of the loop
-pub store_turn : (at count i rest : ℕ) (m : List ℕ) → i < count → store_digits at (count - (i + 1)) (rest / 10) (set m (at + (count - (i + 1))) (48 + rest % 10)) ≡ store_digits at (count - i) rest m
+pub store_turn : (at i rest : ℕ) (m : List ℕ) → 0 < i → store_digits at (i - 1) (rest / 10) (set m (at + (i - 1)) (48 + rest % 10)) ≡ store_digits at i rest m
 unfolding store_digits
-store_turn at count i rest m h = let e : suc (count - (i + 1)) ≡ count - i = omega arith in ap (λ (k : ℕ). store_digits at k rest m) e
+store_turn at i rest m h = let e : suc (i - 1) ≡ i = omega arith in ap (λ (k : ℕ). store_digits at k rest m) e
 
 pub store_done : (at k rest : ℕ) (m : List ℕ) → k ≤ 0 → m ≡ store_digits at k rest m
 unfolding store_digits

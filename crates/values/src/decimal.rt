@@ -17,7 +17,7 @@ pub fn put_unsigned(out: &mut [u8], n: u64) -> usize
 pub fn put_signed(out: &mut [u8], z: i64) -> usize
     ensures { wrote result out.new ≡ write_text (signed_decimal z) out.old }
 {
-    let n = magnitude(z);
+    let n = z.unsigned_abs();
     if 0 <= z {
         return put_unsigned(out, n);
     }
@@ -28,16 +28,6 @@ pub fn put_signed(out: &mut [u8], z: i64) -> usize
     out[0] = b'-';
     put_digits(out, 1, count, n);
     count + 1
-}
-
-// How far z is from 0: the least integer is further than the greatest.
-fn magnitude(z: i64) -> u64
-    ensures { result ≡ nat_abs z }
-{
-    if 0 <= z {
-        return z as u64;
-    }
-    (-1 - z) as u64 + 1
 }
 
 fn digit_count(n: u64) -> usize
@@ -57,11 +47,9 @@ fn put_digits(out: &mut [u8], at: usize, count: usize, n: u64)
     requires { at + count ≤ length out.old }
     ensures { out.new ≡ sets out.old at (last_digits count n []) }
 {
-    let mut i = 0;
     let mut rest = n;
-    while i < count {
-        i += 1;
-        out[at + (count - i)] = 48 + (rest % 10) as u8;
+    for i in (0..count).rev() {
+        out[at + i] = b'0' + (rest % 10) as u8;
         rest /= 10;
     }
 }

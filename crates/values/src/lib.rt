@@ -15,7 +15,7 @@ pub mod decimal;
 pub mod integers;
 
 // A value of document 01: an integer, a string (its number in the table), or a boolean.
-#[derive(Clone, Copy)]
+#[derive(Clone, Copy, PartialEq, Eq)]
 pub enum Value {
     Integer(i64),
     String(u16),
@@ -34,11 +34,9 @@ impl Labelled {
     pub fn under(self, set: Labels) -> Labelled
         ensures { result ≡ under set self }
     {
-        let value = self.value;
-        let labels = self.labels;
         Labelled {
-            value,
-            labels: set.union(labels),
+            labels: set.union(self.labels),
+            ..self
         }
     }
 }
@@ -137,28 +135,14 @@ impl Refusal {
 pub fn place(q: usize) -> usize
     ensures { (result ≤ 65535) × (q ≤ 65535 → result ≡ q) }
 {
-    if q <= 65535 { q } else { 65535 }
+    q.min(65535)
 }
 
 // "= takes any two values, unequal if of unlike kinds".
-#[tactic(auto, unfolding(crate::specs::Integers::same_value))]
 pub fn same_value(a: Value, b: Value) -> bool
     ensures { result ≡ same_value a b }
 {
-    match a {
-        Value::Integer(x) => match b {
-            Value::Integer(y) => x == y,
-            Value::String(_) | Value::Boolean(_) => false,
-        },
-        Value::String(x) => match b {
-            Value::String(y) => x == y,
-            Value::Integer(_) | Value::Boolean(_) => false,
-        },
-        Value::Boolean(x) => match b {
-            Value::Boolean(y) => x == y,
-            Value::Integer(_) | Value::String(_) => false,
-        },
-    }
+    a == b
 }
 
 // The papers' number for a reason.

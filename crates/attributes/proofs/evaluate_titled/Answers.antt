@@ -14,7 +14,7 @@ pub overflow_sub-depth : goal.overflow_sub-depth
 overflow_sub-depth c = omega (arith, deep c.requires.0.0.1 c.requires.0.1)
 
 pub evaluate-requires : goal.evaluate-requires
-evaluate-requires c = let pre = c.requires.0 in (resized pre.0.0 (title_near pre.0.1 pre.1 pre.0.0.manifest), refl)
+evaluate-requires c = let pre = c.requires.0 in resized pre.0.0 (title_near pre.0.1 pre.1 pre.0.0.manifest)
 
 pub returns-in_err-value : goal.returns-in_err-value
 unfolding no_labels

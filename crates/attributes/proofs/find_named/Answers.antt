@@ -1,21 +1,14 @@
--- `find_named`: at the loop's head the first among those that are left is the first of all.
-use mathlib.Core.Path.{sym, ◌∙◌}
-use native.Mathlib.Omega.{arith}
-use borrow.Author.Tests.{eq-eqb, ne_eqb}
-use Rattle.catalog.specs.Finding.{Below}
-use Rattle.attributes.proofs.Repeats.{named_found, named_further, named_nowhere}
+-- `find_named`: what the chain finds is what the definition says.
+use Rattle.std.proofs.Common.{◌≡◌, rules, tests}
+use Rattle.std.proofs.lemmas.Iterator.Search.{find_from_yields_List}
+use Rattle.wire.specs.Bytes.{fields_in}
+use Rattle.wire.proofs.Walks.{YieldsList-from_walk}
+use Rattle.attributes.specs.Names.{has_name, named_in}
+use Rattle.attributes.proofs.Repeats.{named_found, found_below}
 use Rattle.attributes.proofs.find_named.Goals as goal
 
-pub returns-then-two_at-name : goal.returns-then-two_at-name
-unfolding Below
-returns-then-two_at-name c = (named_found _ _ _ _ _ c.loop-q.invariant c.loop-q-test.true (eq-eqb _ _ (sym c.two_at.ensures ∙ c.if-two_at-name.true)), c.loop-q-test.true)
-
-pub loop-q-smaller : goal.loop-q-smaller
-loop-q-smaller c = omega (arith, c.end_of-q.ensures)
-
-pub loop-q-preserved : goal.loop-q-preserved
-loop-q-preserved c = named_further _ _ _ _ _ c.loop-q.invariant c.loop-q-test.true (ne_eqb _ _ (λ e. c.if-two_at-name.false (c.two_at.ensures ∙ e))) c.end_of-q.ensures
-
 pub returns : goal.returns
-unfolding Below
-returns c = (named_nowhere _ _ _ _ _ c.loop-q.invariant c.loop-q-test.false, tt)
+returns c =
+    let a = c.args in
+    let found : c.find.result ≡ named_in a.m.now a.name (fields_in a.m.now a.first a.end) = named_found _ _ _ (find_from_yields_List (has_name a.m.now a.name) c.find.new.self _ c.find.result c.find.ensures.ran (YieldsList-from_walk (fields_in a.m.now a.first a.end) cc) (λ x b q k. search (rules, tests))) in
+    (found, found_below a.m.now a.name a.first a.end found)

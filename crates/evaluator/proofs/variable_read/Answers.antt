@@ -14,7 +14,7 @@ pub returns-in_err-variable : goal.returns-in_err-variable
 returns-in_err-variable c =
     let unknown : c.variable_at.result ≡ None = grind arith in
     let handed_on : c.from_residual.result ≡ Err c.at.result = grind arith in
-    (grows_none c.requires.1, λ out fill d s low high. told_joined _ _ _ _ _ _ _ _ (sought_unknown _ _ _ _ unknown handed_on c.at.ensures) (c.variable_at.ensures out fill d s low high))
+    (grows_none (omega arith), λ out fill d s low high. told_joined _ _ _ _ _ _ _ _ (sought_unknown _ _ _ _ unknown handed_on c.at.ensures) (c.variable_at.ensures out fill d s low high))
 
 pub returns : goal.returns
 returns c =

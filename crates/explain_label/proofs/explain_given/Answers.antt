@@ -1,6 +1,6 @@
 -- `explain_given`: the question, by its lines, and by the list's length if there is one.
-use mathlib.Core.Path.{refl, sym, ap, ◌∙◌}
-use Rattle.explain_label.specs.Answering.{explained_by, explained}
+use mathlib.Core.Path.{refl, ◌∙◌}
+use Rattle.explain_label.specs.Answering.{explained}
 use Rattle.explain_label.proofs.Answering.{explained_given, explained_listed}
 use Rattle.explain_label.proofs.explain_given.Goals as goal
 

@@ -1,11 +1,11 @@
 -- `answer`: what is asked for is called, and its answer is written; for another line nothing is.
-use mathlib.Core.Path.{refl, sym}
+use mathlib.Core.Path.{refl}
 use mathlib.Core.List.{[]}
 use native.Mathlib.Omega.{arith}
 use Rattle.notation.specs.Convert.{convert}
 use Rattle.notation.specs.Printer.{print}
 use Rattle.manifest_text.specs.Answers.{types_given, bytes_given, effect_text, place_line, Answers}
-use Rattle.manifest_text.proofs.Answering.{all_left, same_so}
+use Rattle.manifest_text.proofs.Answering.{all_left}
 use Rattle.manifest_text.proofs.answer.Goals as goal
 
 pub write_answer-requires : goal.write_answer-requires

@@ -1,6 +1,5 @@
 -- `write_all`: the answer fits its buffer, and is the whole.
 use mathlib.Core.Path.{◌∙◌}
-use Rattle.std.proofs.lemmas.Result.{on_ok_weaker}
 use Rattle.standard_streams.proofs.Sending.{last_bytes, last_next, all_sent}
 use Rattle.manifest_text.proofs.Answering.{then_so, then_all}
 use Rattle.manifest_text.proofs.write_all.Goals as goal

@@ -106,7 +106,7 @@ pub selector_marks-marks_read-marks-requires : goal.selector_marks-marks_read-ma
 selector_marks-marks_read-marks-requires t c = (omega arith, resized c.requires c.place-scrutinee.ensures.0)
 
 pub selector_marks-evaluate-a-requires : goal.selector_marks-evaluate-a-requires
-selector_marks-evaluate-a-requires t c = (resized c.requires c.place-scrutinee.ensures.0, refl)
+selector_marks-evaluate-a-requires t c = resized c.requires c.place-scrutinee.ensures.0
 
 pub selector_marks-overflow_add-p-2 : goal.selector_marks-overflow_add-p-2
 selector_marks-overflow_add-p-2 t c = omega (arith, c.requires.place)

@@ -8,7 +8,7 @@ use Rattle.provenance.proofs.Notes.{part_refused, part_found}
 use Rattle.provenance.proofs.attribute_part.Goals as goal
 
 pub evaluate-e-requires : goal.evaluate-e-requires
-evaluate-e-requires c = (resized c.requires c.place-at.ensures.0, refl)
+evaluate-e-requires c = resized c.requires c.place-at.ensures.0
 
 pub marks_read-marks-requires : goal.marks_read-marks-requires
 marks_read-marks-requires c = resized c.requires c.place-at.ensures.0

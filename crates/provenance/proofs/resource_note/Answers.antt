@@ -13,7 +13,7 @@ pub returns-then-depth-lt2 : goal.returns-then-depth-lt2
 returns-then-depth-lt2 c = resource_flat _ _ _ _ _ _ _ c.if-depth-lt2.true
 
 pub evaluate-t-requires : goal.evaluate-t-requires
-evaluate-t-requires c = (resized c.requires c.place-at.ensures.0, refl)
+evaluate-t-requires c = resized c.requires c.place-at.ensures.0
 
 pub returns-in_default : goal.returns-in_default
 unfolding no_labels

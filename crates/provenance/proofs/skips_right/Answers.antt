@@ -17,7 +17,7 @@ pub overflow_add-p-2 : goal.overflow_add-p-2
 overflow_add-p-2 c = omega (arith, c.requires.place)
 
 pub evaluate-a-requires : goal.evaluate-a-requires
-evaluate-a-requires c = (resized c.requires c.place.ensures.0, refl)
+evaluate-a-requires c = resized c.requires c.place.ensures.0
 
 pub returns : goal.returns
 unfolding no_labels

@@ -1,12 +1,7 @@
 -- `write_answer`: by the kind of the answer.
 use Prim.Native.Nat.{ℕ}
-use mathlib.Core.Path.{◌≡◌, sym, ap, ◌∙◌}
-use native.Mathlib.Omega.{arith}
-use Rattle.std.specs.Prelude.{Option, Ok, Some, None}
+use mathlib.Core.Path.{ap}
 use borrow.Author.Rules.{rules}
-use Rattle.values.specs.declared.Among.{Among}
-use Rattle.values.specs.Answers.{Explanation}
-use Rattle.values.specs.Numbers.{part_number}
 use Rattle.rules.specs.Schedule.{refusal_line}
 use Rattle.question.specs.Answers.{among_line, not_among_line, numbers_line, answer_line}
 use Rattle.question.proofs.Putting.{put_is}

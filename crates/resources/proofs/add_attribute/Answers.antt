@@ -12,7 +12,7 @@ pub overflow_add-q : goal.overflow_add-q
 overflow_add-q c = omega (arith, c.requires.0.place)
 
 pub evaluate-requires : goal.evaluate-requires
-evaluate-requires c = (resized c.requires.0 c.place.ensures.0, refl)
+evaluate-requires c = resized c.requires.0 c.place.ensures.0
 
 pub overflow_add-q-2 : goal.overflow_add-q-2
 overflow_add-q-2 c = omega (arith, c.requires.0.place)

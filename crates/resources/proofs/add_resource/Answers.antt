@@ -13,7 +13,7 @@ pub returns-then-depth-lt2 : goal.returns-then-depth-lt2
 returns-then-depth-lt2 c = resource_flat _ _ _ _ _ _ _ _ _ c.if-depth-lt2.true (ap Err c.at.ensures)
 
 pub evaluate-requires : goal.evaluate-requires
-evaluate-requires c = (resized c.requires.0 c.place-at.ensures.0, refl)
+evaluate-requires c = resized c.requires.0 c.place-at.ensures.0
 
 pub returns-in_err-value : goal.returns-in_err-value
 unfolding no_labels

@@ -13,10 +13,10 @@ pub overflow_sub-depth : goal.overflow_sub-depth
 overflow_sub-depth c = omega (arith, has_level c.requires.0.1.stands)
 
 pub evaluate-requires : goal.evaluate-requires
-evaluate-requires c = let pre = c.requires in (resized pre.0.0 (condition_place pre.0.1.stands pre.0.0.manifest), refl)
+evaluate-requires c = let pre = c.requires in resized pre.0.0 (condition_place pre.0.1.stands pre.0.0.manifest)
 
 pub try_case-requires : goal.try_case-requires
-try_case-requires c = ((c.requires.0.1, c.requires.1), c.evaluate.ensures.0.size)
+try_case-requires c = (c.requires.0.1, c.requires.1)
 
 pub returns-in_err-value : goal.returns-in_err-value
 unfolding no_labels

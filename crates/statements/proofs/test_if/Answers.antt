@@ -12,7 +12,7 @@ pub overflow_sub-depth : goal.overflow_sub-depth
 overflow_sub-depth c = omega (arith, has_level c.requires.0.1.stands)
 
 pub evaluate-requires : goal.evaluate-requires
-evaluate-requires c = let pre = c.requires in (resized pre.0.0 (condition_place pre.0.1.stands pre.0.0.manifest), refl)
+evaluate-requires c = let pre = c.requires in resized pre.0.0 (condition_place pre.0.1.stands pre.0.0.manifest)
 
 pub returns-in_err-value : goal.returns-in_err-value
 unfolding no_labels

@@ -5,7 +5,7 @@ use Rattle.statements.proofs.Cases.{case_struck, case_tried}
 use Rattle.statements.proofs.try_case.Goals as goal
 
 pub struck_pattern-requires : goal.struck_pattern-requires
-struck_pattern-requires c = let pre = c.requires in (omega (arith, c.end_of-end.ensures, pre.0.0.stands.stands.ends, pre.0.0.manifest), pre.0.0.memory)
+struck_pattern-requires c = let pre = c.requires in (omega (arith, c.end_of-end.ensures, pre.0.stands.stands.ends, pre.0.manifest), pre.0.memory)
 
 pub at-requires : goal.at-requires
 at-requires c = near_at c.in-Some.is c.struck_pattern.ensures.1

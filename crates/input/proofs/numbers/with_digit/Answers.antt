@@ -1,5 +1,4 @@
 -- `with_digit`: no digit, too large a number for 32 bits or for the limit, or the number.
-use mathlib.Core.Path.{sym, ◌∙◌}
 use native.Mathlib.Omega.{arith}
 use Rattle.input.proofs.Digits.{some_up_to, none_up_to, no_digit, a_digit}
 use Rattle.input.proofs.numbers.with_digit.Goals as goal

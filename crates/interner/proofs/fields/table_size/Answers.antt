@@ -14,8 +14,8 @@ loop-i-init c =
 pub overflow_mul-i : goal.overflow_mul-i
 overflow_mul-i c = omega (arith, c.requires.small)
 
-pub two_in-place-requires : goal.two_in-place-requires
-two_in-place-requires c = omega (arith, c.requires.room)
+pub two_in-requires : goal.two_in-requires
+two_in-requires c = omega (arith, c.requires.room)
 
 pub overflow_add-size : goal.overflow_add-size
 overflow_add-size c = omega (arith, c.string_size.ensures.1, c.requires.short)
@@ -27,7 +27,7 @@ pub loop-i-preserved : goal.loop-i-preserved
 loop-i-preserved c =
     let a = c.args in
     let l = c.loop-i in
-    let size : c.string_size.result ≡ length (entry_string a.text.now a.table.now l.i) = c.string_size.ensures.0 ∙ ap length (entry_at a.text.now a.table.now _ l.i c.two_in-place.ensures) in
+    let size : c.string_size.result ≡ length (entry_string a.text.now a.table.now l.i) = c.string_size.ensures.0 ∙ ap length (entry_at a.text.now a.table.now _ l.i (c.from-place.ensures ∙ c.two_in.ensures)) in
     (omega (arith, l.invariant.0, size, next_length a.text.now a.table.now a.count l.i c.loop-i-test.true), omega (arith, l.invariant.1, c.string_size.ensures.1, c.requires.short), omega arith)
 
 pub returns : goal.returns

@@ -1,5 +1,5 @@
 -- `table_size`: the fields counted and those left make the whole field.
-use Prim.Native.Nat.{◌+◌, ◌*◌, ◌-◌, ◌≤◌}
+use Prim.Native.Nat.{◌+◌, ◌*◌, ◌≤◌}
 use mathlib.Core.Path.{◌≡◌}
 use lib.ListN.{length}
 use Rattle.interner.specs.TableField.{table_bytes}
@@ -8,6 +8,3 @@ use Rattle.interner.proofs.fields.table_size.Given as goal
 
 abbrev pub invariant-loop-i : goal.invariant-loop-i
 invariant-loop-i l = (l.size + length (fields_from l.text l.table l.count l.i) ≡ length (table_bytes l.text l.table l.count)) × (l.size ≤ 3 + 65538 * l.i) × (l.i ≤ l.count)
-
-abbrev pub decreases-loop-i : goal.decreases-loop-i
-decreases-loop-i l = l.count - l.i

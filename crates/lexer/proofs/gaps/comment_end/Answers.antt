@@ -1,8 +1,9 @@
 -- `comment_end`: no byte passed is a line feed.
-use mathlib.Core.Path.{◌∙◌}
+use mathlib.Core.Path.{◌≡◌, ◌∙◌}
 use native.Mathlib.Omega.{arith}
 use borrow.Author.Tests.{ne_eqb}
-use lib.ListN.{get_or}
+use lib.ListN.{length, get_or}
+use Rattle.lexer.specs.Scanned.{CommentRun}
 use Rattle.lexer.proofs.Scanning.{comment_passed, comment_on, comment_ended, comment_finished}
 use Rattle.lexer.proofs.gaps.comment_end.Goals as goal
 
@@ -25,4 +26,6 @@ pub returns : goal.returns
 returns c =
     let l = c.loop-i in
     let t = c.args.text.now in
-    record { low = l.invariant.low; high = l.invariant.high; same_tokens = λ o line. l.invariant.goes_on o line ∙ comment_finished t l.i o line (omega arith) }
+    let all : l.i ≡ length t = omega arith in
+    let run : CommentRun t c.args.at l.i = record { low = l.invariant.low; high = l.invariant.high; same_tokens = λ o line. l.invariant.goes_on o line ∙ comment_finished t l.i o line (omega arith) } in
+    rw all at run

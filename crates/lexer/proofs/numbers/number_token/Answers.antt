@@ -17,14 +17,14 @@ pub returns-then-word_at : goal.returns-then-word_at
 returns-then-word_at c =
     let a = c.args in
     let d = c.read_digits-d in
-    let run : DigitsRun a.text.now (a.from + 1) (get_or a.text.now a.from 0 - 0x30) d.result = rw c.wide.ensures at d.ensures in
+    let run : DigitsRun a.text.now (a.from + 1) (get_or a.text.now a.from 0 - 0x30) d.result = rw c.from.ensures at d.ensures in
     λ o begun. rw c.plain.ensures (number_faulty a.text.now a.start a.line o a.from a.negative c.requires.0 c.requires.1 begun d.result run (sym c.word_at.ensures ∙ c.if-word_at.true))
 
 pub returns-then-largest-n : goal.returns-then-largest-n
 returns-then-largest-n c =
     let a = c.args in
     let d = c.read_digits-d in
-    let run : DigitsRun a.text.now (a.from + 1) (get_or a.text.now a.from 0 - 0x30) d.result = rw c.wide.ensures at d.ensures in
+    let run : DigitsRun a.text.now (a.from + 1) (get_or a.text.now a.from 0 - 0x30) d.result = rw c.from.ensures at d.ensures in
     let large = c.largest.ensures in
     λ o begun. rw c.plain-then-largest-n.ensures (number_large a.text.now a.start a.line o a.from a.negative c.requires.0 c.requires.1 begun d.result run (sym c.word_at.ensures ∙ c.if-word_at.false) (omega arith))
 
@@ -32,7 +32,7 @@ pub returns : goal.returns
 returns c =
     let a = c.args in
     let d = c.read_digits-d in
-    let run : DigitsRun a.text.now (a.from + 1) (get_or a.text.now a.from 0 - 0x30) d.result = rw c.wide.ensures at d.ensures in
+    let run : DigitsRun a.text.now (a.from + 1) (get_or a.text.now a.from 0 - 0x30) d.result = rw c.from.ensures at d.ensures in
     let large = c.largest.ensures in
     let fits : SFits w64 c.signed.result = record { sfits = c.signed.type_inv } in
     let same : to_z w64 (of_z w64 c.signed.result) ≡ signed_of a.negative d.result.value = to_z-of_z fits ∙ c.signed.ensures in

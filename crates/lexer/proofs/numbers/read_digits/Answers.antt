@@ -1,7 +1,8 @@
 -- `read_digits`: each digit goes on with the number.
-use mathlib.Core.Path.{refl, sym, ◌∙◌}
+use mathlib.Core.Path.{◌≡◌, refl, sym, ◌∙◌}
 use native.Mathlib.Omega.{arith}
-use lib.ListN.{get_or}
+use lib.ListN.{length, get_or}
+use Rattle.lexer.specs.Numbers.{DigitsRun}
 use Rattle.lexer.proofs.FoundNumbers.{digit_range, more_parts, digit_read}
 use Rattle.lexer.proofs.numbers.read_digits.Goals as goal
 
@@ -37,9 +38,11 @@ loop-i-preserved c =
     let l = c.loop-i in
     let t = c.args.text.now in
     let more = sym c.is_more.ensures ∙ c.if-not-is_more.false in
-    (omega arith, omega arith, λ p k s. l.invariant.2 p k s ∙ digit_read t l.i l.n p k s (omega arith) more ∙ rw (sym c.wide.ensures))
+    (omega arith, omega arith, λ p k s. l.invariant.2 p k s ∙ digit_read t l.i l.n p k s (omega arith) more ∙ rw (sym c.from.ensures))
 
 pub returns : goal.returns
 returns c =
     let l = c.loop-i in
-    record { low = l.invariant.0; high = l.invariant.1; same_tokens = l.invariant.2; stops = λ h. absurd (omega arith) }
+    let all : l.i ≡ length c.args.text.now = omega arith in
+    let run : DigitsRun c.args.text.now c.args.at c.args.first (record { end = l.i; value = l.n }) = record { low = l.invariant.0; high = l.invariant.1; same_tokens = l.invariant.2; stops = λ h. absurd (omega arith) } in
+    rw all at run

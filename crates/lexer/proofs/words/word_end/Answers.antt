@@ -3,7 +3,8 @@ use Prim.Native.Nat.{ℕ}
 use mathlib.Core.Path.{◌≡◌, sym, ◌∙◌}
 use mathlib.Core.Bool.{true}
 use native.Mathlib.Omega.{arith}
-use lib.ListN.{get_or}
+use lib.ListN.{length, get_or}
+use Rattle.lexer.specs.Scanned.{WordRun}
 use Rattle.notation.specs.Lexing.{in_word}
 use Rattle.lexer.proofs.Scanning.{inside_more}
 use Rattle.lexer.proofs.words.word_end.Goals as goal
@@ -28,4 +29,6 @@ loop-i-preserved c =
 pub returns : goal.returns
 returns c =
     let inv = c.loop-i.invariant in
-    record { low = inv.0; high = inv.1; inside = inv.2; stops = λ h. absurd (omega arith) }
+    let all : c.loop-i.i ≡ length c.args.text.now = omega arith in
+    let run : WordRun c.args.text.now c.args.at c.loop-i.i = record { low = inv.0; high = inv.1; inside = inv.2; stops = λ h. absurd (omega arith) } in
+    rw all at run

@@ -32,8 +32,8 @@ loop-i-preserved c =
     let l = c.loop-i in
     let a = c.args in
     let k : 8 - (a.end - l.i) - 1 ≡ 8 - (a.end - (l.i - 1)) = omega arith in
-    let fits = one_more l.n c.wide.result (8 - (a.end - l.i)) l.invariant.2 (omega arith) (omega arith) (omega (arith, c.type_inv.text (l.i - 1))) in
-    (omega arith, omega arith, rw k at fits, rw (c.wide.ensures, l.invariant.3) (little_more a.text.now l.i a.end (omega arith) l.invariant.1 (omega arith)))
+    let fits = one_more l.n c.from.result (8 - (a.end - l.i)) l.invariant.2 (omega arith) (omega arith) (omega (arith, c.type_inv.text (l.i - 1))) in
+    (omega arith, omega arith, rw k at fits, rw (c.from.ensures, l.invariant.3) (little_more a.text.now l.i a.end (omega arith) l.invariant.1 (omega arith)))
 
 pub returns : goal.returns
 returns c =

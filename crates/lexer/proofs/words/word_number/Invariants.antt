@@ -2,7 +2,6 @@
 use Prim.Native.Nat.{◌-◌, ◌^◌, ◌≤◌, ◌<◌}
 use mathlib.Core.Path.{◌≡◌}
 use lib.Seq.{slice}
-use Rattle.wire.proofs.Horner.{room}
 use Rattle.lexer.specs.Words.{little}
 use Rattle.lexer.proofs.words.word_number.Given as goal
 

@@ -18,4 +18,4 @@ keyword_at-requires c =
 pub returns : goal.returns
 returns c =
     let a = c.args in
-    λ o. rw c.plain-2.ensures (word_found a.text.now a.start a.line o c.word_end-end.result c.requires.2 c.word_end-end.ensures c.requires.1 (omega arith) c.keyword_at.result c.keyword_at.ensures)
+    λ o. rw (c.plain-2.ensures, c.unwrap_or-kind.ensures) (word_found a.text.now a.start a.line o c.word_end-end.result c.requires.2 c.word_end-end.ensures c.requires.1 (omega arith) c.keyword_at.result c.keyword_at.ensures)

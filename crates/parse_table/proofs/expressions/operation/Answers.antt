@@ -4,7 +4,6 @@ use native.Mathlib.Omega.{arith}
 use Prim.Native.Nat.{◌+◌, ◌-◌, ◌*◌, ◌/◌, ◌%◌}
 use mathlib.Core.List.{List}
 use mathlib.Core.Option.{some}
-use borrow.Author.Tests.{not-true, not-false}
 use Rattle.notation.specs.Grammar.{Symbol, row}
 use Rattle.parse_table.specs.Codes.{actions_in}
 use Rattle.parse_table.proofs.Packed.{right_side, accepted, allowed_level}

@@ -1,10 +1,9 @@
 -- `selector`: by the test of the level.
 use mathlib.Core.Path.{sym, ◌∙◌}
 use native.Mathlib.Omega.{arith}
-use Prim.Native.Nat.{◌+◌, ◌-◌, ◌/◌, ◌%◌}
-use borrow.Author.Tests.{not-true, not-false}
+use Prim.Native.Nat.{◌+◌}
 use Rattle.parse_table.specs.Codes.{action_of, actions_from, actions_in, symbol_of, symbols_onto, symbols_in}
-use Rattle.parse_table.proofs.Packed.{row_last, accepted, allowed_level}
+use Rattle.parse_table.proofs.Packed.{row_last, accepted}
 use Rattle.parse_table.proofs.expressions.selector.Goals as goal
 
 pub returns : goal.returns

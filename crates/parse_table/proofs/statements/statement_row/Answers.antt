@@ -1,12 +1,11 @@
 -- `statement_row`: each arm has the row of its kind; no other kind has one.
 use mathlib.Core.Path.{refl, sym, ap, ◌∙◌}
-use mathlib.Core.List.{[], ◌∷◌}
 use native.Mathlib.Omega.{arith}
 use Prim.Native.Nat.{◌+◌}
 use Rattle.notation.specs.Lexing.{find}
 use Rattle.notation.specs.Grammar.{statement_rows}
 use Rattle.parse_table.specs.Codes.{action_of, actions_from, actions_in, symbol_of, symbols_onto, symbols_in}
-use Rattle.parse_table.proofs.Packed.{row_last, absent}
+use Rattle.parse_table.proofs.Packed.{row_last}
 use Rattle.parse_table.proofs.statements.statement_row.Goals as goal
 
 pub returns-in-3 : goal.returns-in-3

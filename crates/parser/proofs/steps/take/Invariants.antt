@@ -2,8 +2,5 @@
 use Rattle.parser.proofs.Passing.{Going}
 use Rattle.parser.proofs.steps.take.Given as goal
 
-abbrev pub invariant-loop-n : goal.invariant-loop-n
-invariant-loop-n l = Going l.initial.stack l.initial.frames l.initial.out l.initial.building l.initial.n l.token l.names l.stack l.frames l.out l.building l.n
-
-abbrev pub decreases-loop-n : goal.decreases-loop-n
-decreases-loop-n l = l.n
+abbrev pub invariant-loop-below : goal.invariant-loop-below
+invariant-loop-below l = Going l.initial.stack l.initial.frames l.initial.out l.initial.building l.top l.token l.names l.stack l.frames l.out l.building l.below

@@ -141,7 +141,7 @@ pub operation-expression-right-requires : goal.operation-expression-right-requir
 operation-expression-right-requires t c = let o = operation_here c.requires in (omega arith, (c.requires.source, stands_at c.end_of.ensures o.right))
 
 pub operation-returns : goal.operation-returns
-operation-returns t c = operation_passes _ _ _ (operation_here c.requires) c.byte_at-op.ensures c.level_of-own.ensures c.operator_kind.ensures (one_above _) c.end_of.ensures c.open_bracket-before.ensures c.expression-left.ensures c.write_mark-sign.ensures c.expression-right.ensures c.close_bracket.ensures
+operation-returns t c = operation_passes _ _ _ (operation_here c.requires) c.byte_at-op.ensures c.level_of-own.ensures c.operator_kind.ensures (one_above _) c.end_of.ensures c.bracket-before.ensures c.expression-left.ensures c.write_mark-sign.ensures c.expression-right.ensures c.bracket.ensures
 
 pub selector-overflow_add-p : goal.selector-overflow_add-p
 selector-overflow_add-p t c = let o = selector_here c.requires in omega (arith, o.scrutinee.stands.ends, o.some, c.requires.stands.stands.ends, c.requires.source.short)
@@ -165,4 +165,4 @@ pub selector-arms-all-requires : goal.selector-arms-all-requires
 selector-arms-all-requires t c = let o = selector_here c.requires in (omega (arith, level o.scrutinee.stands), (c.requires.source, siblings_at (levels o.scrutinee.stands) c.end_of.ensures c.end_of-2.ensures o.arms, omega (arith, c.end_of-2.ensures, c.requires.stands.stands.ends, c.requires.source.short)))
 
 pub selector-returns : goal.selector-returns
-selector-returns t c = let o = selector_here c.requires in selector_passes _ _ _ _ _ _ o c.end_of.ensures c.end_of-2.ensures (levels o.scrutinee.stands) c.open_bracket-before.ensures c.expression-value.ensures c.write_mark-sign.ensures c.write_mark-open.ensures c.arms-all.ensures c.write_mark-close.ensures c.close_bracket.ensures
+selector-returns t c = let o = selector_here c.requires in selector_passes _ _ _ _ _ _ o c.end_of.ensures c.end_of-2.ensures (levels o.scrutinee.stands) c.bracket-before.ensures c.expression-value.ensures c.write_mark-sign.ensures c.write_mark-open.ensures c.arms-all.ensures c.write_mark-close.ensures c.bracket.ensures

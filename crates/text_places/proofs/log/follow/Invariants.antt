@@ -6,6 +6,3 @@ use Rattle.text_places.proofs.log.follow.Given as goal
 
 abbrev pub invariant-loop-n : goal.invariant-loop-n
 invariant-loop-n l = (l.n ≤ l.entries) × (followed (log_in l.log l.entries) l.offset ≡ followed (log_in l.log l.n) l.at)
-
-abbrev pub decreases-loop-n : goal.decreases-loop-n
-decreases-loop-n l = l.n
