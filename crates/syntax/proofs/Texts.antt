@@ -1,6 +1,6 @@
 -- One law for each way through `same_bytes`, `string_number`, `is_built_in_text` and `string_at`.
 use Prim.Native.Nat.{ℕ, zero, suc, ◌+◌, ◌*◌, ◌<◌, ◌≤◌}
-use mathlib.Core.Path.{◌≡◌, refl, sym, ap, ap₂, ◌∙◌}
+use mathlib.Core.Path.{◌≡◌, refl, sym, ap, ◌∙◌}
 use mathlib.Core.Bool.{Bool, true, false, ◌&&◌, ◌||◌, not}
 use mathlib.Core.List.{List, [], ◌∷◌}
 use mathlib.Core.Option.{some}
@@ -8,15 +8,12 @@ use native.Mathlib.Omega.{arith}
 use lib.Dec.{eqb, ltb, leb-suc-suc}
 use borrow.Author.Tests.{lt-ltb, ltb-true, eq-eqb, ne_eqb}
 use native.Mathlib.Numerals.{add-one}
-use lib.Pointwise.{pointwise}
-use Rattle.std.specs.List.{list_any, position, position_or_len}
+use Rattle.std.specs.List.{position, position_or_len}
 use Rattle.std.specs.Prelude.{cond}
 use lib.ListN.{length, get_or, get_or-eq_default, drop, drop_of_length-le}
 use lib.Seq.{drop-cons}
 use Rattle.rules.specs.Bytes.{pick, two, end_of, fields_in}
 use Rattle.rules.specs.Check.{text, string_places}
-use Rattle.rules.specs.Evaluate.{any}
-use Rattle.rules.proofs.Lists.{eqb_sym}
 use Rattle.rules.specs.Compile.{same_bytes, string_at, string_number}
 use Rattle.syntax.specs.Strings.{texts_at, string_texts, Indexed, found_of}
 use Rattle.std.specs.Prelude.{Option as CodeOption, Some, None}
@@ -92,19 +89,17 @@ place_below P qs {n} = go (ltb (position_or_len P qs) (length qs)) refl
 
 -- ---- One of several strings
 
--- the same test, its sides exchanged
-same_back : (x y : List ℕ) → pointwise eqb y x ≡ same_bytes x y
-unfolding same_bytes
-same_back [] [] = refl
-same_back [] (b ∷ y) = refl
-same_back (a ∷ x) [] = refl
-same_back (a ∷ x) (b ∷ y) = ap₂ (λ (c d : Bool). c && d) (eqb_sym b a) (same_back x y)
-
--- `contains` on several strings
-pub one_of : (x : List ℕ) (ys : List (List ℕ)) → list_any (λ y. pointwise eqb y x) ys ≡ any (same_bytes x) ys
-unfolding any
-one_of x [] = refl
-one_of x (y ∷ ys) = ap₂ (λ (c d : Bool). c || d) (same_back x y) (one_of x ys)
+-- eight tests joined from the left are those joined from the right
+pub one_of_eight : (a b c d e f g h : Bool) → (((((((a || b) || c) || d) || e) || f) || g) || h) ≡ (a || (b || (c || (d || (e || (f || (g || (h || false))))))))
+one_of_eight true b c d e f g h = refl
+one_of_eight false true c d e f g h = refl
+one_of_eight false false true d e f g h = refl
+one_of_eight false false false true e f g h = refl
+one_of_eight false false false false true f g h = refl
+one_of_eight false false false false false true g h = refl
+one_of_eight false false false false false false true h = refl
+one_of_eight false false false false false false false true = refl
+one_of_eight false false false false false false false false = refl
 
 -- ---- A string by its number
 

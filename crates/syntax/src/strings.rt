@@ -55,9 +55,11 @@ pub fn index_fields(m: &[u8], from: usize, e: usize, table: &mut [u8]) -> u16
     ensures { (result ≡ length (fields_in m.now from e)) × (table.new ≡ over table.old 0 (place_bytes (fields_in m.now from e))) }
 {
     let mut n: u16 = 0;
-    for q in wire::fields_in(m, from, e) {
+    let mut q = from;
+    while q < e {
         put_number(table, 2 * n as usize, q as u64, 2);
         n += 1;
+        q = end_of(m, q);
     }
     n
 }
@@ -96,14 +98,16 @@ pub fn title_number(m: &[u8]) -> Option<u16>
     string_number(m, b"title")
 }
 
-// The eight types of document 01.
-const BUILT_IN: [&[u8]; 8] = [
-    b"kiosk", b"tablet", b"printer", b"scanner", b"gate", b"screen", b"plan", b"wall",
-];
-
 // Whether a type is one of the eight, by its name.
 pub fn is_built_in_text(text: &[u8]) -> bool
     ensures { result ≡ is_built_in_text the_eight text.now }
 {
-    BUILT_IN.contains(&text)
+    same_bytes(text, b"kiosk")
+        | same_bytes(text, b"tablet")
+        | same_bytes(text, b"printer")
+        | same_bytes(text, b"scanner")
+        | same_bytes(text, b"gate")
+        | same_bytes(text, b"screen")
+        | same_bytes(text, b"plan")
+        | same_bytes(text, b"wall")
 }
