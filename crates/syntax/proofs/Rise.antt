@@ -2,37 +2,44 @@
 use mathlib.Core.Path.{◌≡◌, refl, sym, ap, ◌∙◌}
 use mathlib.Core.Bool.{Bool, true, false}
 use mathlib.Core.List.{List, [], ◌∷◌}
-use Prim.Native.Nat.{ℕ, ◌+◌, ◌-◌, ◌≤◌}
+use Prim.Native.Nat.{ℕ, ◌+◌, ◌-◌, ◌<◌, ◌≤◌}
 use native.Mathlib.Omega.{arith}
-use lib.ListN.{length, take, drop, length-drop, drop_of_length-le}
-use lib.Seq.{take_all, take-nil}
-use borrow.Author.Tests.{lt-ltb, le-ltb, ltb-true, ltb-false, eqb-true, eqb-false}
-use lib.Dec.{eqb, ltb}
-use Rattle.std.specs.Prelude.{Some}
-use Rattle.std.proofs.Common.{Ordering, Less, Equal, Greater, cond}
-use Rattle.std.specs.Ordering.{nat_cmp, is_lt, is_some_and, MatchOrdering}
-use Rattle.std.specs.Cmp.Lexicographic.{slice_partial_cmp}
-use Rattle.std.proofs.lemmas.Cmp.{same_from_slice_cmp_tested}
+use native.Mathlib.Numerals.{add-one}
+use lib.ListN.{length, get_or, take, drop, length-drop, drop_of_length-le}
+use lib.Seq.{drop-cons, take_all, take-nil}
+use borrow.Author.Tests.{lt-ltb, le-ltb, ltb-true, ltb-false}
+use lib.Dec.{ltb}
 use Rattle.values.specs.declared.Reason.TheVariants.{StringOrder}
 use Rattle.rules.specs.Bytes.{pick, two, end_of, fields_in}
 use Rattle.rules.specs.Check.{ascends, text, rising_from, rising}
 use Rattle.wire.proofs.Fields.{no_fields, field_first}
 use Rattle.rules.specs.Verdicts.{Verdict, fault_at, no_fault}
 
--- one byte further in the order of two strings
-order_step : (x y : ℕ) (xs ys : List ℕ) (o : Ordering) → o ≡ nat_cmp x y → MatchOrdering o (ascends (x ∷ xs) (y ∷ ys) ≡ true) (ascends (x ∷ xs) (y ∷ ys) ≡ ascends xs ys) (ascends (x ∷ xs) (y ∷ ys) ≡ false)
+-- the order of two strings, one byte further
+never_last : (x : List ℕ) → ascends x [] ≡ false
 unfolding ascends
-order_step x y xs ys o is = rw is (go (ltb x y) refl (eqb x y) refl)
-  where
-    go : (a : Bool) → ltb x y ≡ a → (b : Bool) → eqb x y ≡ b → MatchOrdering (cond a Less (cond b Equal Greater)) (pick a true (pick (ltb y x) false (ascends xs ys)) ≡ true) (pick a true (pick (ltb y x) false (ascends xs ys)) ≡ ascends xs ys) (pick a true (pick (ltb y x) false (ascends xs ys)) ≡ false)
-    go true l b e = refl
-    go false l true e = let same : x ≡ y = eqb-true x y e in rw (le-ltb y x (omega arith)) refl
-    go false l false e = let other : x ≡ y → ⊥ = eqb-false x y e in rw (lt-ltb y x (omega (arith, ltb-false x y l))) refl
+never_last [] = refl
+never_last (a ∷ x) = refl
 
--- `<` on slices is this order
-pub order_of_slices : (x y : List ℕ) (r : Bool) → r ≡ is_some_and is_lt (slice_partial_cmp (λ a b. Some (nat_cmp a b)) x y) → r ≡ ascends x y
-unfolding ascends
-order_of_slices x y r = same_from_slice_cmp_tested nat_cmp is_lt ascends refl (λ y ys. refl) (λ x xs. refl) order_step x y r
+module _ (x y : List ℕ) (i : ℕ) {whole : Bool} where
+  pub first_ends : i < length y → length x ≤ i → ascends (drop i x) (drop i y) ≡ whole → true ≡ whole
+  unfolding ascends
+  first_ends l h w = rw (drop_of_length-le x h, drop-cons y i 0 l) at w
+
+  pub smaller : i < length y → i < length x → get_or x i 0 < get_or y i 0 → ascends (drop i x) (drop i y) ≡ whole → true ≡ whole
+  unfolding ascends
+  smaller l h a w = rw (drop-cons x i 0 h, drop-cons y i 0 l, lt-ltb _ _ a) at w
+
+  pub larger : i < length y → i < length x → get_or y i 0 ≤ get_or x i 0 → get_or y i 0 < get_or x i 0 → ascends (drop i x) (drop i y) ≡ whole → false ≡ whole
+  unfolding ascends
+  larger l h a b w = rw (drop-cons x i 0 h, drop-cons y i 0 l, le-ltb _ _ a, lt-ltb _ _ b) at w
+
+  pub same : i < length y → i < length x → get_or y i 0 ≤ get_or x i 0 → get_or x i 0 ≤ get_or y i 0 → ascends (drop i x) (drop i y) ≡ whole → ascends (drop (i + 1) x) (drop (i + 1) y) ≡ whole
+  unfolding ascends
+  same l h a b w = rw add-one (rw (drop-cons x i 0 h, drop-cons y i 0 l, le-ltb _ _ a, le-ltb _ _ b) at w)
+
+  pub second_ends : length y ≤ i → ascends (drop i x) (drop i y) ≡ whole → false ≡ whole
+  second_ends h w = sym (never_last (drop i x)) ∙ (rw (drop_of_length-le y h) at w)
 
 -- the body of a field, as much of it as is there
 module _ (m : List ℕ) (p : ℕ) where

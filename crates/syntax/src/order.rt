@@ -12,7 +12,20 @@ use wire::end_of;
 pub fn comes_before(x: &[u8], y: &[u8]) -> bool
     ensures { result ≡ ascends x.now y.now }
 {
-    x < y
+    for i in 0..y.len() {
+        if x.len() <= i {
+            return true;
+        }
+        let a = x[i];
+        let b = y[i];
+        if a < b {
+            return true;
+        }
+        if b < a {
+            return false;
+        }
+    }
+    false
 }
 
 // The strings from 3 to `e`, each against the one before it.
