@@ -1,7 +1,7 @@
 -- Bytes written one after the other: two pieces are one. Assumes nothing.
 use mathlib.Core.Path.{◌≡◌, refl, sym, ap, ◌∙◌}
 use mathlib.Core.Bool.{Bool, true, false}
-use mathlib.Core.List.{List, [], ◌++◌, append_assoc}
+use mathlib.Core.List.{List, [], ◌∷◌, ◌++◌, append_assoc}
 use Prim.Native.Nat.{ℕ, ◌+◌, ◌-◌, ◌≤◌, ◌<◌, min}
 use native.Mathlib.Omega.{arith}
 use borrow.Author.Tests.{ltb-true, ltb-false}
@@ -11,7 +11,8 @@ use lib.ListN.{length, take, drop, replicate, length-append, length-replicate}
 use lib.Seq.{drop-drop}
 use Rattle.std.proofs.lemmas.List.{replicate-append-replicate}
 use Rattle.wire.specs.Runs.{over}
-use Rattle.wire.proofs.Laws.{over_length, over_join, over_parts, over_past, then_store}
+use Rattle.wire.specs.Numbers.{high_bytes}
+use Rattle.wire.proofs.Laws.{over_length, over_join, over_parts, over_past, then_store, one_byte}
 use Rattle.token_writer.specs.Writing.{Wrote}
 
 module _ {a b : List ℕ} {f g : ℕ} where
@@ -78,6 +79,10 @@ module _ (m : List ℕ) (at count x : ℕ) where
 
 pub run_wrote : (a b : List ℕ) (f n x : ℕ) → b ≡ over a f (replicate n x) → Wrote a b f (f + n) (replicate n x)
 run_wrote a b f n x e = record { filled = omega (arith, length-replicate n x); stored = e }
+
+-- a byte alone
+pub byte_wrote : (a b : List ℕ) (f x : ℕ) → x < 256 → b ≡ over a f (high_bytes 1 x) → Wrote a b f (f + 1) (x ∷ [])
+byte_wrote a b f x small e = record { filled = refl; stored = e ∙ ap (over a f) (one_byte x small) }
 
 -- where a run ends
 pub run_end : {a b : List ℕ} {f g : ℕ} (n x : ℕ) → Wrote a b f g (replicate n x) → g ≡ f + n

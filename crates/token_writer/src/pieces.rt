@@ -34,7 +34,10 @@ fn put_escaped(out: &mut [u8], at: usize, b: u8) -> usize
         b'\'' => put_bytes(out, at, b"\\'"),
         b'\\' => put_bytes(out, at, b"\\\\"),
         b'\n' => put_bytes(out, at, b"\\n"),
-        _ => put_run(out, at, b, 1),
+        _ => {
+            wire::put_byte(out, at, b);
+            at + 1
+        }
     }
 }
 
