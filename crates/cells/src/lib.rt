@@ -60,7 +60,10 @@ fn counted_link(work: &[u8], chain: usize, p: usize, link: u16) -> Option<usize>
     requires { (p ≤ 512) × (65536 ≤ length work.now) }
     ensures { reference result ≡ counted (chain_in work.now) chain p link }
 {
-    let i = (link as usize).checked_sub(1)?;
+    if link == 0 {
+        return None;
+    }
+    let i = link as usize - 1;
     if p <= i {
         return None;
     }
