@@ -124,5 +124,8 @@ pub fn do_actions(
     if actions < 256 {
         return first;
     }
-    do_actions(out, frames, first?, actions / 256, token, names)
+    let Some(next) = first else {
+        return None;
+    };
+    do_actions(out, frames, next, actions / 256, token, names)
 }

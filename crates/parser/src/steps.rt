@@ -30,7 +30,9 @@ fn take_row(
     requires { Steppable stack.old frames.old out.old s top token names × TakenRow stack.old top token row }
     ensures { Steps token names s top stack.old frames.old out.old result stack.new frames.new out.new }
 {
-    let building = do_actions(out, frames, s, row.actions, token, names)?;
+    let Some(building) = do_actions(out, frames, s, row.actions, token, names) else {
+        return None;
+    };
     let top = push(stack, top, row.symbols);
     Some(Machine { top, building })
 }
@@ -59,7 +61,10 @@ pub fn take(
         if actions == NONE {
             continue;
         }
-        building = do_actions(out, frames, building, actions, token, names)?;
+        let Some(next) = do_actions(out, frames, building, actions, token, names) else {
+            return None;
+        };
+        building = next;
     }
     None
 }

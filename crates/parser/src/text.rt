@@ -199,9 +199,9 @@ pub fn read_text(
 {
     let mut pass = begin(stack, count);
     loop {
-        match read_token(types, index, listed, text, out, frames, stack, table, pass)? {
-            Read::On(next) => pass = next,
-            Read::Done(last) => {
+        match read_token(types, index, listed, text, out, frames, stack, table, pass) {
+            Ok(Read::On(next)) => pass = next,
+            Ok(Read::Done(last)) => {
                 let machine = last.machine;
                 let building = machine.building;
                 return Ok(Whole {
@@ -210,6 +210,7 @@ pub fn read_text(
                     fill: building.fill,
                 });
             }
+            Err(place) => return Err(place),
         }
     }
 }

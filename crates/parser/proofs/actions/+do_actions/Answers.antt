@@ -17,14 +17,14 @@ pub do_actions-requires : goal.do_actions-requires
 do_actions-requires t c =
     let p = c.requires in
     let n = c.if-actions-eq0.false in
-    (omega arith, record { types = p.types; stands = stands_next p.types _ _ _ _ _ _ n (omega arith) p.stands _ _ _ _ c.in_ok-first.was (c.do_action-first.ensures.0 p.types) (search rules) })
+    (omega arith, record { types = p.types; stands = stands_next p.types _ _ _ _ _ _ n (omega arith) p.stands _ _ _ _ c.in-Some.is (c.do_action-first.ensures.0 p.types) (search rules) })
 
 pub returns : goal.returns
 returns t c =
     let n = c.if-actions-eq0.false in
     let small = c.ranges.actions in
-    let first = c.in_ok-first.was in
+    let first = c.in-Some.is in
     (λ types. then_others types _ _ _ _ _ _ n (omega (arith, small)) _ _ _ _ _ _ _ first (c.do_action-first.ensures.0 types) (c.do_actions.ensures.0 types), then_reads _ _ _ n (omega (arith, small)) _ _ _ first c.do_action-first.ensures.1 c.do_actions.ensures.1)
 
-pub returns-in_err-first : goal.returns-in_err-first
-returns-in_err-first t c = rw c.from_residual.ensures (λ types. first_stopped types _ _ _ _ _ _ c.if-actions-eq0.false (omega arith) _ _ _ c.in_err-first.was (c.do_action-first.ensures.0 types), stopped_reads _ _ _ c.if-actions-eq0.false (omega arith))
+pub returns-in_default : goal.returns-in_default
+returns-in_default t c = (λ types. first_stopped types _ _ _ _ _ _ c.if-actions-eq0.false (omega arith) _ _ _ c.in_default.is (c.do_action-first.ensures.0 types), stopped_reads _ _ _ c.if-actions-eq0.false (omega arith))

@@ -30,10 +30,10 @@ pub do_actions-requires : goal.do_actions-requires
 do_actions-requires c = let r = c.loop-below.invariant.ready in record { types = r.types; stands = stands_left r.types _ c.left_out.result c.left_out.ensures _ _ _ _ c.in_ok-actions.was _ _ _ _ (omega arith) r.steppable }
 
 pub loop-below-preserved : goal.loop-below-preserved
-loop-below-preserved c = going_next _ _ _ _ _ _ _ _ _ _ _ _ c.loop-below.invariant (omega arith) c.row.result c.row.ensures c.in_default.is _ _ _ _ c.in_ok-building.was (λ types. leaves_done types _ c.left_out.result c.left_out.ensures _ _ _ _ c.in_ok-actions.was _ _ _ _ _ (c.do_actions.ensures.0 types)) (search rules) (search rules)
+loop-below-preserved c = going_next _ _ _ _ _ _ _ _ _ _ _ _ c.loop-below.invariant (omega arith) c.row.result c.row.ensures c.in_default.is _ _ _ _ c.in-Some-do_actions.is (λ types. leaves_done types _ c.left_out.result c.left_out.ensures _ _ _ _ c.in_ok-actions.was _ _ _ _ _ (c.do_actions.ensures.0 types)) (search rules) (search rules)
 
-pub returns-in_err-building : goal.returns-in_err-building
-returns-in_err-building c = rw c.from_residual-in_err-building.ensures (c.loop-below.invariant.goes_on _ _ _ _ (λ types. out_stuck types _ _ _ _ _ _ _ (omega arith) c.row.result c.row.ensures c.in_default.is _ _ _ c.in_err-building.was (leaves_done types _ c.left_out.result c.left_out.ensures _ _ _ _ c.in_ok-actions.was _ _ _ _ _ (c.do_actions.ensures.0 types))))
+pub returns-in_default-do_actions : goal.returns-in_default-do_actions
+returns-in_default-do_actions c = c.loop-below.invariant.goes_on _ _ _ _ (λ types. out_stuck types _ _ _ _ _ _ _ (omega arith) c.row.result c.row.ensures c.in_default.is _ _ _ c.in_default-do_actions.is (leaves_done types _ c.left_out.result c.left_out.ensures _ _ _ _ c.in_ok-actions.was _ _ _ _ _ (c.do_actions.ensures.0 types)))
 
 pub returns : goal.returns
 returns c = c.loop-below.invariant.goes_on _ _ _ _ (λ types. none_left types _ _ _ _ _ _ _ (omega arith))

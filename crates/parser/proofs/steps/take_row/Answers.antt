@@ -10,7 +10,7 @@ pub push-top-requires : goal.push-top-requires
 push-top-requires c = let p = c.requires in row_room p.0.types _ _ _ _ _ _ _ _ p.1 p.0.steppable
 
 pub returns : goal.returns
-returns c = let d = c.do_actions.ensures in λ types. row_onward types _ _ _ _ _ _ _ _ c.requires.1 _ _ _ _ _ _ c.in_ok-building.was (d.0 types) d.1 c.push-top.ensures
+returns c = let d = c.do_actions.ensures in λ types. row_onward types _ _ _ _ _ _ _ _ c.requires.1 _ _ _ _ _ _ c.in-Some.is (d.0 types) d.1 c.push-top.ensures
 
-pub returns-in_err-building : goal.returns-in_err-building
-returns-in_err-building c = rw c.from_residual.ensures (λ types. row_stuck types _ _ _ _ _ _ _ _ c.requires.1 _ _ _ _ c.in_err-building.was (c.do_actions.ensures.0 types))
+pub returns-in_default : goal.returns-in_default
+returns-in_default c = λ types. row_stuck types _ _ _ _ _ _ _ _ c.requires.1 _ _ _ _ c.in_default.is (c.do_actions.ensures.0 types)

@@ -1,6 +1,6 @@
 -- `read_text`: a token after the other, up to the end or the first one that is refused.
-use mathlib.Core.Path.{◌≡◌, refl, ap, ◌∙◌}
-use Rattle.std.specs.Prelude.{Ok, Err}
+use mathlib.Core.Path.{refl, ap, ◌∙◌}
+use Rattle.std.specs.Prelude.{Ok}
 use native.Mathlib.Omega.{arith}
 use borrow.Author.Rules.{rules}
 use Rattle.parser.proofs.TextRead.{going_begun, forward, along_next, whole_read, refused_read}
@@ -16,15 +16,13 @@ pub read_token-requires : goal.read_token-requires
 read_token-requires c = (c.requires.0, c.loop-next.invariant.going.ready)
 
 pub loop-next-smaller : goal.loop-next-smaller
-loop-next-smaller c = let on = c.in_ok-next.was ∙ ap Ok c.in-On.is in forward _ _ _ _ _ _ _ _ _ _ _ _ c.loop-next.invariant _ _ _ _ _ c.read_token.ensures _ on
+loop-next-smaller c = let on = c.in-Ok-On.is ∙ ap Ok c.in-Ok-On.field-0-is in forward _ _ _ _ _ _ _ _ _ _ _ _ c.loop-next.invariant _ _ _ _ _ c.read_token.ensures _ on
 
 pub loop-next-preserved : goal.loop-next-preserved
-loop-next-preserved c = let on = c.in_ok-next.was ∙ ap Ok c.in-On.is in along_next _ _ _ _ _ _ _ _ _ _ _ _ c.loop-next.invariant _ _ _ _ _ c.read_token.ensures _ on (search rules) (search rules) (search rules) (search rules)
+loop-next-preserved c = let on = c.in-Ok-On.is ∙ ap Ok c.in-Ok-On.field-0-is in along_next _ _ _ _ _ _ _ _ _ _ _ _ c.loop-next.invariant _ _ _ _ _ c.read_token.ensures _ on (search rules) (search rules) (search rules) (search rules)
 
-pub returns-in-Done : goal.returns-in-Done
-returns-in-Done c = let done = c.in_ok-next.was ∙ ap Ok c.in-Done.is in whole_read _ _ _ _ _ _ _ _ _ _ _ _ c.loop-next.invariant _ _ _ _ _ c.read_token.ensures _ done
+pub returns-in-Ok-Done : goal.returns-in-Ok-Done
+returns-in-Ok-Done c = let done = c.in-Ok-Done.is ∙ ap Ok c.in-Ok-Done.field-0-is in whole_read _ _ _ _ _ _ _ _ _ _ _ _ c.loop-next.invariant _ _ _ _ _ c.read_token.ensures _ done
 
-pub returns-in_err-next : goal.returns-in_err-next
-returns-in_err-next c =
-    let handed_on : c.from_residual.result ≡ Err c.in_err-next.field-0.0 = grind arith in
-    rw handed_on (refused_read _ _ _ _ _ _ _ _ _ _ _ _ c.loop-next.invariant _ _ _ _ _ c.read_token.ensures _ c.in_err-next.was)
+pub returns-in-Err : goal.returns-in-Err
+returns-in-Err c = refused_read _ _ _ _ _ _ _ _ _ _ _ _ c.loop-next.invariant _ _ _ _ _ c.read_token.ensures _ c.in-Err.is
