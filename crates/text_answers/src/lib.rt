@@ -24,7 +24,7 @@ pub fn refuse(reason: Reason, place: u16, out: &mut [u8], work: &mut [u8]) -> An
     ensures { Leaves (refused reason place) out.old out.new work.old work.new result }
 {
     clear_from(0, out, work);
-    Err(Refusal { reason, place })
+    Err(Refusal::at(reason, place as usize))
 }
 
 // What is written stays; all other bytes lent become zero.
