@@ -4,9 +4,8 @@
 
 ghost use Rattle.std.specs.Prelude.{◌≤◌, length};
 
-use std::fmt;
 use std::io::{Input, Read};
-use text::{put_hex, read_hex, read_length, read_number};
+use text::{is_line_feed, is_space, put_hex, read_hex, read_length, read_number};
 
 // Numbers and bytes as text.
 mod text;
@@ -60,10 +59,10 @@ fn read_full(source: &mut impl Read, buffer: &mut [u8]) -> usize
 fn answer_lines(rt: &impl Print, lines: &[u8]) -> usize
     ensures { result ≤ length lines.now }
 {
-    let Some(last) = lines.iter().rposition(|byte| *byte == b'\n') else {
+    let Some(last) = lines.iter().rposition(|byte| is_line_feed(*byte)) else {
         return 0;
     };
-    for line in lines[..last].split(|byte| *byte == b'\n') {
+    for line in lines[..last].split(|byte| is_line_feed(*byte)) {
         answer_line(rt, line);
     }
     last + 1
@@ -83,7 +82,7 @@ fn answer_line(rt: &impl Print, line: &[u8]) {
         answer_case(rt, line, None);
         return;
     }
-    let mut parts = line.splitn(3, |byte| *byte == b' ');
+    let mut parts = line.splitn(3, |byte| is_space(*byte));
     let _word = parts.next();
     let mut room = [0u8; 3000];
     let types = bytes_of(parts.next(), &mut room);
@@ -105,7 +104,7 @@ fn answer_case(rt: &impl Print, line: &[u8], types: Option<&[u8]>) {
 
 // Device, limit, output length, memory length, manifest.
 fn answer_compile(rt: &impl Print, line: &[u8], types: Option<&[u8]>) {
-    let mut parts = line.split(|byte| *byte == b' ');
+    let mut parts = line.split(|byte| is_space(*byte));
     let mut room = [0u8; 300];
     let device = bytes_of(parts.next(), &mut room);
     let limit = read_number(parts.next().unwrap_or(b""), 65535) as u16;
@@ -143,7 +142,7 @@ fn print(types: Option<&[u8]>, manifest: &[u8], out: &mut [u8], work: &mut [u8])
 fn answer_text<F: FnOnce(&[u8], &mut [u8], &mut [u8]) -> u64>(rt: &impl Print, line: &[u8], call: F)
     requires { F.IsAlwaysCallable call }
 {
-    let mut parts = line.split(|byte| *byte == b' ');
+    let mut parts = line.split(|byte| is_space(*byte));
     let _word = parts.next();
     let mut out = [0u8; 70000];
     let output = read_length(parts.next().unwrap_or(b""), &out);
@@ -157,7 +156,7 @@ fn answer_text<F: FnOnce(&[u8], &mut [u8], &mut [u8]) -> u64>(rt: &impl Print, l
 
 // The word, device, type, title, attribute, label, memory length, manifest. No string of a manifest is longer than 255 bytes.
 fn answer_why(rt: &impl Print, line: &[u8], types: Option<&[u8]>) {
-    let mut parts = line.split(|byte| *byte == b' ');
+    let mut parts = line.split(|byte| is_space(*byte));
     let _word = parts.next();
     let (mut first, mut second, mut third, mut fourth) = (
         [0u8; 300], [0u8; 300], [0u8; 300], [0u8; 300],
@@ -190,13 +189,6 @@ struct Refused {
     place: u64,
 }
 
-impl fmt::Display for Refused {
-    fn fmt<W: fmt::Write>(&self, f: &mut fmt::Formatter<W>) -> fmt::Result {
-        let Refused { number, place } = *self;
-        write!(f, "refused {number} {place}")
-    }
-}
-
 // A refusal's word is number * 2^32 + place; any other is a word of what was accepted.
 fn accepted(word: u64) -> Result<u64, Refused> {
     if word < 4294967296 {
@@ -208,8 +200,17 @@ fn accepted(word: u64) -> Result<u64, Refused> {
     })
 }
 
+// Two numbers at the end of an answer. Each part is a write of its own, so that one which fails takes no other part with it.
+fn write_numbers(rt: &impl Print, first: u64, second: u64) {
+    let _ = print!(rt; "{first}");
+    let _ = rt.write_all(b" ");
+    let _ = print!(rt; "{second}");
+    let _ = rt.write_all(b"\n");
+}
+
 fn write_refused(rt: &impl Print, refused: Refused) {
-    let _ = println!(rt; "{refused}");
+    let _ = rt.write_all(b"refused ");
+    write_numbers(rt, refused.number, refused.place);
 }
 
 // Among them: part * 65536 + place. Not among them: 0.
@@ -219,7 +220,8 @@ fn write_explanation(rt: &impl Print, word: u64) {
             let _ = println!(rt; "not among");
         }
         Ok(among) => {
-            let _ = println!(rt; "among {} {}", among / 65536, among % 65536);
+            let _ = rt.write_all(b"among ");
+            write_numbers(rt, among / 65536, among % 65536);
         }
         Err(refused) => write_refused(rt, refused),
     }
@@ -240,7 +242,8 @@ fn write_text(rt: &impl Print, word: u64, out: &[u8]) {
 fn write_catalog(rt: &impl Print, word: u64, out: &[u8]) {
     match accepted(word) {
         Ok(made) => {
-            let _ = print!(rt; "ok {}", made / 65536);
+            let _ = rt.write_all(b"ok ");
+            let _ = print!(rt; "{}", made / 65536);
             write_bytes(rt, (made % 65536) as usize, out);
         }
         Err(refused) => write_refused(rt, refused),

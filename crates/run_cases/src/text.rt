@@ -1,7 +1,23 @@
-// Numbers and bytes as text.
-ghost use Rattle.std.specs.Prelude.{◌≡◌, ◌+◌, ◌*◌, ◌/◌, ◌≤◌, ◌<◌, min, length};
+// Lines and their parts, and numbers and bytes as text.
+ghost use Rattle.std.specs.Prelude.{◌≡◌, ◌+◌, ◌*◌, ◌/◌, ◌≤◌, ◌<◌, min, eqb, length};
 ghost use Rattle.wire.specs.Runs.{over};
 ghost use Rattle.run_cases.specs.Text.{IsPrefixLen, hex_value, hex_digit, pair_at, pairs, hex_text, number_up_to};
+
+// ---- Lines
+
+// Whether a byte ends a line.
+pub fn is_line_feed(byte: u8) -> bool
+    ensures { result ≡ eqb byte 10 }
+{
+    byte == b'\n'
+}
+
+// Whether a byte stands between two parts of a line.
+pub fn is_space(byte: u8) -> bool
+    ensures { result ≡ eqb byte 32 }
+{
+    byte == b' '
+}
 
 // ---- Reading
 
