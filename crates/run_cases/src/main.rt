@@ -7,7 +7,7 @@ ghost use Rattle.std.specs.Prelude.{◌≤◌, length};
 use std::io::{Input, Read};
 use text::{is_line_feed, is_space, put_hex, read_hex, read_length, read_number};
 
-// Numbers and bytes as text.
+// Lines and their parts, and numbers and bytes as text.
 mod text;
 
 fn main(rt: HostRuntime) {
