@@ -92,12 +92,10 @@ pub fn find_repeated(m: &[u8], first: usize, end: usize) -> Option<usize>
         return None;
     }
     let mut seen = [0u8; 1024];
-    let mut q = first;
-    while q < end {
+    for q in wire::fields_in(m, first, end) {
         if is_again(m, first, q, wire::two_at(m, q + 3), &mut seen) {
             return Some(q);
         }
-        q = wire::end_of(m, q);
     }
     None
 }

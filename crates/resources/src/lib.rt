@@ -73,12 +73,9 @@ fn gather(
     requires { Sized m.now work.now out.old fill span.end }
     ensures { (d : ℕ) → d ≡ suc inner → Gathered m.now work.now out.old out.new fill scope d span.first span.end outer own result }
 {
-    let end = span.end;
     let mut size: usize = catalog::layout::ENTRY_ATTRIBUTES;
-    let mut q = span.first;
-    while q < end {
+    for q in wire::fields_in(m, span.first, span.end) {
         size = add_attribute(m, inner, q, work, out, fill, size, scope, outer, own)?;
-        q = wire::end_of(m, q);
     }
     Ok(size)
 }

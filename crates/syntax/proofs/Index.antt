@@ -1,6 +1,6 @@
 -- The table of places: one law for each way through `index_strings`, and what the table then holds.
-use Prim.Native.Nat.{ℕ, ◌+◌, ◌*◌}
-use mathlib.Core.Path.{◌≡◌, ◌∙◌}
+use Prim.Native.Nat.{ℕ, ◌+◌, ◌*◌, ◌/◌, ◌%◌}
+use mathlib.Core.Path.{◌≡◌, refl, ◌∙◌}
 use mathlib.Core.List.{List, [], ◌∷◌}
 use native.Mathlib.Omega.{arith}
 use lib.ListN.{length}
@@ -10,6 +10,14 @@ use Rattle.wire.proofs.Laws.{over_join, high_length}
 use Rattle.rules.specs.Bytes.{end_of, fields_in}
 use Rattle.rules.specs.Check.{string_places}
 use Rattle.syntax.specs.Strings.{place_bytes, indexed}
+
+-- a place as a number of two bytes stands as the place itself
+pub low_two : (q : ℕ) → high_bytes 2 (q % 65536) ≡ high_bytes 2 q
+unfolding high_bytes
+low_two q =
+    let high : q % 65536 / 256 % 256 ≡ q / 256 % 256 = omega arith in
+    let low : q % 65536 / 1 % 256 ≡ q / 1 % 256 = omega arith in
+    rw (high, low) refl
 
 module _ (table : List ℕ) (n : ℕ) {qs whole : List ℕ} (so_far : over table (2 * n) (place_bytes qs) ≡ whole) where
   pub one_placed : {q : ℕ} {rest t : List ℕ} → qs ≡ q ∷ rest → t ≡ over table (2 * n) (high_bytes 2 q) → over t (2 * (n + 1)) (place_bytes rest) ≡ whole

@@ -2,44 +2,37 @@
 use mathlib.Core.Path.{◌≡◌, refl, sym, ap, ◌∙◌}
 use mathlib.Core.Bool.{Bool, true, false}
 use mathlib.Core.List.{List, [], ◌∷◌}
-use Prim.Native.Nat.{ℕ, ◌+◌, ◌-◌, ◌<◌, ◌≤◌}
+use Prim.Native.Nat.{ℕ, ◌+◌, ◌-◌, ◌≤◌}
 use native.Mathlib.Omega.{arith}
-use native.Mathlib.Numerals.{add-one}
-use lib.ListN.{length, get_or, take, drop, length-drop, drop_of_length-le}
-use lib.Seq.{drop-cons, take_all, take-nil}
-use borrow.Author.Tests.{lt-ltb, le-ltb, ltb-true, ltb-false}
-use lib.Dec.{ltb}
+use lib.ListN.{length, take, drop, length-drop, drop_of_length-le}
+use lib.Seq.{take_all, take-nil}
+use borrow.Author.Tests.{lt-ltb, le-ltb, ltb-true, ltb-false, eqb-true, eqb-false}
+use lib.Dec.{eqb, ltb}
+use Rattle.std.specs.Prelude.{Some}
+use Rattle.std.proofs.Common.{Ordering, Less, Equal, Greater, cond}
+use Rattle.std.specs.Ordering.{nat_cmp, is_lt, is_some_and, MatchOrdering}
+use Rattle.std.specs.Cmp.Lexicographic.{slice_partial_cmp}
+use Rattle.std.proofs.lemmas.Cmp.{same_from_slice_cmp_tested}
 use Rattle.values.specs.declared.Reason.TheVariants.{StringOrder}
 use Rattle.rules.specs.Bytes.{pick, two, end_of, fields_in}
 use Rattle.rules.specs.Check.{ascends, text, rising_from, rising}
 use Rattle.wire.proofs.Fields.{no_fields, field_first}
 use Rattle.rules.specs.Verdicts.{Verdict, fault_at, no_fault}
 
--- the order of two strings, one byte further
-never_last : (x : List ℕ) → ascends x [] ≡ false
+-- one byte further in the order of two strings
+order_step : (x y : ℕ) (xs ys : List ℕ) (o : Ordering) → o ≡ nat_cmp x y → MatchOrdering o (ascends (x ∷ xs) (y ∷ ys) ≡ true) (ascends (x ∷ xs) (y ∷ ys) ≡ ascends xs ys) (ascends (x ∷ xs) (y ∷ ys) ≡ false)
 unfolding ascends
-never_last [] = refl
-never_last (a ∷ x) = refl
+order_step x y xs ys o is = rw is (go (ltb x y) refl (eqb x y) refl)
+  where
+    go : (a : Bool) → ltb x y ≡ a → (b : Bool) → eqb x y ≡ b → MatchOrdering (cond a Less (cond b Equal Greater)) (pick a true (pick (ltb y x) false (ascends xs ys)) ≡ true) (pick a true (pick (ltb y x) false (ascends xs ys)) ≡ ascends xs ys) (pick a true (pick (ltb y x) false (ascends xs ys)) ≡ false)
+    go true l b e = refl
+    go false l true e = let same : x ≡ y = eqb-true x y e in rw (le-ltb y x (omega arith)) refl
+    go false l false e = let other : x ≡ y → ⊥ = eqb-false x y e in rw (lt-ltb y x (omega (arith, ltb-false x y l))) refl
 
-module _ (x y : List ℕ) (i : ℕ) {whole : Bool} where
-  pub first_ends : i < length y → length x ≤ i → ascends (drop i x) (drop i y) ≡ whole → true ≡ whole
-  unfolding ascends
-  first_ends l h w = rw (drop_of_length-le x h, drop-cons y i 0 l) at w
-
-  pub smaller : i < length y → i < length x → get_or x i 0 < get_or y i 0 → ascends (drop i x) (drop i y) ≡ whole → true ≡ whole
-  unfolding ascends
-  smaller l h a w = rw (drop-cons x i 0 h, drop-cons y i 0 l, lt-ltb _ _ a) at w
-
-  pub larger : i < length y → i < length x → get_or y i 0 ≤ get_or x i 0 → get_or y i 0 < get_or x i 0 → ascends (drop i x) (drop i y) ≡ whole → false ≡ whole
-  unfolding ascends
-  larger l h a b w = rw (drop-cons x i 0 h, drop-cons y i 0 l, le-ltb _ _ a, lt-ltb _ _ b) at w
-
-  pub same : i < length y → i < length x → get_or y i 0 ≤ get_or x i 0 → get_or x i 0 ≤ get_or y i 0 → ascends (drop i x) (drop i y) ≡ whole → ascends (drop (i + 1) x) (drop (i + 1) y) ≡ whole
-  unfolding ascends
-  same l h a b w = rw add-one (rw (drop-cons x i 0 h, drop-cons y i 0 l, le-ltb _ _ a, le-ltb _ _ b) at w)
-
-  pub second_ends : length y ≤ i → ascends (drop i x) (drop i y) ≡ whole → false ≡ whole
-  second_ends h w = sym (never_last (drop i x)) ∙ (rw (drop_of_length-le y h) at w)
+-- `<` on slices is this order
+pub order_of_slices : (x y : List ℕ) (r : Bool) → r ≡ is_some_and is_lt (slice_partial_cmp (λ a b. Some (nat_cmp a b)) x y) → r ≡ ascends x y
+unfolding ascends
+order_of_slices x y r = same_from_slice_cmp_tested nat_cmp is_lt ascends refl (λ y ys. refl) (λ x xs. refl) order_step x y r
 
 -- the body of a field, as much of it as is there
 module _ (m : List ℕ) (p : ℕ) where
@@ -55,31 +48,41 @@ module _ (m : List ℕ) (p : ℕ) where
   unfolding text
   text_whole {n} e = ap (λ (k : ℕ). take k (drop (p + 3) m)) (let q : p + 3 + n - (p + 3) ≡ two m (p + 1) = omega arith in q)
 
--- the strings
+-- the strings behind one with the text `last`
+unfoldable pub rising_behind : List ℕ → (last : List ℕ) → List ℕ → Verdict
+rising_behind m last [] = no_fault
+rising_behind m last (b ∷ ps) = pick (ascends last (text m b)) (rising_from m b ps) (fault_at StringOrder b)
+
+-- which are those behind that string's place
+behind : (m : List ℕ) (p : ℕ) (ps : List ℕ) → rising_behind m (text m p) ps ≡ rising_from m p ps
+unfolding rising_behind rising_from
+behind m p [] = refl
+behind m p (b ∷ ps) = refl
+
 module _ (m : List ℕ) (e : ℕ) where
-  pub first_string : {qs : List ℕ} {q : ℕ} → q ≡ end_of m 3 → qs ≡ fields_in m q e → rising_from m 3 qs ≡ rising m (fields_in m 3 e)
+  pub first_string : {qs last : List ℕ} {q : ℕ} → last ≡ text m 3 → q ≡ end_of m 3 → qs ≡ fields_in m q e → rising_behind m last qs ≡ rising m (fields_in m 3 e)
   unfolding rising rising_from
-  first_string at all = rw (all, at) (go (ltb 3 e) refl)
+  first_string is at all = rw (is, all, at) (behind m 3 (fields_in m (end_of m 3) e) ∙ go (ltb 3 e) refl)
     where
       go : (b : Bool) → ltb 3 e ≡ b → rising_from m 3 (fields_in m (end_of m 3) e) ≡ rising m (fields_in m 3 e)
       go true h = rw (field_first m 3 e (ltb-true 3 e h)) refl
       go false h = let past : e ≤ 3 = ltb-false 3 e h in rw (no_fields m (end_of m 3) e (omega arith), no_fields m 3 e past) refl
 
 module _ (m : List ℕ) {ps : List ℕ} where
-  module _ (p : ℕ) {q : ℕ} {qs xs ys : List ℕ} {b : Bool} (next : ps ≡ q ∷ qs) (ex : xs ≡ text m p) (ey : ys ≡ text m q) (eb : b ≡ ascends xs ys) where
-    compared : rising_from m p ps ≡ pick b (rising_from m q qs) (fault_at StringOrder q)
-    unfolding rising_from
-    compared = rw (next, eb, ex, ey)
+  module _ (last : List ℕ) {q : ℕ} {qs text_q : List ℕ} {b : Bool} (next : ps ≡ q ∷ qs) (is : text_q ≡ text m q) (eb : b ≡ ascends last text_q) where
+    compared : rising_behind m last ps ≡ pick b (rising_from m q qs) (fault_at StringOrder q)
+    unfolding rising_behind
+    compared = rw (next, eb, is)
 
-    pub rises : {whole : Verdict} → b ≡ true → rising_from m p ps ≡ whole → rising_from m q qs ≡ whole
-    rises h inv = rw (compared, h) at inv
+    pub rises : {whole : Verdict} → b ≡ true → rising_behind m last ps ≡ whole → rising_behind m text_q qs ≡ whole
+    rises h inv = rw is (behind m q qs) ∙ (rw (compared, h) at inv)
 
-    pub falls : {whole : Verdict} → b ≡ false → rising_from m p ps ≡ whole → fault_at StringOrder q ≡ whole
+    pub falls : {whole : Verdict} → b ≡ false → rising_behind m last ps ≡ whole → fault_at StringOrder q ≡ whole
     falls h inv = rw (compared, h) at inv
 
-  pub last_string : (p : ℕ) {whole : Verdict} → ps ≡ [] → rising_from m p ps ≡ whole → no_fault ≡ whole
-  unfolding rising_from
-  last_string p none inv = rw none at inv
+  pub last_string : (last : List ℕ) {whole : Verdict} → ps ≡ [] → rising_behind m last ps ≡ whole → no_fault ≡ whole
+  unfolding rising_behind
+  last_string last none inv = rw none at inv
 
 -- how many fields there are
 module _ (qs : List ℕ) (n : ℕ) {whole : ℕ} (so_far : n + length qs ≡ whole) where

@@ -12,20 +12,7 @@ use wire::end_of;
 pub fn comes_before(x: &[u8], y: &[u8]) -> bool
     ensures { result ≡ ascends x.now y.now }
 {
-    for i in 0..y.len() {
-        if x.len() <= i {
-            return true;
-        }
-        let a = x[i];
-        let b = y[i];
-        if a < b {
-            return true;
-        }
-        if b < a {
-            return false;
-        }
-    }
-    false
+    x < y
 }
 
 // The strings from 3 to `e`, each against the one before it.
@@ -33,12 +20,13 @@ pub fn check_strings(m: &[u8], e: usize) -> Verdict
     requires { e ≤ 65538 }
     ensures { result ≡ rising m.now (fields_in m.now 3 e) }
 {
-    let mut p: usize = 3;
+    let mut last = text_of(m, 3);
     for q in wire::fields_in(m, end_of(m, 3), e) {
-        if !comes_before(text_of(m, p), text_of(m, q)) {
+        let text = text_of(m, q);
+        if !comes_before(last, text) {
             return Err(Fault::at(Reason::StringOrder, q));
         }
-        p = q;
+        last = text;
     }
     Ok(())
 }

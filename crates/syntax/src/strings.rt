@@ -7,7 +7,7 @@ ghost use Rattle.rules.specs.Types.{the_eight};
 ghost use Rattle.rules.specs.Compile.{same_bytes, string_at, string_number, title_text};
 ghost use Rattle.syntax.specs.Strings.{string_texts, is_built_in_text, place_bytes, indexed, Indexed, found_of};
 
-use wire::{end_of, length_at, put_number, two_at};
+use wire::{end_of, length_at, put_two, two_at};
 
 // The body of the field at `p`, or as much of it as is there.
 pub fn text_of(m: &[u8], p: usize) -> &[u8]
@@ -55,11 +55,9 @@ pub fn index_fields(m: &[u8], from: usize, e: usize, table: &mut [u8]) -> u16
     ensures { (result ≡ length (fields_in m.now from e)) × (table.new ≡ over table.old 0 (place_bytes (fields_in m.now from e))) }
 {
     let mut n: u16 = 0;
-    let mut q = from;
-    while q < e {
-        put_number(table, 2 * n as usize, q as u64, 2);
+    for q in wire::fields_in(m, from, e) {
+        put_two(table, 2 * n as usize, (q % 65536) as u16);
         n += 1;
-        q = end_of(m, q);
     }
     n
 }
